@@ -1,0 +1,65 @@
+-- Document 01, 'Cells on paper': the rows G1 to G9 as one table, and one theorem.
+-- A crate above may have rows of its own, with one constructor for a row of this table.
+use mathlib.Core.Path.{_≡_, refl}
+use mathlib.Core.List.{List, [], _∷_}
+use Prim.Native.Nat.{ℕ}
+use Rattle.geometry.specs.declared.rect.Cell.{Cell}
+use Rattle.geometry.specs.declared.rect.Rect.{Rect}
+use Rattle.geometry.specs.Cells.{nonEmpty, area}
+use Rattle.geometry.specs.Common.{overlap, unlessEmpty}
+use Rattle.geometry.specs.Grow.{grown, extraArea}
+use Rattle.geometry.specs.Cut.{xCeiling, xFloor, yCeiling, yFloor, cut}
+use Rattle.geometry.specs.Refine.{firstFrom, anyOf, within, strictlyWithin, contained, firstContained, stacked, abreast, joinable, union, joins, partner, hasPartner, firstJoin, refineStep, refineSteps, refine}
+
+-- (a,b)-(c,d)
+abbrev pub rect : ℕ → ℕ → ℕ → ℕ → Rect
+rect a b c d = record { llx = a; lly = b; urx = c; ury = d }
+
+-- (a,b)
+abbrev pub cell : ℕ → ℕ → Cell
+cell a b = record { x = a; y = b }
+
+-- a row: what is given, and the result
+pub data Row : Type 0 where
+  cuts : Rect → Rect → List Rect → Row
+  takes : Rect → Cell → Rect → ℕ → Row
+  refines : List Rect → List Rect → Row
+
+-- the definitions give the row's result
+abbrev pub Holds : Row → Type 0
+Holds (cuts r s l) = cut r s ≡ l
+Holds (takes r c g n) = (grown r c ≡ g) × (extraArea (r ∷ []) 0 c ≡ n)
+Holds (refines l m) = refine l ≡ m
+
+-- every row of a table holds
+abbrev pub AllHold : List Row → Type 0
+AllHold [] = Unit {0}
+AllHold (r ∷ l) = Holds r × AllHold l
+
+-- the rows, in the document's order
+abbrev pub table : List Row
+table =
+    -- G1
+    cuts (rect 0 0 10 10) (rect 4 4 6 12) (rect 6 0 10 10 ∷ rect 0 0 4 10 ∷ rect 4 0 6 4 ∷ [])
+    -- G2
+    ∷ cuts (rect 0 0 10 10) (rect 3 3 5 5) (rect 5 0 10 10 ∷ rect 0 0 3 10 ∷ rect 3 5 5 10 ∷ rect 3 0 5 3 ∷ [])
+    -- G3
+    ∷ cuts (rect 0 0 4 4) (rect 4 0 8 4) (rect 0 0 4 4 ∷ [])
+    -- G4
+    ∷ cuts (rect 0 0 4 4) (rect 0 0 4 4) []
+    -- G5
+    ∷ takes (rect 2 2 4 4) (cell 4 3) (rect 2 2 5 4) 2
+    -- G6
+    ∷ takes (rect 2 2 4 4) (cell 3 3) (rect 2 2 4 4) 0
+    -- G7
+    ∷ refines (rect 0 0 2 4 ∷ rect 2 0 5 4 ∷ rect 1 1 2 2 ∷ []) (rect 0 0 5 4 ∷ [])
+    -- G8
+    ∷ refines (rect 0 0 2 2 ∷ rect 0 0 2 2 ∷ []) (rect 0 0 2 2 ∷ [])
+    -- G9
+    ∷ refines (rect 0 0 2 2 ∷ rect 2 2 4 4 ∷ []) (rect 0 0 2 2 ∷ rect 2 2 4 4 ∷ [])
+    ∷ []
+
+-- all rows hold
+pub cases-hold : AllHold table
+unfolding nonEmpty area overlap unlessEmpty grown extraArea xCeiling xFloor yCeiling yFloor cut firstFrom anyOf within strictlyWithin contained firstContained stacked abreast joinable union joins partner hasPartner firstJoin refineStep refineSteps refine
+cases-hold = (refl, (refl, (refl, (refl, ((refl, refl), ((refl, refl), (refl, (refl, (refl, tt)))))))))

@@ -1,0 +1,9 @@
+pub mod Cells
+pub mod Common
+pub mod Grow
+pub mod Limits
+pub mod Cut
+pub mod Refine
+pub mod Clip
+pub mod Place
+pub mod Numbers

@@ -1,0 +1,20 @@
+-- The limits of document 01, each named once, and what a limited list is.
+use Prim.Native.Nat.{ℕ}
+use mathlib.Core.Bool.{cond}
+use mathlib.Core.List.{List}
+use mathlib.Core.Option.{Option, none, some}
+use lib.Dec.{leb}
+use lib.ListN.{length}
+use Rattle.geometry.specs.declared.rect.Rect.{Rect}
+
+-- 'A polygon is a list of 1 to 16 rectangles'
+abbrev pub mostOfPolygon : ℕ
+mostOfPolygon = 16
+
+-- 'a list over 256 after a single cut'; 'pieces over 256 after a cut by one rectangle or after the common parts'
+abbrev pub mostPieces : ℕ
+mostPieces = 256
+
+-- the list, or none where it is over the limit
+unfoldable pub atMost : ℕ → List Rect → Option (List Rect)
+atMost n l = cond (leb (length l) n) (some l) none

@@ -1,0 +1,157 @@
+// Cutting: one rectangle, a list piece by piece, and by a polygon, one rectangle after another.
+ghost use mathlib.Core.Path.{_≡_};
+ghost use Prim.Native.Nat.{_+_, _*_, _≤_};
+ghost use lib.ListN.{length};
+ghost use mathlib.Core.List.{_++_};
+ghost use Rattle.geometry.specs.Common.{overlap, unlessEmpty, sharesWith};
+ghost use Rattle.geometry.specs.Cut.{xCeiling, xFloor, yCeiling, yFloor, cut, cutList, cutLimited};
+ghost use Rattle.geometry.specs.Refine.{anyOf};
+ghost use Rattle.geometry.specs.Limits.{atMost, mostPieces};
+ghost use Rattle.geometry.specs.Numbers.{rectsIn, rectsOf, Appended, Written};
+use crate::numbers::copy;
+use crate::numbers::put_rect;
+use crate::numbers::rect_at;
+use crate::polygon::Polygon;
+use crate::rect::Common;
+use crate::rect::Rect;
+
+// How many rectangles were written, or that the list is over 256.
+pub enum Count {
+    Rects(usize),
+    Over,
+}
+
+// Writes r at the n-th place, unless it is empty; answers how many there are then.
+pub fn put_unless_empty(list: &mut [u32], n: usize, r: Rect) -> usize
+    requires { ⌜ 4 * n + 4 ≤ length (now list) ⌝ }
+    ensures { λ m. ⌜ Appended (now (list .entry)) n (unlessEmpty r) 1 (now (list .exit)) m ⌝ }
+{
+    if r.urx <= r.llx {
+        return n;
+    }
+    if r.ury <= r.lly {
+        return n;
+    }
+    put_rect(list, n, r);
+    n + 1
+}
+
+// Writes the pieces of r outside s behind the first n rectangles; u is their common part.
+fn put_pieces(list: &mut [u32], n: usize, r: Rect, s: Rect, u: Rect) -> usize
+    requires { ⌜ (4 * n + 16 ≤ length (now list)) × (u ≡ overlap r s) ⌝ }
+    ensures { λ m. ⌜ Appended (now (list .entry)) n (unlessEmpty (xCeiling r s) ++ unlessEmpty (xFloor r s) ++ unlessEmpty (yCeiling r s) ++ unlessEmpty (yFloor r s)) 4 (now (list .exit)) m ⌝ }
+{
+    let x_ceiling = Rect {
+        llx: s.urx,
+        lly: r.lly,
+        urx: r.urx,
+        ury: r.ury,
+    };
+    let a = put_unless_empty(list, n, x_ceiling);
+    let x_floor = Rect {
+        llx: r.llx,
+        lly: r.lly,
+        urx: s.llx,
+        ury: r.ury,
+    };
+    let b = put_unless_empty(list, a, x_floor);
+    let y_ceiling = Rect {
+        llx: u.llx,
+        lly: s.ury,
+        urx: u.urx,
+        ury: r.ury,
+    };
+    let c = put_unless_empty(list, b, y_ceiling);
+    let y_floor = Rect {
+        llx: u.llx,
+        lly: r.lly,
+        urx: u.urx,
+        ury: s.lly,
+    };
+    put_unless_empty(list, c, y_floor)
+}
+
+// Writes the cut of r by s behind the first n rectangles: at most four pieces.
+fn put_cut(list: &mut [u32], n: usize, r: Rect, s: Rect) -> usize
+    requires { ⌜ 4 * n + 16 ≤ length (now list) ⌝ }
+    ensures { λ m. ⌜ Appended (now (list .entry)) n (cut r s) 4 (now (list .exit)) m ⌝ }
+{
+    match r.common(s) {
+        Common::Part(u) => put_pieces(list, n, r, s, u),
+        Common::Nothing => {
+            put_rect(list, n, r);
+            n + 1
+        }
+    }
+}
+
+// Writes the first n rectangles of a list, cut by s, to another list.
+pub fn cut_list(list: &[u32], n: usize, s: Rect, out: &mut [u32]) -> Count
+    requires { ⌜ (4 * n ≤ length (now list)) × (1088 ≤ length (now out)) ⌝ }
+    ensures { λ c. ⌜ Written (now (out .entry)) (atMost mostPieces (cutList (rectsIn (now (list .entry)) n) s)) c (now (out .exit)) ⌝ }
+{
+    let mut m = 0;
+    let mut i = 0;
+    while i < n {
+        let r = rect_at(list, i);
+        m = put_cut(out, m, r, s);
+        if 256 < m {
+            return Count::Over;
+        }
+        i += 1;
+    }
+    Count::Rects(m)
+}
+
+// Whether one of the first n rectangles shares a cell with s.
+fn any_shares(list: &[u32], n: usize, s: Rect) -> bool
+    requires { ⌜ 4 * n ≤ length (now list) ⌝ }
+    ensures { λ b. ⌜ b ≡ anyOf (sharesWith s) (rectsIn (now (list .entry)) n) ⌝ }
+{
+    let mut i = 0;
+    while i < n {
+        let r = rect_at(list, i);
+        if r.shares(s) {
+            return true;
+        }
+        i += 1;
+    }
+    false
+}
+
+// Cuts the first n rectangles of a list by s in place; the spare list holds the pieces on the way.
+fn cut_once(list: &mut [u32], n: usize, s: Rect, spare: &mut [u32]) -> Count
+    requires { ⌜ (n ≤ 256) × (1088 ≤ length (now list)) × (1088 ≤ length (now spare)) ⌝ }
+    ensures { λ c. ⌜ Written (now (list .entry)) (atMost mostPieces (cutList (rectsIn (now (list .entry)) n) s)) c (now (list .exit)) ⌝ }
+    ensures { λ _. ⌜ length (now (spare .exit)) ≡ length (now (spare .entry)) ⌝ }
+{
+    if any_shares(list, n, s) {
+        let c = cut_list(list, n, s, spare);
+        if let Count::Rects(m) = c {
+            copy(spare, 4 * m, list);
+        }
+        return c;
+    }
+    Count::Rects(n)
+}
+
+// Cuts the first n rectangles of a list by the polygon's rectangles, one after another, in place.
+pub fn cut_polygon(list: &mut [u32], n: usize, p: Polygon, spare: &mut [u32]) -> Count
+    requires { ⌜ (n ≤ 256) × (p .count ≤ 16) × (1088 ≤ length (now list)) × (1088 ≤ length (now spare)) ⌝ }
+    ensures { λ c. ⌜ Written (now (list .entry)) (cutLimited (rectsIn (now (list .entry)) n) (rectsOf p)) c (now (list .exit)) ⌝ }
+    ensures { λ _. ⌜ length (now (spare .exit)) ≡ length (now (spare .entry)) ⌝ }
+{
+    let k = p.count;
+    let mut m = n;
+    let mut i = 0;
+    while i < k {
+        let s = p.rects[i];
+        let c = cut_once(list, m, s, spare);
+        let Count::Rects(left) = c else {
+            return Count::Over;
+        };
+        m = left;
+        i += 1;
+    }
+    Count::Rects(m)
+}

@@ -1,0 +1,23 @@
+// The rectangle rules of document 01, 'Grid, rectangles, polygons': rectangles and polygons by
+// value, and lists of rectangles as numbers, four a rectangle.
+mod common;
+mod cut;
+mod numbers;
+mod polygon;
+mod rect;
+mod refine;
+
+pub use common::common_parts;
+pub use cut::Count;
+pub use cut::cut_list;
+pub use cut::cut_polygon;
+pub use numbers::copy;
+pub use numbers::put_rect;
+pub use numbers::rect_at;
+pub use polygon::Polygon;
+pub use rect::Cell;
+pub use rect::Common;
+pub use rect::Line;
+pub use rect::Rect;
+pub use rect::Side;
+pub use refine::refine_list;

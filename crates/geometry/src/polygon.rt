@@ -1,0 +1,139 @@
+// A polygon by value: a list of 1 to 16 rectangles, whose cells are their union.
+ghost use mathlib.Core.Path.{_≡_};
+ghost use mathlib.Core.Bool.{true};
+ghost use mathlib.Core.List.{[], _∷_};
+ghost use Prim.Native.Nat.{_+_, _*_, _≤_, _<_};
+ghost use lib.ListN.{length, getD};
+ghost use Rattle.geometry.specs.Cells.{anyHas, valid, onGrid, noRect};
+ghost use Rattle.geometry.specs.Clip.{clip};
+ghost use Rattle.geometry.specs.Grow.{extraArea};
+ghost use Rattle.geometry.specs.Numbers.{rectsIn, rectsOf, Appended, PolygonOf};
+ghost use Rattle.geometry.specs.Place.{place};
+ghost use Rattle.geometry.specs.Refine.{refine};
+use crate::numbers::put_rect;
+use crate::numbers::rect_at;
+use crate::rect::Cell;
+use crate::rect::Rect;
+use crate::rect::Side;
+use crate::refine::refine_list;
+
+pub struct Polygon {
+    pub rects: [Rect; 16],
+    pub count: usize,
+}
+
+impl Polygon {
+    // The polygon of one rectangle.
+    pub fn of(r: Rect) -> Polygon
+        ensures { λ p. ⌜ PolygonOf (r ∷ []) p ⌝ }
+    {
+        Polygon {
+            rects: [r; 16],
+            count: 1,
+        }
+    }
+
+    // The polygon of the first n rectangles of a list of numbers.
+    pub fn load(list: &[u32], n: usize) -> Polygon
+        requires { ⌜ (n ≤ 16) × (4 * n ≤ length (now list)) ⌝ }
+        ensures { λ p. ⌜ PolygonOf (rectsIn (now (list .entry)) n) p ⌝ }
+    {
+        let none = Rect {
+            llx: 0,
+            lly: 0,
+            urx: 0,
+            ury: 0,
+        };
+        let mut p = Polygon {
+            rects: [none; 16],
+            count: n,
+        };
+        let mut i = 0;
+        while i < n {
+            let r = rect_at(list, i);
+            p.rects[i] = r;
+            i += 1;
+        }
+        p
+    }
+
+    // Writes the polygon's rectangles to the start of a list of numbers.
+    pub fn store(self, list: &mut [u32])
+        requires { ⌜ (self .count ≤ 16) × (64 ≤ length (now list)) ⌝ }
+        ensures { λ _. ⌜ Appended (now (list .entry)) 0 (rectsOf self) 16 (now (list .exit)) (self .count) ⌝ }
+    {
+        let n = self.count;
+        let mut i = 0;
+        while i < n {
+            let r = self.rects[i];
+            put_rect(list, i, r);
+            i += 1;
+        }
+    }
+
+    // The place of the first rectangle that has the cell; the count where none has it.
+    pub fn place(self, c: Cell) -> usize
+        requires { ⌜ self .count ≤ 16 ⌝ }
+        ensures { λ r. ⌜ r ≡ place (rectsOf self) c ⌝ }
+    {
+        let n = self.count;
+        let mut i = 0;
+        while i < n {
+            let r = self.rects[i];
+            if r.has_cell(c) {
+                return i;
+            }
+            i += 1;
+        }
+        i
+    }
+
+    pub fn has_cell(self, c: Cell) -> bool
+        requires { ⌜ self .count ≤ 16 ⌝ }
+        ensures { λ r. ⌜ r ≡ anyHas (rectsOf self) c ⌝ }
+    {
+        self.place(c) < self.count
+    }
+
+    // By how many cells its k-th rectangle grows to take the cell in.
+    pub fn extra_area(self, k: usize, c: Cell) -> u64
+        requires { ⌜ (self .count ≤ 16) × (k < self .count) × (valid (getD (rectsOf self) k noRect) ≡ true) × (onGrid c ≡ true) ⌝ }
+        ensures { λ r. ⌜ r ≡ extraArea (rectsOf self) k c ⌝ }
+    {
+        let r = self.rects[k];
+        let g = r.grow(c);
+        g.area() - r.area()
+    }
+
+    // Its rectangles clipped to a side of a line, in order, empty ones left out.
+    pub fn clip(self, side: Side) -> Polygon
+        requires { ⌜ self .count ≤ 16 ⌝ }
+        ensures { λ p. ⌜ PolygonOf (clip side (rectsOf self)) p ⌝ }
+    {
+        let n = self.count;
+        let mut out = self;
+        let mut m = 0;
+        let mut i = 0;
+        while i < n {
+            let r = self.rects[i].side_part(side);
+            if r.llx < r.urx && r.lly < r.ury {
+                out.rects[m] = r;
+                m += 1;
+            }
+            i += 1;
+        }
+        out.count = m;
+        out
+    }
+
+    pub fn refine(self) -> Polygon
+        requires { ⌜ self .count ≤ 16 ⌝ }
+        ensures { λ p. ⌜ PolygonOf (refine (rectsOf self)) p ⌝ }
+    {
+        let n = self.count;
+        let mut numbers = [0u32; 64];
+        self.store(&mut numbers);
+        let m = refine_list(&mut numbers, n);
+        Polygon::load(&numbers, m)
+    }
+}
