@@ -7,7 +7,7 @@ use native.Mathlib.Omega.{arith}
 use native.Mathlib.Numerals.{add-one, towards-suc}
 use native.Mathlib.Decide.{decLe, decLt}
 use lib.ListN.{length, take, drop, getD, set, length-append, length-set, drop-of-length-le, List·getD-append}
-use lib.Seq.{drop-cons, getD-take, getD-at, getD-set-same, getD-set-other, take-append-le, take-all, take-suc, ext-getD, length-take-le, take-add}
+use lib.Seq.{drop-cons, getD-take, getD-at, getD-set-same, getD-set-other, take-append-le, take-all, take-suc, ext-getD, length-take-le, take-add, drop-set-lt}
 use Rattle.geometry.specs.declared.rect.Rect.{Rect}
 use Rattle.geometry.specs.Cells.{noRect}
 use Rattle.geometry.specs.Numbers.{rectAt, rectsIn, putAt, numbersOf}
@@ -116,6 +116,13 @@ put-before m n i r h = rects-same m (putAt m i r) n λ j g. put-other m i j r (�
 pub put-behind : (m : List ℕ) (n : ℕ) (r : Rect) → 4 * n + 4 ≤ length m → rectsIn (putAt m n r) (n + 1) ≡ rectsIn m n ++ (r ∷ [])
 put-behind m n r h = rw (rects-suc, put-before m n n r (omega arith), put-same m n r h)
 
+-- writing at a place leaves the numbers behind it
+pub put-rest : (m : List ℕ) (i : ℕ) (r : Rect) → drop (4 * i + 4) (putAt m i r) ≡ drop (4 * i + 4) m
+unfolding putAt
+put-rest m i r =
+    drop-set-lt (4 * i + 4) _ _ _ (omega arith) ∙ drop-set-lt (4 * i + 4) _ _ _ (omega arith) ∙ drop-set-lt (4 * i + 4) _ _ _ (omega arith)
+    ∙ drop-set-lt (4 * i + 4) _ _ _ (omega arith)
+
 -- writing at one of the first n
 pub put-inside : (m : List ℕ) (n i : ℕ) (r : Rect) → i < n → 4 * n ≤ length m → rectsIn (putAt m i r) n ≡ set (rectsIn m n) i r
 put-inside m n i r h k =
@@ -147,3 +154,21 @@ pub length-numbers : (l : List Rect) → length (numbersOf l) ≡ 4 * length l
 unfolding numbersOf
 length-numbers [] = refl
 length-numbers (r ∷ l) = let ih = length-numbers l in omega arith
+
+-- the numbers at one place
+four-at : (m : List ℕ) (k : ℕ) → k + 4 ≤ length m → take 4 (drop k m) ≡ getD m k 0 ∷ getD m (k + 1) 0 ∷ getD m (k + 2) 0 ∷ getD m (k + 3) 0 ∷ []
+four-at m k h =
+    let a : drop k m ≡ getD m k 0 ∷ drop (k + 1) m = rw (add-one, drop-cons m k 0 (omega arith)) in
+    let b : drop (k + 1) m ≡ getD m (k + 1) 0 ∷ drop (k + 2) m = let e : k + 2 ≡ suc (k + 1) = omega arith in rw (e, drop-cons m (k + 1) 0 (omega arith)) in
+    let c : drop (k + 2) m ≡ getD m (k + 2) 0 ∷ drop (k + 3) m = let e : k + 3 ≡ suc (k + 2) = omega arith in rw (e, drop-cons m (k + 2) 0 (omega arith)) in
+    let d : drop (k + 3) m ≡ getD m (k + 3) 0 ∷ drop (k + 4) m = let e : k + 4 ≡ suc (k + 3) = omega arith in rw (e, drop-cons m (k + 3) 0 (omega arith)) in
+    rw (a, b, c, d)
+
+-- the numbers of the first n rectangles
+pub numbers-take : (m : List ℕ) (n : ℕ) → 4 * n ≤ length m → numbersOf (rectsIn m n) ≡ take (4 * n) m
+unfolding rectsIn numbersOf rectAt
+numbers-take m zero h = refl
+numbers-take m (suc n) h =
+    let ih = numbers-take m n (omega arith) in
+    let e : 4 * suc n ≡ 4 * n + 4 = omega arith in
+    numbers-append (rectsIn m n) (rectAt m n ∷ []) ∙ rw (ih, e, take-add (4 * n) 4 m, four-at m (4 * n) (omega arith))

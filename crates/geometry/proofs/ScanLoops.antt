@@ -1,6 +1,6 @@
 -- Loops that look for a rectangle, or for a place, that passes a test: one invariant each, with its start, hit, miss and end.
 use mathlib.Core.Path.{_≡_, refl, sym, _∙_, ap}
-use mathlib.Core.Bool.{Bool, true, false, _||_, cond}
+use mathlib.Core.Bool.{Bool, true, false, _&&_, _||_, cond}
 use mathlib.Core.List.{List, [], _∷_}
 use Prim.Native.Nat.{ℕ, zero, suc, _+_, _*_, _-_, _≤_, _<_}
 use native.Mathlib.Omega.{arith}
@@ -9,7 +9,7 @@ use lib.ListN.{length, take, drop, getD}
 use lib.Dec.{ltb}
 use borrow.Author.Tests.{lt-ltb, le-ltb}
 use Rattle.geometry.specs.declared.rect.Rect.{Rect}
-use Rattle.geometry.specs.Cells.{noRect}
+use Rattle.geometry.specs.Cells.{noRect, valid, allValid}
 use Rattle.geometry.specs.Numbers.{rectAt, rectsIn}
 use Rattle.geometry.specs.Refine.{firstFrom, anyOf, within, strictlyWithin, contained, firstContained, joinable, joins, partner, hasPartner, firstJoin}
 use Rattle.geometry.proofs.NumberLaws.{length-rects, rects-at, rects-take, rects-next, rects-end}
@@ -42,6 +42,31 @@ module _ (p : Rect → Bool) (m : List ℕ) (n i : ℕ) where
 
       pub scan-miss : b ≡ false → Scan p m n (i + 1) w
       scan-miss g = record { i-le = omega arith; fits = v .fits; rest = next ∙ rw g }
+
+-- Whether all rectangles are valid is w, and it is settled by those from the i-th on.
+pub record Testing (m : List ℕ) (n i : ℕ) (w : Bool) : Type 0 where
+  pub i-le : i ≤ n
+  pub fits : 4 * n ≤ length m
+  pub rest : w ≡ allValid (drop i (rectsIn m n))
+
+pub test-start : (m : List ℕ) (n : ℕ) → 4 * n ≤ length m → Testing m n 0 (allValid (rectsIn m n))
+test-start m n h = record { i-le = omega arith; fits = h; rest = refl }
+
+module _ (m : List ℕ) (n i : ℕ) (w : Bool) (v : Testing m n i w) where
+  pub test-end : n ≤ i → true ≡ w
+  unfolding allValid
+  test-end h = rw (v .rest, rects-end m n i h)
+
+  module _ (r : Rect) (b : Bool) (h : i < n) (e : r ≡ rectAt m i) (f : b ≡ valid r) where
+    test-next : w ≡ b && allValid (drop (i + 1) (rectsIn m n))
+    unfolding allValid
+    test-next = v .rest ∙ rw (rects-next m n i h, ← e, ← f)
+
+    pub test-bad : b ≡ false → false ≡ w
+    test-bad g = rw (test-next, g)
+
+    pub test-good : b ≡ true → Testing m n (i + 1) w
+    test-good g = record { i-le = omega arith; fits = v .fits; rest = test-next ∙ rw g }
 
 -- The first place that passes is w, and it is the first from the i-th on.
 pub record Find (p : ℕ → Bool) (m : List ℕ) (n i w : ℕ) : Type 0 where

@@ -8,9 +8,11 @@ mod rect;
 mod refine;
 
 pub use common::common_parts;
+pub use common::put_common;
 pub use cut::Count;
 pub use cut::cut_list;
 pub use cut::cut_polygon;
+pub use numbers::all_valid;
 pub use numbers::copy;
 pub use numbers::put_rect;
 pub use numbers::rect_at;

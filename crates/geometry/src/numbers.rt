@@ -3,7 +3,8 @@ ghost use mathlib.Core.Path.{_≡_};
 ghost use mathlib.Core.List.{_++_};
 ghost use Prim.Native.Nat.{_+_, _*_, _≤_};
 ghost use lib.ListN.{length, take, drop};
-ghost use Rattle.geometry.specs.Numbers.{rectAt, putAt};
+ghost use Rattle.geometry.specs.Cells.{allValid};
+ghost use Rattle.geometry.specs.Numbers.{rectAt, rectsIn, putAt};
 use crate::rect::Rect;
 
 // The i-th rectangle of the list.
@@ -42,4 +43,21 @@ pub fn copy(from: &[u32], n: usize, to: &mut [u32])
         to[i] = from[i];
         i += 1;
     }
+}
+
+// Whether the first n rectangles of the list are valid.
+pub fn all_valid(list: &[u32], n: usize) -> bool
+    requires { ⌜ 4 * n ≤ length (now list) ⌝ }
+    ensures { λ b. ⌜ b ≡ allValid (rectsIn (now (list .entry)) n) ⌝ }
+{
+    let mut i = 0;
+    while i < n {
+        let r = rect_at(list, i);
+        if r.is_valid() {
+            i += 1;
+        } else {
+            return false;
+        }
+    }
+    true
 }

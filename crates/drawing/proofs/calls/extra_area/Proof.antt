@@ -1,0 +1,39 @@
+use borrow.Author.Tests.{not-true, not-false}
+use borrow.Author.Needs.{needs}
+use Rattle.drawing.proofs.Ways.{told}
+use Rattle.drawing.proofs.GrowLoop.{unfit-rect, unfit-cell, fit, one-some, one-valid}
+use Rattle.drawing.proofs.calls.extra_area.Statement.{statement}
+use Rattle.drawing.proofs.calls.extra_area.Tie as tie
+
+is-valid-requires : tie.Need-is-valid-requires
+is-valid-requires c κs = search needs
+
+returns : tie.Need-returns
+returns c = search (unfit-rect, not-true)
+
+on-grid-requires : tie.Need-on-grid-requires
+on-grid-requires c κs = search needs
+
+returns-2 : tie.Need-returns-2
+returns-2 c = search (unfit-cell, not-true, not-false)
+
+of-requires : tie.Need-of-requires
+of-requires c κs = search needs
+
+extra-area-requires : tie.Need-extra-area-requires
+extra-area-requires c κs = (search needs, search one-some, search (one-valid, not-false), search (told, not-false))
+
+returns-3 : tie.Need-returns-3
+returns-3 c = search (fit, not-true, not-false)
+
+pub extra-area-spec : {M : Type 1} → statement M
+extra-area-spec =
+    tie.close
+    (tie.spec
+    is-valid-requires
+    returns
+    on-grid-requires
+    returns-2
+    of-requires
+    extra-area-requires
+    returns-3)

@@ -1,0 +1,77 @@
+-- What the calls of the drawing exercise answer, and what they leave in the result list.
+use Prim.Native.Nat.{ℕ, _*_, _≤_}
+use mathlib.Core.Bool.{Bool, true, false}
+use mathlib.Core.List.{List, _++_}
+use mathlib.Core.Option.{Option, none, some}
+use mathlib.Core.Path.{_≡_}
+use lib.ListN.{length, drop}
+use Rattle.geometry.specs.declared.rect.Rect.{Rect}
+use Rattle.geometry.specs.Numbers.{numbersOf, rectsIn}
+use Rattle.geometry.specs.Refine.{refine}
+use Rattle.drawing.specs.declared.answer.Answer.{Answer}
+use Rattle.drawing.specs.declared.answer.Answer.the-variants.{Wrote, Invalid, TooMany}
+use Rattle.drawing.specs.declared.answer.Extra.{Extra}
+use Rattle.drawing.specs.declared.answer.Extra.the-variants.{Area, Unfit}
+
+-- The answer of a call, from whether all its arguments are valid and the limited list that its rule gives. The test for 3 comes
+-- before that for 7.
+unfoldable pub answerOf : Bool → Option (List Rect) → Answer
+answerOf false l = Invalid
+answerOf true none = TooMany
+answerOf true (some l) = Wrote (length l)
+
+-- The result list at exit: 'the result list stays as it was; places past the result stay too.'
+unfoldable pub resultOf : Bool → Option (List Rect) → List ℕ → List ℕ
+resultOf false l out = out
+resultOf true none out = out
+resultOf true (some l) out = numbersOf l ++ drop (4 * length l) out
+
+-- Document 01's number for each answer; 0 where the call accepts.
+-- 'An invalid rectangle, cell, count or result list length is refused with 3, a list over 256 after a single cut with 7'
+abbrev pub number : Answer → ℕ
+number (Wrote n) = 0
+number Invalid = 3
+number TooMany = 7
+
+-- 'report how many rectangles they wrote': the reported number at exit, which a refusal leaves as it was
+abbrev pub reported : Answer → ℕ → ℕ
+reported (Wrote n) before = n
+reported Invalid before = before
+reported TooMany before = before
+
+-- a written count is at most 256
+abbrev pub few : Answer → Type 0
+few (Wrote n) = n ≤ 256
+few Invalid = Unit {0}
+few TooMany = Unit {0}
+
+-- What a call promises: its answer and the whole result list at exit.
+pub record Drawn (valid : Bool) (limited : Option (List Rect)) (out : List ℕ) (a : Answer) (out' : List ℕ) : Type 0 where
+  pub answer : a ≡ answerOf valid limited
+  pub result : out' ≡ resultOf valid limited out
+  pub count : few a
+
+-- The first n rectangles of a list were refined, and the result is the first m of the numbers out'; those behind stayed.
+pub record RefinedInto (list : List ℕ) (n : ℕ) (out : List ℕ) (m : ℕ) (out' : List ℕ) : Type 0 where
+  pub result : out' ≡ numbersOf (refine (rectsIn list n)) ++ drop (4 * m) out
+  pub count : m ≡ length (refine (rectsIn list n))
+  pub fewer : m ≤ n
+
+-- What its form for C promises: document 01's number, the result list and the reported number at exit.
+pub record Exported (valid : Bool) (limited : Option (List Rect)) (out : List ℕ) (told : ℕ) (n : ℕ) (out' : List ℕ) (told' : ℕ) : Type 0 where
+  pub refusal : n ≡ number (answerOf valid limited)
+  pub result : out' ≡ resultOf valid limited out
+  pub count : told' ≡ reported (answerOf valid limited) told
+
+-- The answer of the extra area.
+unfoldable pub extraOf : Bool → ℕ → Extra
+extraOf false n = Unfit
+extraOf true n = Area n
+
+abbrev pub extraNumber : Extra → ℕ
+extraNumber (Area n) = 0
+extraNumber Unfit = 3
+
+abbrev pub extraReported : Extra → ℕ → ℕ
+extraReported (Area n) before = n
+extraReported Unfit before = before

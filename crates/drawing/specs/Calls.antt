@@ -1,0 +1,68 @@
+-- The calls of the drawing exercise: for each, whether its arguments are valid, and the limited list that its rule gives.
+use Prim.Native.Nat.{ℕ}
+use mathlib.Core.Bool.{Bool, _&&_}
+use mathlib.Core.List.{List, [], _∷_, map}
+use mathlib.Core.Option.{Option, some}
+use Rattle.geometry.specs.declared.rect.Cell.{Cell}
+use Rattle.geometry.specs.declared.rect.Rect.{Rect}
+use Rattle.geometry.specs.Cells.{onGrid, valid}
+use Rattle.geometry.specs.Common.{commonParts}
+use Rattle.geometry.specs.Cut.{cutList, cutLimited}
+use Rattle.geometry.specs.Grow.{grown, extraArea}
+use Rattle.geometry.specs.Limits.{mostPieces, mostOfPolygon, atMost}
+use Rattle.geometry.specs.Refine.{refine}
+use Rattle.drawing.specs.Arguments.{given, isList, isResult}
+
+-- a rectangle and a cell by their numbers
+abbrev pub rectOf : ℕ → ℕ → ℕ → ℕ → Rect
+rectOf a b c d = record { llx = a; lly = b; urx = c; ury = d }
+
+abbrev pub cellOf : ℕ → ℕ → Cell
+cellOf a b = record { x = a; y = b }
+
+-- a list and a rectangle
+unfoldable pub validWithRect : List ℕ → Rect → List ℕ → Bool
+validWithRect list r out = isResult out && isList mostPieces list && valid r
+
+-- a list and a cell
+unfoldable pub validWithCell : List ℕ → Cell → List ℕ → Bool
+validWithCell list c out = isResult out && isList mostPieces list && onGrid c
+
+-- a list and a polygon
+unfoldable pub validWithPolygon : List ℕ → List ℕ → List ℕ → Bool
+validWithPolygon list p out = isResult out && isList mostPieces list && isList mostOfPolygon p
+
+-- a list alone
+unfoldable pub validAlone : List ℕ → List ℕ → Bool
+validAlone list out = isResult out && isList mostPieces list
+
+-- the common parts of a list with a rectangle
+unfoldable pub commonDrawn : List ℕ → Rect → Option (List Rect)
+commonDrawn list r = some (commonParts (given list) (r ∷ []))
+
+-- a rectangle grown to a cell, the cell first
+unfoldable pub grownTo : Cell → Rect → Rect
+grownTo c r = grown r c
+
+-- each rectangle of a list grown to a cell
+unfoldable pub growDrawn : List ℕ → Cell → Option (List Rect)
+growDrawn list c = some (map (grownTo c) (given list))
+
+-- a list cut by a rectangle
+unfoldable pub cutDrawn : List ℕ → Rect → Option (List Rect)
+cutDrawn list s = atMost mostPieces (cutList (given list) s)
+
+-- a list cut by a polygon
+unfoldable pub cutPolygonDrawn : List ℕ → List ℕ → Option (List Rect)
+cutPolygonDrawn list p = cutLimited (given list) (given p)
+
+-- a list refined
+unfoldable pub refineDrawn : List ℕ → Option (List Rect)
+refineDrawn list = some (refine (given list))
+
+-- a rectangle and a cell, and the rectangle's extra area as that of a polygon of one rectangle
+unfoldable pub validExtra : Rect → Cell → Bool
+validExtra r c = valid r && onGrid c
+
+unfoldable pub extraDrawn : Rect → Cell → ℕ
+extraDrawn r c = extraArea (r ∷ []) 0 c

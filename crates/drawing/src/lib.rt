@@ -1,0 +1,16 @@
+// The drawing exercise: the rectangle rules on lent numbers, four a rectangle (llx, lly, urx, ury).
+//
+// No function here has a `requires`: a bad argument is refused, and leaves every lent list as it was.
+mod answer;
+mod arguments;
+mod calls;
+mod exports;
+
+pub use answer::Answer;
+pub use answer::Extra;
+pub use calls::common;
+pub use calls::cut;
+pub use calls::cut_by_polygon;
+pub use calls::extra_area;
+pub use calls::grow;
+pub use calls::refine;
