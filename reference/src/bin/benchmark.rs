@@ -1,0 +1,162 @@
+//! The proved calls' time over the plain Rust calls' time for the same job: numbers in, numbers
+//! out, arguments tested. Both are called on the same inputs, in turns; the result list is not
+//! cleared between calls. The times are illustrations, the ratio is the figure.
+
+use reference::drawing::{self, RESULT_LENGTH};
+use reference::proved;
+use reference::random::Random;
+use std::hint::black_box;
+use std::time::Instant;
+
+/// Different inputs for each size.
+const INPUTS: usize = 64;
+
+/// Rounds for each size; the median round counts.
+const ROUNDS: usize = 15;
+
+/// The least time of a round, in nanoseconds.
+const ROUND_TIME: u128 = 10_000_000;
+
+/// The arguments of one call. The rectangle is the polygon's first.
+struct Input {
+    list: Vec<u32>,
+    polygon: Vec<u32>,
+}
+
+/// A call on an input, which returns the call's number.
+type Job = fn(&Input, &mut [u32], &mut u32) -> u32;
+
+fn first(polygon: &[u32]) -> [u32; 4] {
+    [polygon[0], polygon[1], polygon[2], polygon[3]]
+}
+
+fn number(answer: Result<(), drawing::Refusal>) -> u32 {
+    answer.map_or_else(drawing::Refusal::number, |()| 0)
+}
+
+/// Name, proved call, plain call.
+const JOBS: [(&str, Job, Job); 3] = [
+    (
+        "cut by a rectangle",
+        |input, result, written| proved::cut(&input.list, first(&input.polygon), result, written),
+        |input, result, written| {
+            number(drawing::cut(
+                &input.list,
+                first(&input.polygon),
+                result,
+                written,
+            ))
+        },
+    ),
+    (
+        "cut by a polygon of 4",
+        |input, result, written| proved::cut_polygon(&input.list, &input.polygon, result, written),
+        |input, result, written| {
+            number(drawing::cut_polygon(
+                &input.list,
+                &input.polygon,
+                result,
+                written,
+            ))
+        },
+    ),
+    (
+        "refine",
+        |input, result, written| proved::refine(&input.list, result, written),
+        |input, result, written| number(drawing::refine(&input.list, result, written)),
+    ),
+];
+
+/// A rectangle of up to `largest` cells a side on a grid of `side` cells a side.
+fn rectangle(random: &mut Random, side: u32, largest: u32) -> [u32; 4] {
+    let [width, height] = [0, 1].map(|_| random.between(1, largest));
+    let llx = random.between(0, side - width);
+    let lly = random.between(0, side - height);
+    [llx, lly, llx + width, lly + height]
+}
+
+/// Rectangles on a grid with some four cells a rectangle, so that some are contained and some
+/// join, and a polygon that meets a good part of them and leaves an accepted list.
+fn input(random: &mut Random, count: usize) -> Input {
+    let side = 2 * (1..).find(|n| n * n >= count as u32).unwrap_or(1) + 2;
+    loop {
+        let list: Vec<u32> = (0..count)
+            .flat_map(|_| rectangle(random, side, 4))
+            .collect();
+        let polygon: Vec<u32> = (0..4)
+            .flat_map(|_| rectangle(random, side, side * 3 / 4))
+            .collect();
+        let input = Input { list, polygon };
+        let mut result = [0; RESULT_LENGTH];
+        if JOBS
+            .iter()
+            .all(|job| job.2(&input, &mut result, &mut 0) == 0)
+        {
+            return input;
+        }
+    }
+}
+
+/// Both calls give the same, so the comparison is about the same job.
+fn check(inputs: &[Input], proved: Job, plain: Job) {
+    for input in inputs {
+        let (mut proved_result, mut plain_result) = ([0; RESULT_LENGTH], [0; RESULT_LENGTH]);
+        let (mut proved_written, mut plain_written) = (0, 0);
+        let answer = proved(input, &mut proved_result, &mut proved_written);
+        assert_eq!(answer, plain(input, &mut plain_result, &mut plain_written));
+        assert_eq!(proved_written, plain_written);
+        assert_eq!(proved_result, plain_result);
+    }
+}
+
+/// Nanoseconds a call, over `repeats` passes through the inputs.
+fn time(inputs: &[Input], job: Job, repeats: u32) -> f64 {
+    let mut result = [0; RESULT_LENGTH];
+    let mut written = 0;
+    let start = Instant::now();
+    for _ in 0..repeats {
+        for input in inputs {
+            black_box(job(black_box(input), &mut result, &mut written));
+            black_box(&mut result);
+        }
+    }
+    start.elapsed().as_nanos() as f64 / f64::from(repeats) / inputs.len() as f64
+}
+
+/// Passes through the inputs that make a round long enough to be timed.
+fn repeats(inputs: &[Input], job: Job) -> u32 {
+    let mut repeats = 1;
+    loop {
+        let start = Instant::now();
+        time(inputs, job, repeats);
+        if start.elapsed().as_nanos() >= ROUND_TIME {
+            return repeats;
+        }
+        repeats *= 2;
+    }
+}
+
+fn median(mut times: Vec<f64>) -> f64 {
+    times.sort_by(f64::total_cmp);
+    times[times.len() / 2]
+}
+
+fn main() {
+    let mut random = Random::new(1);
+    println!("job                    rectangles  proved ns   plain ns  ratio");
+    for (name, proved, plain) in JOBS {
+        for count in [4, 16, 64, 256] {
+            let inputs: Vec<Input> = (0..INPUTS).map(|_| input(&mut random, count)).collect();
+            check(&inputs, proved, plain);
+            let (proved_repeats, plain_repeats) =
+                (repeats(&inputs, proved), repeats(&inputs, plain));
+            let (mut proved_times, mut plain_times) = (Vec::new(), Vec::new());
+            for _ in 0..ROUNDS {
+                proved_times.push(time(&inputs, proved, proved_repeats));
+                plain_times.push(time(&inputs, plain, plain_repeats));
+            }
+            let (a, b) = (median(proved_times), median(plain_times));
+            println!("{name:<22} {count:>10} {a:>10.0} {b:>10.0} {:>6.2}", a / b);
+        }
+    }
+}

@@ -1,0 +1,229 @@
+//! One call of the drawing exercise, made to both implementations and compared.
+
+use super::RESULT_LENGTH;
+use reference::drawing::{self, Refusal};
+use reference::proved;
+use reference::random::Random;
+use std::fmt::Write;
+
+/// Numbers before and after the result list, where no call may write.
+const GUARD: usize = 16;
+
+/// The calls, in the order of include/drawing.h.
+#[derive(Clone, Copy, Debug, PartialEq, Eq)]
+pub enum Call {
+    Common,
+    Grow,
+    ExtraArea,
+    Cut,
+    CutPolygon,
+    Refine,
+}
+
+pub const CALLS: [Call; 6] = [
+    Call::Common,
+    Call::Grow,
+    Call::ExtraArea,
+    Call::Cut,
+    Call::CutPolygon,
+    Call::Refine,
+];
+
+impl Call {
+    pub fn takes_list(self) -> bool {
+        self != Call::ExtraArea
+    }
+
+    pub fn takes_rectangle(self) -> bool {
+        matches!(self, Call::Common | Call::ExtraArea | Call::Cut)
+    }
+
+    pub fn takes_cell(self) -> bool {
+        matches!(self, Call::Grow | Call::ExtraArea)
+    }
+
+    pub fn takes_polygon(self) -> bool {
+        self == Call::CutPolygon
+    }
+}
+
+/// The arguments of a call. Those that the call does not take are unused.
+#[derive(Clone, Debug, PartialEq, Eq)]
+pub struct Case {
+    pub call: Call,
+    pub list: Vec<u32>,
+    pub rectangle: [u32; 4],
+    pub polygon: Vec<u32>,
+    pub cell: [u32; 2],
+    pub result_length: usize,
+    /// Seed of what the result list and `written` or `extra` hold before the call.
+    pub fill: u64,
+}
+
+/// What a call leaves behind.
+#[derive(Clone, Debug, PartialEq, Eq)]
+pub struct Output {
+    /// 0, or the number of the refusal.
+    pub answer: u32,
+    pub written: u32,
+    pub extra: u64,
+    /// The numbers before the result list, the result list, and those after it.
+    pub numbers: Vec<u32>,
+}
+
+impl Output {
+    /// The rectangles written, four numbers each.
+    pub fn list(&self) -> &[u32] {
+        &self.numbers[GUARD..GUARD + 4 * self.written as usize]
+    }
+}
+
+impl Case {
+    pub fn new(call: Call) -> Case {
+        Case {
+            call,
+            list: vec![0, 0, 1, 1],
+            rectangle: [0, 0, 1, 1],
+            polygon: vec![0, 0, 1, 1],
+            cell: [0, 0],
+            result_length: RESULT_LENGTH,
+            fill: 0,
+        }
+    }
+
+    /// What is there before the call.
+    pub fn before(&self) -> Output {
+        let mut random = Random::new(self.fill);
+        Output {
+            answer: 0,
+            written: random.number() as u32,
+            extra: random.number(),
+            numbers: (0..GUARD + self.result_length + GUARD)
+                .map(|_| random.number() as u32)
+                .collect(),
+        }
+    }
+
+    fn second(&self, mut output: Output) -> Output {
+        let result = &mut output.numbers[GUARD..GUARD + self.result_length];
+        let written = &mut output.written;
+        let answer = match self.call {
+            Call::Common => drawing::common(&self.list, self.rectangle, result, written),
+            Call::Grow => drawing::grow(&self.list, self.cell, result, written),
+            Call::ExtraArea => drawing::extra_area(self.rectangle, self.cell, &mut output.extra),
+            Call::Cut => drawing::cut(&self.list, self.rectangle, result, written),
+            Call::CutPolygon => drawing::cut_polygon(&self.list, &self.polygon, result, written),
+            Call::Refine => drawing::refine(&self.list, result, written),
+        };
+        output.answer = answer.map_or_else(Refusal::number, |()| 0);
+        output
+    }
+
+    fn proved(&self, mut output: Output) -> Output {
+        let result = &mut output.numbers[GUARD..GUARD + self.result_length];
+        let written = &mut output.written;
+        output.answer = match self.call {
+            Call::Common => proved::common(&self.list, self.rectangle, result, written),
+            Call::Grow => proved::grow(&self.list, self.cell, result, written),
+            Call::ExtraArea => proved::extra_area(self.rectangle, self.cell, &mut output.extra),
+            Call::Cut => proved::cut(&self.list, self.rectangle, result, written),
+            Call::CutPolygon => proved::cut_polygon(&self.list, &self.polygon, result, written),
+            Call::Refine => proved::refine(&self.list, result, written),
+        };
+        output
+    }
+
+    /// Makes the call to both implementations and fails the test where they differ: in the answer,
+    /// in what is written, in any number of the result list or next to it, or in the lists read.
+    /// `place` says which case of which test this is.
+    pub fn compare(&self, place: &str) -> Output {
+        let before = self.before();
+        let lent = self.clone();
+        let second = self.second(before.clone());
+        let proved = lent.proved(before);
+        if second != proved || *self != lent {
+            panic!("{}", self.difference(place, &lent, &second, &proved));
+        }
+        self.check_untouched(place, &second);
+        second
+    }
+
+    /// After a refusal everything is as it was; else at least what the call does not write is.
+    fn check_untouched(&self, place: &str, output: &Output) {
+        let mut expected = self.before();
+        if output.answer != 0 {
+            expected.answer = output.answer;
+        } else if self.call == Call::ExtraArea {
+            expected.extra = output.extra;
+        } else {
+            let end = GUARD + 4 * output.written as usize;
+            expected.written = output.written;
+            expected.numbers[GUARD..end].copy_from_slice(&output.numbers[GUARD..end]);
+        }
+        assert_eq!(*output, expected, "{place}: written to\n{}", self.inputs());
+    }
+
+    /// As `compare`, and fails also where the answer is not the expected one.
+    pub fn expect(&self, answer: u32, place: &str) -> Output {
+        let output = self.compare(place);
+        assert_eq!(
+            output.answer,
+            answer,
+            "{place}: {:?} answers {}, expected {answer}\n{}",
+            self.call,
+            output.answer,
+            self.inputs()
+        );
+        output
+    }
+
+    fn difference(&self, place: &str, lent: &Case, second: &Output, proved: &Output) -> String {
+        let mut text = format!("{place}: the two implementations differ\n{}", self.inputs());
+        if self != lent {
+            text += &format!("lists read after the call:\n{}", lent.inputs());
+        }
+        let before = self.before();
+        for (name, output) in [("before", &before), ("second", second), ("proved", proved)] {
+            let Output {
+                answer,
+                written,
+                extra,
+                ..
+            } = output;
+            writeln!(
+                text,
+                "{name}: answer {answer}, written {written}, extra {extra}"
+            )
+            .unwrap();
+        }
+        for (i, &number) in before.numbers.iter().enumerate() {
+            let (a, b) = (second.numbers[i], proved.numbers[i]);
+            if a != number || b != number {
+                let at = i as i64 - GUARD as i64;
+                let mark = if a == b { "" } else { "  <- differs" };
+                writeln!(text, "result[{at}]: second {a}, proved {b}{mark}").unwrap();
+            }
+        }
+        text
+    }
+
+    /// The arguments that the call takes.
+    fn inputs(&self) -> String {
+        let mut text = format!("call: {:?}\n", self.call);
+        if self.call.takes_list() {
+            writeln!(text, "list ({} numbers): {:?}", self.list.len(), self.list).unwrap();
+            writeln!(text, "result list: {} numbers", self.result_length).unwrap();
+        }
+        if self.call.takes_rectangle() {
+            writeln!(text, "rectangle: {:?}", self.rectangle).unwrap();
+        }
+        if self.call.takes_polygon() {
+            let length = self.polygon.len();
+            writeln!(text, "polygon ({length} numbers): {:?}", self.polygon).unwrap();
+        }
+        if self.call.takes_cell() {
+            writeln!(text, "cell: {:?}", self.cell).unwrap();
+        }
+        text
+    }
+}

@@ -1,0 +1,120 @@
+//! Counts of what the cases of a test reached, so that a test cannot pass without its cases.
+
+use super::case::{Call, Case, Output};
+use std::collections::BTreeMap;
+
+/// How often each kind of outcome was seen.
+#[derive(Default)]
+pub struct Tally(BTreeMap<&'static str, u64>);
+
+impl Tally {
+    /// Counts the case under its outcome, and under its list size where that is a bound.
+    pub fn add(&mut self, case: &Case, output: &Output) {
+        self.count("cases");
+        self.count(outcome(case, output));
+        if output.answer == 0 && case.call.takes_list() {
+            match case.list.len() {
+                4 => self.count("accepted, list of 1"),
+                1024 => self.count("accepted, list of 256"),
+                _ => {}
+            }
+        }
+    }
+
+    pub fn count(&mut self, kind: &'static str) {
+        *self.0.entry(kind).or_default() += 1;
+    }
+
+    /// Fails where a kind was seen less often than required.
+    pub fn require(&self, least: u64, kinds: &[&'static str]) {
+        for kind in kinds {
+            let seen = self.0.get(kind).copied().unwrap_or(0);
+            assert!(
+                seen >= least,
+                "'{kind}' seen {seen} times, not {least}: {self}"
+            );
+        }
+    }
+}
+
+impl std::fmt::Display for Tally {
+    fn fmt(&self, f: &mut std::fmt::Formatter) -> std::fmt::Result {
+        let counts: Vec<String> = self
+            .0
+            .iter()
+            .map(|(kind, n)| format!("{kind} {n}"))
+            .collect();
+        write!(f, "{}", counts.join("; "))
+    }
+}
+
+/// The kinds of acceptance that a test of the call must reach.
+pub fn accepted_kinds(call: Call) -> &'static [&'static str] {
+    match call {
+        Call::Common => &[
+            "nothing written",
+            "some rectangles left",
+            "all rectangles left",
+        ],
+        Call::Grow => &["list as before", "rectangles changed"],
+        Call::ExtraArea => &["no extra area", "extra area", "extra area of 2^31 or more"],
+        Call::Cut | Call::CutPolygon => &[
+            "nothing written",
+            "list as before",
+            "fewer rectangles",
+            "as many, changed",
+            "more rectangles",
+        ],
+        Call::Refine => &["list as before", "only dropped", "joined"],
+    }
+}
+
+fn outcome(case: &Case, output: &Output) -> &'static str {
+    match output.answer {
+        0 => accepted_kind(case, output),
+        3 => "refused 3",
+        7 => "refused 7",
+        _ => "unknown answer",
+    }
+}
+
+fn accepted_kind(case: &Case, output: &Output) -> &'static str {
+    match case.call {
+        Call::ExtraArea => match output.extra {
+            0 => "no extra area",
+            1..=0x7fff_ffff => "extra area",
+            _ => "extra area of 2^31 or more",
+        },
+        Call::Common => match output.list().len() {
+            0 => "nothing written",
+            length if length < case.list.len() => "some rectangles left",
+            _ => "all rectangles left",
+        },
+        _ if output.list() == case.list => "list as before",
+        Call::Grow => "rectangles changed",
+        Call::Cut | Call::CutPolygon => cut_kind(case.list.len(), output.list().len()),
+        Call::Refine => refine_kind(case, output),
+    }
+}
+
+fn cut_kind(before: usize, after: usize) -> &'static str {
+    if after == 0 {
+        "nothing written"
+    } else if after < before {
+        "fewer rectangles"
+    } else if after == before {
+        "as many, changed"
+    } else {
+        "more rectangles"
+    }
+}
+
+/// A rectangle that was not in the list came from joining two.
+fn refine_kind(case: &Case, output: &Output) -> &'static str {
+    let given: Vec<&[u32]> = case.list.chunks(4).collect();
+    if output.list().chunks(4).all(|r| given.contains(&r)) {
+        "only dropped"
+    } else {
+        "joined"
+    }
+}
