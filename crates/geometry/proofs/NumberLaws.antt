@@ -11,7 +11,7 @@ use lib.Seq.{drop-cons, getD-take, getD-at, getD-set-same, getD-set-other, take-
 use Rattle.geometry.specs.declared.rect.Rect.{Rect}
 use Rattle.geometry.specs.Cells.{noRect}
 use Rattle.geometry.specs.Numbers.{rectAt, rectsIn, putAt, numbersOf}
-use Rattle.geometry.proofs.RectWays.{rect-is}
+use Rattle.geometry.proofs.CellLaws.{rect-is}
 
 pub length-rects : (m : List ℕ) (n : ℕ) → length (rectsIn m n) ≡ n
 unfolding rectsIn
@@ -71,7 +71,7 @@ unfolding rectAt
 rects-prefix m m′ n e = rects-same m m′ n λ i h.
     let at : (k : ℕ) → k < 4 * n → getD m′ k 0 ≡ getD m k 0 =
     λ k g. sym (getD-take (4 * n) m′ k 0 g) ∙ ap (λ (l : List ℕ). getD l k 0) e ∙ getD-take (4 * n) m k 0 g in
-    rect-is _ _ _ _ _ _ _ _ (at (4 * i) (omega arith)) (at (4 * i + 1) (omega arith)) (at (4 * i + 2) (omega arith)) (at (4 * i + 3) (omega arith))
+    rect-is _ _ (at (4 * i) (omega arith)) (at (4 * i + 1) (omega arith)) (at (4 * i + 2) (omega arith)) (at (4 * i + 3) (omega arith))
 
 pub length-put : (m : List ℕ) (i : ℕ) (r : Rect) → length (putAt m i r) ≡ length m
 unfolding putAt
@@ -87,7 +87,7 @@ put-same m i r h =
     let la : length a ≡ length m = length-set m _ _ in
     let lb : length b ≡ length m = length-set a _ _ ∙ la in
     let lc : length c ≡ length m = length-set b _ _ ∙ lb in
-    rect-is _ _ _ _ _ _ _ _
+    rect-is _ _
     (getD-set-other c _ _ _ 0 (λ e. omega arith) ∙ getD-set-other b _ _ _ 0 (λ e. omega arith) ∙ getD-set-other a _ _ _ 0 (λ e. omega arith) ∙ getD-set-same m _ _ 0 (omega arith))
     (getD-set-other c _ _ _ 0 (λ e. omega arith) ∙ getD-set-other b _ _ _ 0 (λ e. omega arith) ∙ getD-set-same a _ _ 0 (omega arith))
     (getD-set-other c _ _ _ 0 (λ e. omega arith) ∙ getD-set-same b _ _ 0 (omega arith))
@@ -102,7 +102,7 @@ put-other m i j r h =
     let c = set b (4 * i + 2) (r .urx) in
     let at : (k : ℕ) → (k ≡ 4 * i → ⊥) → (k ≡ 4 * i + 1 → ⊥) → (k ≡ 4 * i + 2 → ⊥) → (k ≡ 4 * i + 3 → ⊥) → getD (set c (4 * i + 3) (r .ury)) k 0 ≡ getD m k 0 =
     λ k p q s t. getD-set-other c _ _ _ 0 t ∙ getD-set-other b _ _ _ 0 s ∙ getD-set-other a _ _ _ 0 q ∙ getD-set-other m _ _ _ 0 p in
-    rect-is _ _ _ _ _ _ _ _
+    rect-is _ _
     (at (4 * j) (λ e. h (omega arith)) (λ e. omega arith) (λ e. omega arith) (λ e. omega arith))
     (at (4 * j + 1) (λ e. omega arith) (λ e. h (omega arith)) (λ e. omega arith) (λ e. omega arith))
     (at (4 * j + 2) (λ e. omega arith) (λ e. omega arith) (λ e. h (omega arith)) (λ e. omega arith))

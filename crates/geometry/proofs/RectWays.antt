@@ -25,11 +25,6 @@ product-fits k {a} {b} ha hb =
     subst⁻¹ (λ (n : ℕ). a * b < n) (pow-add 2 k k)
     (lt-of-le-of-lt (mul-le-mul-left a (le-of-lt hb)) (mul-lt-mul-of-pos-right ha (pow-pos k)))
 
--- a rectangle by its four numbers
-pub rect-is : (a b c d a' b' c' d' : ℕ) → a ≡ a' → b ≡ b' → c ≡ c' → d ≡ d'
-    → _≡_ {A = Rect} (record { llx = a; lly = b; urx = c; ury = d }) (record { llx = a'; lly = b'; urx = c'; ury = d' })
-rect-is a b c d a' b' c' d' p q t u = λ i. record { llx = p i; lly = q i; urx = t i; ury = u i }
-
 module _ (r s : Rect) (a e : ℕ) (pa : a ≡ max (r .llx) (s .llx)) (pe : e ≡ min (r .urx) (s .urx)) where
   pub common-none-x : e ≤ a → Nothing ≡ commonPart r s
   unfolding commonPart nonEmpty overlap

@@ -1,6 +1,6 @@
 use borrow.Author.Needs.{needs}
 use Rattle.geometry.specs.Refine.{union}
-use Rattle.geometry.proofs.RectWays.{rect-is}
+use Rattle.geometry.proofs.CellLaws.{rect-is}
 use Rattle.geometry.proofs.rect.Rect.union.Statement.{statement}
 use Rattle.geometry.proofs.rect.Rect.union.Tie as tie
 
