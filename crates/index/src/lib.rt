@@ -1,0 +1,1 @@
+// The index in lent memory: its layout and reading are in specs/.

@@ -1,0 +1,5 @@
+pub mod Best
+pub mod Lines
+pub mod Candidates
+pub mod Plane
+pub mod Windows

@@ -1,0 +1,1 @@
+// The plane: definitions and laws only.

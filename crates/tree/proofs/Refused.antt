@@ -1,0 +1,78 @@
+-- Step 2 refuses only where a limit is passed.
+use Prim.Native.Nat.{ℕ, _≤_, min}
+use mathlib.Core.Bool.{Bool, true, _||_, or-true, false≢true}
+use mathlib.Core.Path.{_≡_, refl, sym, _∙_}
+use mathlib.Core.List.{List, [], _∷_, _++_, flatMap}
+use mathlib.Core.Option.{Option, none, some, bind}
+use lib.ListN.{length, length-append}
+use lib.Dec.{eqb}
+use native.Mathlib.Omega.{arith}
+use native.Mathlib.Decide.{decLe}
+use borrow.Author.Tests.{eq-eqb}
+use Rattle.tree.specs.Lists.{All}
+use Rattle.tree.specs.Space.{Branch}
+use Rattle.tree.specs.Boxes.{Boxes, anyHas, GoodPolygon, Poly}
+use Rattle.tree.specs.Search.{first, Focus, any, least, orElse}
+use Rattle.tree.specs.Step2.{grownPoly, allBoxes, chosen, whole, growing, choose}
+use Rattle.tree.proofs.Any.{any-flatMap, first-none, first-some, any-none}
+
+least-any : {A : Type 0} (f : A → ℕ) (a : A) (l : List A) → any (λ r. eqb (f r) (least f (a ∷ l))) (a ∷ l) ≡ true
+unfolding any least
+least-any f a [] = rw (eq-eqb (f a) (f a) refl)
+least-any f a (b ∷ l) = go (decLe (f a) (least f (b ∷ l))) (least-any f b l)
+  where
+    go : Dec (f a ≤ least f (b ∷ l)) → any (λ r. eqb (f r) (least f (b ∷ l))) (b ∷ l) ≡ true → eqb (f a) (min (f a) (least f (b ∷ l))) || any (λ r. eqb (f r) (min (f a) (least f (b ∷ l)))) (b ∷ l) ≡ true
+    go (yes h) i = rw (eq-eqb (f a) (min (f a) (least f (b ∷ l))) (omega arith))
+    go (no h) i = let e : min (f a) (least f (b ∷ l)) ≡ least f (b ∷ l) = omega arith in rw (e, i) (or-true (eqb (f a) (least f (b ∷ l))))
+
+finds : {A : Type 0} (t : A → Bool) (l : List A) → any t l ≡ true → (k : Focus A) × (first t l ≡ some k)
+finds {A = A} t l h = go (first t l) refl
+  where
+    go : (m : Option (Focus A)) → first t l ≡ m → (k : Focus A) × (m ≡ some k)
+    go none e = absurd (false≢true (sym (any-none t l (first-none t l e)) ∙ h))
+    go (some k) e = (k, refl)
+
+some-all : {A : Type 0} (f : A → ℕ) (l : List A) → 1 ≤ length l → any (λ r. eqb (f r) (least f l)) l ≡ true
+some-all f [] h = absurd (omega arith)
+some-all f (a ∷ l) h = least-any f a l
+
+module _ (B : Boxes) {A : Type 0} (p : Poly B) (bs : List (Branch (Poly B) A)) (c : B .Cell) where
+  some-boxes : (l : List (Branch (Poly B) A)) → 1 ≤ length l → All (λ b. GoodPolygon B (b .poly)) l → 1 ≤ length (allBoxes B l)
+  unfolding All flatMap
+  some-boxes [] h f = absurd (omega arith)
+  some-boxes (b ∷ l) h f = let a = f .0 .lower in let e = length-append (b .poly) (flatMap (λ x. x .poly) l) in omega arith
+
+  -- the refusal names a branch and a box whose growth passes a limit
+  pub record Cause : Type 0 where
+    pub branch : Focus (Branch (Poly B) A)
+    pub box : Focus (B .Box)
+    pub row : bs ≡ branch .before ++ (branch .at ∷ branch .after)
+    pub fails : grownPoly B p (allBoxes B (branch .before ++ branch .after)) box c ≡ none
+
+  growing-cause : 1 ≤ length bs → All (λ b. GoodPolygon B (b .poly)) bs → growing B p bs c ≡ none → Cause
+  unfolding bind
+  growing-cause n f h =
+      let m = least (λ r. B .extra r c) (allBoxes B bs) in
+      let a = some-all (λ r. B .extra r c) (allBoxes B bs) (some-boxes bs n f) in
+      let i = finds (λ b. any (λ r. eqb (B .extra r c) (least (λ r. B .extra r c) (allBoxes B bs))) (b .poly)) bs (sym (any-flatMap (λ r. eqb (B .extra r c) (least (λ r. B .extra r c) (allBoxes B bs))) (λ b. b .poly) bs) ∙ a) in
+      let k = first-some (λ b. any (λ r. eqb (B .extra r c) (least (λ r. B .extra r c) (allBoxes B bs))) (b .poly)) bs (i .0) (i .1) in
+      let j = finds (λ r. eqb (B .extra r c) (least (λ r. B .extra r c) (allBoxes B bs))) (i .0 .at .poly) (k .passes) in
+      record {
+        branch = i .0;
+        box = j .0;
+        row = k .list;
+        fails = last (grownPoly B p (allBoxes B (i .0 .before ++ i .0 .after)) (j .0) c) (i .0) (rw (i .1, j .1) at h);
+      }
+    where
+      last : (m : Option (Poly B)) (f : Focus (Branch (Poly B) A)) → bind m (λ q. some (chosen B f q)) ≡ none → m ≡ none
+      last none f e = refl
+      last (some q) f e = let z : _≡_ {A = ℕ} 0 1 = cc in absurd (omega arith)
+
+  -- Step 2 at a node with good branches refuses only so.
+  pub choose-cause : 1 ≤ length bs → All (λ b. GoodPolygon B (b .poly)) bs → choose B p bs c ≡ none → Cause
+  unfolding choose
+  choose-cause n f h = go (first (λ b. anyHas B (b .poly) c) bs) h
+    where
+      go : (m : Option (Focus (Branch (Poly B) A))) → orElse (whole B m) (growing B p bs c) ≡ none → Cause
+      go none e = growing-cause n f e
+      go (some k) e = let z : _≡_ {A = ℕ} 0 1 = cc in absurd (omega arith)

@@ -1,0 +1,61 @@
+-- The rectangle rules as the tree uses them, and polygons as lists of rectangles.
+use Prim.Native.Nat.{ℕ, _≤_}
+use mathlib.Core.Bool.{Bool, true}
+use mathlib.Core.List.{List, flatMap}
+use mathlib.Core.Path.{_≡_}
+use lib.ListN.{length}
+use Rattle.tree.specs.Limits.{polygonLimit}
+use Rattle.tree.specs.Lists.{All}
+use Rattle.tree.specs.Search.{any}
+use Rattle.tree.specs.Space.{Side, Entry}
+
+-- Rectangles (boxes, for any number of dimensions) with their rules, the lines of splits, and the fanout.
+pub record Boxes : Type 1 where
+  pub Cell : Type 0
+  pub Box : Type 0
+  pub Line : Type 0
+  -- the two cells are one
+  pub same : Cell → Cell → Bool
+  -- the cell is on the grid
+  pub Real : Cell → Type 0
+  -- the rectangle contains the cell
+  pub has : Box → Cell → Bool
+  -- ll < ur in each dimension, and ur is at most 65536
+  pub valid : Box → Bool
+  -- the cell is left of the line
+  pub below : Line → Cell → Bool
+  -- the part on one side of the line; no rectangle where that is empty
+  pub clip : Side Line → Box → List Box
+  -- "Common part"; no rectangle where it is empty
+  pub common : Box → Box → List Box
+  -- "Grow" and its extra area
+  pub grow : Box → Cell → Box
+  pub extra : Box → Cell → ℕ
+  -- "Cut"
+  pub cut : Box → Box → List Box
+  -- "Refine"
+  pub refine : List Box → List Box
+  -- the lines of a leaf, of a routing node by the entries of its branches
+  pub leafLine : List (Entry Cell) → Line
+  pub nodeLine : List (List (Entry Cell)) → Line
+  -- the fanout, 8 in document 01
+  pub most : ℕ
+
+module _ (B : Boxes) where
+  -- "A polygon is a list of .. rectangles"
+  abbrev pub Poly : Type 0
+  Poly = List (B .Box)
+
+  -- "its cells are their union"
+  unfoldable pub anyHas : Poly → B .Cell → Bool
+  anyHas p c = any (λ r. B .has r c) p
+
+  -- "1 to 16 rectangles", "A rectangle has ll < ur in both dimensions"
+  pub record GoodPolygon (p : Poly) : Type 0 where
+    pub lower : 1 ≤ length p
+    pub upper : length p ≤ polygonLimit
+    pub valid : All (λ r. B .valid r ≡ true) p
+
+  -- "Splitting clips the polygon's rectangles to each side, in order, and refines them."
+  abbrev pub clipPoly : Side (B .Line) → Poly → Poly
+  clipPoly s p = B .refine (flatMap (B .clip s) p)

@@ -1,0 +1,80 @@
+-- The calls at the level of trees, and what each answers and leaves by the definitions.
+use Prim.Native.Nat.{ℕ}
+use mathlib.Core.Bool.{Bool, true, false, cond}
+use mathlib.Core.List.{List, [], _∷_}
+use mathlib.Core.Option.{Option, none}
+use lib.ListN.{length}
+use Rattle.tree.specs.Space.{Space}
+use Rattle.tree.specs.Nodes.{EntryOf}
+use Rattle.tree.specs.Root.{Root}
+use Rattle.tree.specs.Tree.{Index, entries}
+use Rattle.tree.specs.Insert.{Outcome, refused, accepted, insert}
+use Rattle.tree.specs.Remove.{remove}
+use Rattle.tree.specs.Query.{Window, holds, entryAt, visits, matches, windowVisits}
+
+-- "insertions, removals, clears and queries", with their arguments other than lent lists.
+pub data Call (S : Space) (Win : Window S) : Type 0 where
+  insertCall : EntryOf S → Call S Win
+  removeCall : S .Cell → Call S Win
+  clearCall : Call S Win
+  pointCall : S .Cell → Call S Win
+  windowCall : Win .W → Call S Win
+
+-- An answer: a refusal by its number; "Insertion, removal and clearing report the entries held after the call"; a point query the entry, if held, and visits; a window query the matches in order and visits.
+pub data Answer (S : Space) : Type 0 where
+  refusal : ℕ → Answer S
+  reports : ℕ → Answer S
+  pointAnswer : Option (EntryOf S) → ℕ → Answer S
+  windowAnswer : List (EntryOf S) → ℕ → Answer S
+
+-- Whether the call was accepted.
+abbrev pub isAccepted : {S : Space} → Answer S → Bool
+isAccepted (refusal k) = false
+isAccepted (reports n) = true
+isAccepted (pointAnswer e v) = true
+isAccepted (windowAnswer es v) = true
+
+module _ (S : Space) where
+  -- The answer and the index after, from how a call that may change the index ends. A refused call leaves "index" as it was.
+  abbrev pub outcomeAnswer : Outcome S → Answer S
+  outcomeAnswer (refused k) = refusal k
+  outcomeAnswer (accepted i) = reports (length (entries S i))
+
+  abbrev pub outcomeIndex : Index S → Outcome S → Index S
+  outcomeIndex i (refused k) = i
+  outcomeIndex i (accepted j) = j
+
+  -- Removal: 6, "cell not held (removal)".
+  abbrev pub removal : Index S → S .Cell → Outcome S
+  removal i c = cond (holds S c i) (accepted (remove S c i)) (refused 6)
+
+  module _ (R : Root S) (N : ℕ) where
+    -- Insertion: 5, "cell already held (insertion)", before 7 and 8.
+    abbrev pub insertion : Index S → EntryOf S → Outcome S
+    insertion i e = cond (holds S (e .cell) i) (refused 5) (insert S R N i e)
+
+    module _ (Win : Window S) where
+      -- The answer of a call on an index.
+      unfoldable pub answer : Index S → Call S Win → Answer S
+      answer i (insertCall e) = outcomeAnswer (insertion i e)
+      answer i (removeCall c) = outcomeAnswer (removal i c)
+      answer i clearCall = reports 0
+      answer i (pointCall c) = pointAnswer (entryAt S c i) (visits S c i)
+      answer i (windowCall w) = windowAnswer (matches S Win w i) (windowVisits S Win w i)
+
+      -- The index after a call.
+      unfoldable pub after : Index S → Call S Win → Index S
+      after i (insertCall e) = outcomeIndex i (insertion i e)
+      after i (removeCall c) = outcomeIndex i (removal i c)
+      after i clearCall = none
+      after i (pointCall c) = i
+      after i (windowCall w) = i
+
+      -- A list of calls, "each call handed the memory that the last one left": the index after all, and each call's answer.
+      unfoldable pub afterAll : Index S → List (Call S Win) → Index S
+      afterAll i [] = i
+      afterAll i (k ∷ ks) = afterAll (after i k) ks
+
+      unfoldable pub answers : Index S → List (Call S Win) → List (Answer S)
+      answers i [] = []
+      answers i (k ∷ ks) = answer i k ∷ answers (after i k) ks

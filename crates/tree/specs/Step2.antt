@@ -1,0 +1,51 @@
+-- Document 01, 'Insertion', step 2: the branch that is gone to, and its polygon grown.
+use mathlib.Core.List.{List, [], _∷_, _++_, flatMap}
+use mathlib.Core.Option.{Option, none, some, bind}
+use lib.Dec.{eqb}
+use Rattle.tree.specs.Limits.{polygonLimit, piecesLimit}
+use Rattle.tree.specs.Search.{Focus, first, any, least, atMost, orElse}
+use Rattle.tree.specs.Space.{Branch, Chosen}
+use Rattle.tree.specs.Boxes.{Boxes, Poly, anyHas}
+
+module _ (B : Boxes) where
+  -- "cut the grown one by every sibling's polygon in order": a list cut by rectangles, one after another; nothing (refusal 7) where there are "pieces over 256 after a cut by one rectangle".
+  unfoldable pub cutEach : Poly B → Poly B → Option (Poly B)
+  cutEach l [] = some l
+  cutEach l (s ∷ ss) = bind (atMost piecesLimit (flatMap (λ r. B .cut r s) l)) λ m. cutEach m ss
+
+  -- "replace each piece by its common parts with the parent's rectangles .., in order"
+  abbrev pub commons : Poly B → Poly B → Poly B
+  commons l p = flatMap (λ r. flatMap (B .common r) p) l
+
+  -- The polygon with one rectangle k grown to the cell: "Grow it; cut the grown one ..; replace each piece ..; put the pieces where the chosen rectangle stood; refine." p is the parent's polygon. Nothing where there are pieces over 256, or "the refined polygon over 16".
+  unfoldable pub grownPoly : Poly B → Poly B → Focus (B .Box) → B .Cell → Option (Poly B)
+  grownPoly p siblings k c =
+      bind (cutEach (B .grow (k .at) c ∷ []) siblings) λ pieces.
+      bind (atMost piecesLimit (commons pieces p)) λ inner.
+      atMost polygonLimit (B .refine (k .before ++ (inner ++ k .after)))
+
+  -- The rectangles of the branches, in order.
+  abbrev pub allBoxes : {A : Type 0} → List (Branch (Poly B) A) → Poly B
+  allBoxes bs = flatMap (λ b. b .poly) bs
+
+  -- The branch in focus, with the polygon q from now on.
+  abbrev pub chosen : {A : Type 0} → Focus (Branch (Poly B) A) → Poly B → Chosen (Poly B) A
+  chosen f q = record { before = f .before; old = f .at; grown = q; after = f .after }
+
+  -- A branch that has the cell stays as it is.
+  abbrev pub whole : {A : Type 0} → Option (Focus (Branch (Poly B) A)) → Option (Chosen (Poly B) A)
+  whole none = none
+  whole (some f) = some (chosen f (f .at .poly))
+
+  -- "choose the rectangle of least extra area, first branch then first rectangle on ties", and grow it
+  abbrev pub growing : {A : Type 0} → Poly B → List (Branch (Poly B) A) → B .Cell → Option (Chosen (Poly B) A)
+  growing p bs c =
+      let m = least (λ r. B .extra r c) (allBoxes bs) in
+      bind (first (λ b. any (λ r. eqb (B .extra r c) m) (b .poly)) bs) λ f.
+      bind (first (λ r. eqb (B .extra r c) m) (f .at .poly)) λ k.
+      bind (grownPoly p (allBoxes (f .before ++ f .after)) k c) λ q.
+      some (chosen f q)
+
+  -- "At a routing node, go to the branch that has the cell. If none has it, choose .."
+  unfoldable pub choose : {A : Type 0} → Poly B → List (Branch (Poly B) A) → B .Cell → Option (Chosen (Poly B) A)
+  choose p bs c = orElse (whole (first (λ b. anyHas B (b .poly) c) bs)) (growing p bs c)

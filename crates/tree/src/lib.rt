@@ -1,0 +1,1 @@
+// The tree: definitions and laws only.
