@@ -1,5 +1,2 @@
-pub mod Layout
-pub mod SoundTest
-pub mod Reading
-pub mod Reached
-pub mod Image
+pub mod Numbers
+pub mod Answers

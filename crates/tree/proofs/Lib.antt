@@ -13,6 +13,7 @@ pub mod InsertEntries
 pub mod InsertAt
 pub mod NodesGrow
 pub mod Insert
+pub mod RefusedInsert
 pub mod Once
 pub mod Depth
 pub mod Visits
@@ -25,6 +26,7 @@ pub mod GrownPolygon
 pub mod Step2
 pub mod BoxSpace
 pub mod BoxRoot
+pub mod BoxClaim
 pub mod Refused
 pub mod Emission
 pub mod PlanIndex

@@ -26,7 +26,7 @@ use Rattle.tree.specs.Tree.{Tree, SoundTree}
 use Rattle.tree.specs.Search.{any}
 use Rattle.tree.specs.Boxes.{anyHas as boxesHas}
 use Rattle.plane.specs.Plane.{planeSpace, planeRoot}
-use Rattle.index.specs.SoundTest.{allPass, pairsPass, isNone, coveredBy, insideOf, apart, polygonFits, countTest, apartTest, itemTest, soundTest}
+use Rattle.memory.specs.SoundTest.{allPass, pairsPass, isNone, coveredBy, insideOf, apart, polygonFits, countTest, apartTest, itemTest, soundTest}
 
 module _ {A : Type 0} (p : A → Bool) (P : A → Type 0) where
   -- where every element passes, what the test stands for holds of every element

@@ -19,10 +19,10 @@ use Rattle.tree.specs.Tree.{Tree, top}
 use Rattle.tree.proofs.Lists.{all-map, all-both}
 use Rattle.tree.specs.Search.{any}
 use Rattle.plane.specs.Plane.{planeSpace}
-use Rattle.index.specs.Layout.{partsOf, inUse, onesOf, rootIn}
-use Rattle.index.specs.Reading.{reading}
-use Rattle.index.specs.Reached.{reached}
-use Rattle.index.proofs.ReadingLaws.{node-reaches, read-as, length-right}
+use Rattle.memory.specs.Layout.{partsOf, inUse, onesOf, rootIn}
+use Rattle.memory.specs.Reading.{reading}
+use Rattle.memory.specs.Reached.{reached}
+use Rattle.memory.proofs.ReadingLaws.{node-reaches, read-as, length-right}
 
 abbrev one : Bool → ℕ
 one b = cond b 1 0

@@ -17,11 +17,11 @@ use Rattle.tree.specs.Space.{Space}
 use Rattle.tree.specs.Nodes.{EntryOf, Item, nodes}
 use Rattle.tree.proofs.Lists.{all-append}
 use Rattle.plane.specs.Plane.{planeSpace}
-use Rattle.index.specs.Layout.{partsOf, part, inUse, nodeFits}
-use Rattle.index.specs.SoundTest.{allPass, pairsPass, insideOf, polygonFits, countTest, apartTest, itemTest}
-use Rattle.index.specs.Reading.{readRow, readNode}
-use Rattle.index.specs.Image.{nodePart, entryNumbers, emitRow, emitNode}
-use Rattle.index.proofs.PartImage.{part-length, part-polygon, part-children, part-rest, part-counts, part-entries, length-entries}
+use Rattle.memory.specs.Layout.{partsOf, part, inUse, nodeFits}
+use Rattle.memory.specs.SoundTest.{allPass, pairsPass, insideOf, polygonFits, countTest, apartTest, itemTest}
+use Rattle.memory.specs.Reading.{readRow, readNode}
+use Rattle.memory.specs.Image.{nodePart, entryNumbers, emitRow, emitNode}
+use Rattle.memory.proofs.PartImage.{part-length, part-polygon, part-children, part-rest, part-counts, part-entries, length-entries}
 
 -- five tests that pass together, each pass
 pub all5 : (a b c d e : Bool) → a && b && c && d && e ≡ true → (a ≡ true) × (b ≡ true) × (c ≡ true) × (d ≡ true) × (e ≡ true)

@@ -21,10 +21,10 @@ use Rattle.tree.proofs.Lists.{all-append, all-first, all-second, all-map, all-f
 use Rattle.plane.specs.Best.{upFrom}
 use Rattle.plane.specs.Lines.{CellEntry}
 use Rattle.plane.specs.Plane.{planeSpace}
-use Rattle.index.specs.SoundTest.{allPass, itemTest, soundTest}
-use Rattle.index.specs.Image.{padded, entryNumbers, nodePart, bitsWord, headNumbers, memoryOf, emitRow, emitNode, image}
-use Rattle.index.proofs.NodeImage.{NodeOk, item-ok, length-node, some-parts}
-use Rattle.index.proofs.ImageLaws.{root-ok}
+use Rattle.memory.specs.SoundTest.{allPass, itemTest, soundTest}
+use Rattle.memory.specs.Image.{padded, entryNumbers, nodePart, bitsWord, headNumbers, memoryOf, emitRow, emitNode, image}
+use Rattle.memory.proofs.NodeImage.{NodeOk, item-ok, length-node, some-parts}
+use Rattle.memory.proofs.ImageLaws.{root-ok}
 
 -- a number of 32 bits, and a list of such
 abbrev pub Word : ℕ → Type 0

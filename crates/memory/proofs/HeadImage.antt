@@ -12,9 +12,9 @@ use lib.Dec.{eqb, ltb}
 use lib.ListN.{length, take, drop, getD}
 use lib.Pow.{pow-pos, pow-mono}
 use Rattle.plane.specs.Best.{upFrom}
-use Rattle.index.specs.Layout.{allZero, inUse, onesOf, bitsSet, heightIn, rootIn}
-use Rattle.index.specs.Image.{padded, bitsWord, headNumbers}
-use Rattle.index.proofs.PartImage.{zeros}
+use Rattle.memory.specs.Layout.{allZero, inUse, onesOf, bitsSet, heightIn, rootIn}
+use Rattle.memory.specs.Image.{padded, bitsWord, headNumbers}
+use Rattle.memory.proofs.PartImage.{zeros}
 
 -- the bit above, of the half
 half-bit : (w s : ℕ) → w / 2 ^ suc s ≡ w / 2 / 2 ^ s

@@ -18,11 +18,11 @@ use Rattle.tree.specs.Nodes.{Item, nodes}
 use Rattle.tree.specs.Tree.{Tree, SoundTree, top}
 use Rattle.tree.proofs.Lists.{all-append, all-map, all-both, pairs-append}
 use Rattle.plane.specs.Plane.{planeSpace, planeRoot}
-use Rattle.index.specs.Layout.{partsOf, rightLength, part, inUse, bitsSet, heightIn, rootIn, allZero, rectCount, itemCount, polygonIn, entriesIn, childrenIn, countsFit, restZero, nodeFits, othersZero}
-use Rattle.index.specs.SoundTest.{soundTest}
-use Rattle.index.specs.Reading.{readRow, readNode, treeOf, restFits, readTree, readHeight, reading}
-use Rattle.index.specs.Reached.{reached}
-use Rattle.index.proofs.SoundTested.{sound-tested}
+use Rattle.memory.specs.Layout.{partsOf, rightLength, part, inUse, bitsSet, heightIn, rootIn, allZero, rectCount, itemCount, polygonIn, entriesIn, childrenIn, countsFit, restZero, nodeFits, othersZero}
+use Rattle.memory.specs.SoundTest.{soundTest}
+use Rattle.memory.specs.Reading.{readRow, readNode, treeOf, restFits, readTree, readHeight, reading}
+use Rattle.memory.specs.Reached.{reached}
+use Rattle.memory.proofs.SoundTested.{sound-tested}
 
 -- a choice that gave something was of the first
 chosen : {A : Type 0} (b : Bool) (x : Option A) (a : A) → cond b x none ≡ some a → (b ≡ true) × (x ≡ some a)

@@ -14,12 +14,12 @@ use Rattle.geometry.proofs.Booleans.{both}
 use Rattle.tree.specs.Nodes.{Item, nodes}
 use Rattle.tree.specs.Tree.{Tree, top}
 use Rattle.plane.specs.Plane.{planeSpace}
-use Rattle.index.specs.Layout.{partsOf, rightLength, rootIn, othersZero}
-use Rattle.index.specs.SoundTest.{allPass, pairsPass, countTest, apartTest, itemTest, soundTest}
-use Rattle.index.specs.Reading.{readNode, readTree, restFits, reading}
-use Rattle.index.specs.Image.{emitNode, image}
-use Rattle.index.proofs.NodeImage.{Sized, NodeOk, all5, count-ok, length-node, node-sized, node-reads}
-use Rattle.index.proofs.MemoryImage.{memory-height, memory-root, memory-head-zero, memory-bits, memory-length, memory-parts, memory-right, memory-holds, memory-others}
+use Rattle.memory.specs.Layout.{partsOf, rightLength, rootIn, othersZero}
+use Rattle.memory.specs.SoundTest.{allPass, pairsPass, countTest, apartTest, itemTest, soundTest}
+use Rattle.memory.specs.Reading.{readNode, readTree, restFits, reading}
+use Rattle.memory.specs.Image.{emitNode, image}
+use Rattle.memory.proofs.NodeImage.{Sized, NodeOk, all5, count-ok, length-node, node-sized, node-reads}
+use Rattle.memory.proofs.MemoryImage.{memory-height, memory-root, memory-head-zero, memory-bits, memory-length, memory-parts, memory-right, memory-holds, memory-others}
 
 -- the root of a tree that passes the test fits its part
 pub root-ok : (fanout : ℕ) (t : Tree (planeSpace fanout)) → soundTest fanout t ≡ true → NodeOk fanout (t .level) (top (planeSpace fanout) t)

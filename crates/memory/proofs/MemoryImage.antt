@@ -11,11 +11,11 @@ use lib.ListN.{length, take, drop, replicate, length-append}
 use lib.Seq.{take-at, drop-at, drop-drop}
 use Rattle.geometry.proofs.Booleans.{split-and, both}
 use Rattle.tree.specs.Lists.{All}
-use Rattle.index.specs.Layout.{partsOf, rightLength, part, inUse, bitsSet, heightIn, rootIn, allZero, othersZero}
-use Rattle.index.specs.Image.{padded, headNumbers, memoryOf}
-use Rattle.index.proofs.PartImage.{zeros, length-padded, drop-padded}
-use Rattle.index.proofs.HeadImage.{head-length, head-height, head-root, head-zero, head-bits, head-in-use}
-use Rattle.index.proofs.NodeImage.{Holds, Sized}
+use Rattle.memory.specs.Layout.{partsOf, rightLength, part, inUse, bitsSet, heightIn, rootIn, allZero, othersZero}
+use Rattle.memory.specs.Image.{padded, headNumbers, memoryOf}
+use Rattle.memory.proofs.PartImage.{zeros, length-padded, drop-padded}
+use Rattle.memory.proofs.HeadImage.{head-length, head-height, head-root, head-zero, head-bits, head-in-use}
+use Rattle.memory.proofs.NodeImage.{Holds, Sized}
 
 -- what is left of zeros is zero
 zero-drop : (n : ℕ) (l : List ℕ) → allZero l ≡ true → allZero (drop n l) ≡ true

@@ -10,8 +10,8 @@ use Rattle.tree.specs.Space.{Branch}
 use Rattle.tree.specs.Nodes.{Item, nodes}
 use Rattle.tree.specs.Tree.{Tree}
 use Rattle.plane.specs.Plane.{planeSpace}
-use Rattle.index.specs.Layout.{partsOf, rightLength, part, bitsSet, heightIn, rootIn, allZero, itemCount, polygonIn, entriesIn, childrenIn, nodeFits, othersZero}
-use Rattle.index.specs.SoundTest.{soundTest}
+use Rattle.memory.specs.Layout.{partsOf, rightLength, part, bitsSet, heightIn, rootIn, allZero, itemCount, polygonIn, entriesIn, childrenIn, nodeFits, othersZero}
+use Rattle.memory.specs.SoundTest.{soundTest}
 
 -- The branches of a node at part hi, by their part numbers: read lo k reads the one at part k, whose subtree has the parts from lo up to
 -- k. Parts rise in depth-first order, a node after its children (docs/LAYOUT.md), so no part is reached twice.

@@ -12,8 +12,8 @@ use Rattle.geometry.specs.Numbers.{rectsIn, numbersOf}
 use Rattle.geometry.proofs.CellLaws.{rect-is}
 use Rattle.geometry.proofs.NumberLaws.{length-numbers, numbers-take}
 use Rattle.plane.specs.Lines.{CellEntry}
-use Rattle.index.specs.Layout.{allZero, rectCount, itemCount, polygonIn, entryIn, entriesIn, childrenIn, restZero, countsFit}
-use Rattle.index.specs.Image.{padded, entryNumbers, nodePart}
+use Rattle.memory.specs.Layout.{allZero, rectCount, itemCount, polygonIn, entryIn, entriesIn, childrenIn, restZero, countsFit}
+use Rattle.memory.specs.Image.{padded, entryNumbers, nodePart}
 
 -- zeros are all zero
 pub zeros : (n : ℕ) → allZero (replicate n 0) ≡ true

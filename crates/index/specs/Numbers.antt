@@ -1,0 +1,62 @@
+-- Document 01, 'Causes for saying no': the number and the values that each answer stands for. The number is 0 where the call accepts.
+use Prim.Native.Nat.{ℕ}
+use mathlib.Core.List.{List, [], _∷_}
+use Rattle.index.specs.declared.answer.Inserted.{Inserted}
+use Rattle.index.specs.declared.answer.Inserted.the-variants as I
+use Rattle.index.specs.declared.answer.Removed.{Removed}
+use Rattle.index.specs.declared.answer.Removed.the-variants as R
+use Rattle.index.specs.declared.answer.Cleared.{Cleared}
+use Rattle.index.specs.declared.answer.Cleared.the-variants as C
+use Rattle.index.specs.declared.answer.PointFound.{PointFound}
+use Rattle.index.specs.declared.answer.PointFound.the-variants as P
+use Rattle.index.specs.declared.answer.WindowFound.{WindowFound}
+use Rattle.index.specs.declared.answer.WindowFound.the-variants as W
+
+-- a number of the table, and the values returned with it
+pub record Told : Type 0 where
+  pub number : ℕ
+  pub values : List ℕ
+
+abbrev pub refusal : ℕ → Told
+refusal n = record { number = n; values = [] }
+
+abbrev pub accepts : List ℕ → Told
+accepts l = record { number = 0; values = l }
+
+-- 'Insertion, removal and clearing report the entries held after the call.'
+abbrev pub insertTold : Inserted → Told
+insertTold (I.Accepted n) = accepts (n ∷ [])
+insertTold I.WrongLength = refusal 1
+insertTold I.WrongWorkLength = refusal 2
+insertTold I.OffGrid = refusal 3
+insertTold I.NoTree = refusal 4
+insertTold I.CellHeld = refusal 5
+insertTold I.PolygonLimit = refusal 7
+insertTold I.NodeLimit = refusal 8
+
+abbrev pub removeTold : Removed → Told
+removeTold (R.Accepted n) = accepts (n ∷ [])
+removeTold R.WrongLength = refusal 1
+removeTold R.OffGrid = refusal 3
+removeTold R.NoTree = refusal 4
+removeTold R.CellNotHeld = refusal 6
+
+abbrev pub clearTold : Cleared → Told
+clearTold (C.Accepted n) = accepts (n ∷ [])
+clearTold C.WrongLength = refusal 1
+
+-- 'A point query answers held with tag, or not held, and the visits': 1 or 0, visits, then the tag if held
+abbrev pub pointTold : PointFound → Told
+pointTold (P.Held tag visits) = accepts (1 ∷ visits ∷ tag ∷ [])
+pointTold (P.NotHeld visits) = accepts (0 ∷ visits ∷ [])
+pointTold P.WrongLength = refusal 1
+pointTold P.OffGrid = refusal 3
+pointTold P.NoTree = refusal 4
+
+-- 'reports matches and visits'; 'list shorter than 3 × matches: number, matches'
+abbrev pub windowTold : WindowFound → Told
+windowTold (W.Found matches visits) = accepts (matches ∷ visits ∷ [])
+windowTold W.WrongLength = refusal 1
+windowTold W.BadWindow = refusal 3
+windowTold W.NoTree = refusal 4
+windowTold (W.ShortList matches) = record { number = 9; values = matches ∷ [] }

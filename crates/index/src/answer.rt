@@ -1,0 +1,46 @@
+// What the calls answer. The definitions in specs/Answers.antt give document 01's number and values for each case.
+
+pub enum Inserted {
+    // the entries held after the call
+    Accepted(u32),
+    WrongLength,
+    WrongWorkLength,
+    OffGrid,
+    NoTree,
+    CellHeld,
+    // a list over 256, or a polygon over 16, in step 2
+    PolygonLimit,
+    NodeLimit,
+}
+
+pub enum Removed {
+    // the entries held after the call
+    Accepted(u32),
+    WrongLength,
+    OffGrid,
+    NoTree,
+    CellNotHeld,
+}
+
+pub enum Cleared {
+    // the entries held after the call: none
+    Accepted(u32),
+    WrongLength,
+}
+
+pub enum PointFound {
+    Held { tag: u32, visits: u32 },
+    NotHeld { visits: u32 },
+    WrongLength,
+    OffGrid,
+    NoTree,
+}
+
+pub enum WindowFound {
+    Found { matches: u32, visits: u32 },
+    WrongLength,
+    BadWindow,
+    NoTree,
+    // the list is shorter than three numbers a match
+    ShortList { matches: u32 },
+}

@@ -1,0 +1,9 @@
+pub mod SoundTested
+pub mod ReadingLaws
+pub mod UsedParts
+pub mod PartImage
+pub mod HeadImage
+pub mod NodeImage
+pub mod MemoryImage
+pub mod ImageLaws
+pub mod ImageWords

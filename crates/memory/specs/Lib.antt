@@ -1,0 +1,5 @@
+pub mod Layout
+pub mod SoundTest
+pub mod Reading
+pub mod Reached
+pub mod Image

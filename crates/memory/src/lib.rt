@@ -1,0 +1,1 @@
+// The memory of the index: layout, reading and image are definitions (specs/) with their laws (proofs/).
