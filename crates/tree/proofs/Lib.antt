@@ -31,8 +31,3 @@ pub mod Refused
 pub mod Emission
 pub mod PlanIndex
 pub mod Pass
-pub mod Refine
-pub mod Ranges
-pub mod Dimensions
-pub mod DimensionRoot
-pub mod Examples

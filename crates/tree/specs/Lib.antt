@@ -20,5 +20,3 @@ pub mod Claim
 pub mod Walk
 pub mod Plan
 pub mod Pass
-pub mod Refine
-pub mod Ranges
