@@ -37,7 +37,8 @@ module _ (B : Boxes) (W : BoxLaws B) where
       ∙ any-same (λ r. any (λ q. B .has q c) (B .clip s r)) (λ r. B .has r c && on (spaceOf B) s c) p (λ r. W .clip-cells s r c)
       ∙ any-and (λ r. B .has r c) (on (spaceOf B) s c) p
 
-  cut-each : (l ss m : Poly B) (c : B .Cell) → cutEach B l ss ≡ some m → anyHas B m c ≡ anyHas B l c && not (anyHas B ss c)
+  -- the cells of a list cut by rectangles, one after another
+  pub cut-each : (l ss m : Poly B) (c : B .Cell) → cutEach B l ss ≡ some m → anyHas B m c ≡ anyHas B l c && not (anyHas B ss c)
   unfolding cutEach anyHas any
   cut-each l [] m c h = let e : m ≡ l = cc in rw e (and-true (any (λ r. B .has r c) l))
   cut-each l (s ∷ ss) m c h =
@@ -48,7 +49,8 @@ module _ (B : Boxes) (W : BoxLaws B) where
       ∙ ap (λ (x : Bool). x && not (any (λ r. B .has r c) ss)) (any-flatMap (λ q. B .has q c) (λ r. B .cut r s) l ∙ any-same (λ r. any (λ q. B .has q c) (B .cut r s)) (λ r. B .has r c && not (B .has s c)) l (λ r. W .cut-cells r s c) ∙ any-and (λ r. B .has r c) (not (B .has s c)) l)
       ∙ cut-more (any (λ r. B .has r c) l) (B .has s c) (any (λ r. B .has r c) ss)
 
-  commons-cells : (l p : Poly B) (c : B .Cell) → anyHas B (commons B l p) c ≡ anyHas B l c && anyHas B p c
+  -- the cells of the common parts
+  pub commons-cells : (l p : Poly B) (c : B .Cell) → anyHas B (commons B l p) c ≡ anyHas B l c && anyHas B p c
   unfolding anyHas
   commons-cells l p c =
       any-flatMap (λ q. B .has q c) (λ r. flatMap (B .common r) p) l

@@ -23,6 +23,7 @@ pub mod Claim
 pub mod Remove
 pub mod RemoveIndex
 pub mod GrownPolygon
+pub mod Step2Limits
 pub mod Step2
 pub mod BoxSpace
 pub mod BoxRoot
