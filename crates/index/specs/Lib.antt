@@ -1,2 +1,4 @@
 pub mod Numbers
 pub mod Answers
+pub mod Check
+pub mod Walks

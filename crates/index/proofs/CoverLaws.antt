@@ -1,0 +1,168 @@
+-- Lists of rectangles against each other: what the code's cuts and scans say of the tests.
+use mathlib.Core.Path.{_≡_, refl, sym, ap, _∙_}
+use mathlib.Core.Bool.{Bool, true, false, _&&_, not, and-true, and-assoc}
+use mathlib.Core.List.{List, [], _∷_, _++_}
+use Prim.Native.Nat.{ℕ, _+_, _<_, _≤_}
+use native.Mathlib.Omega.{arith}
+use borrow.Author.Tests.{lt-ltb, le-ltb}
+use lib.ListN.{drop}
+use Rattle.geometry.specs.declared.rect.Rect.{Rect}
+use Rattle.geometry.specs.declared.rect.Common.{Common}
+use Rattle.geometry.specs.declared.rect.Common.the-variants.{Part, Nothing}
+use Rattle.geometry.specs.Cells.{nonEmpty}
+use Rattle.geometry.specs.Common.{overlap, unlessEmpty, commonPart, sharesWith}
+use Rattle.geometry.specs.Cut.{cut, xCeiling, xFloor, yCeiling, yFloor}
+use Rattle.geometry.specs.Numbers.{rectAt, rectsIn}
+use Rattle.geometry.specs.Refine.{anyOf}
+use Rattle.geometry.proofs.Booleans.{is-false, not-both}
+use Rattle.geometry.proofs.CellLaws.{some-of, of-some}
+use Rattle.geometry.proofs.NumberLaws.{rects-next, rects-end}
+use Rattle.geometry.proofs.RectWays.{is-part, is-nothing}
+use Rattle.memory.specs.SoundTest.{allPass, coveredBy, insideOf, apart}
+use Rattle.memory.proofs.SoundTested.{covered-none, covered-cons}
+use Rattle.index.proofs.PassLoops.{Passing, passing-start, passing-end, passing-stop, passing-on}
+
+pass-append : {A : Type 0} (f : A → Bool) (l k : List A) → allPass f (l ++ k) ≡ allPass f l && allPass f k
+unfolding allPass
+pass-append f [] k = refl
+pass-append f (a ∷ l) k = ap (λ b. f a && b) (pass-append f l k) ∙ sym (and-assoc (f a) (allPass f l) (allPass f k))
+
+-- nothing of an empty rectangle is left
+module _ (f : Rect → Bool) (r : Rect) where
+  pub left-flat : r .urx ≤ r .llx → true ≡ allPass f (unlessEmpty r)
+  unfolding unlessEmpty nonEmpty allPass
+  left-flat h = rw (le-ltb (r .llx) (r .urx) h)
+
+  pub left-low : r .llx < r .urx → r .ury ≤ r .lly → true ≡ allPass f (unlessEmpty r)
+  unfolding unlessEmpty nonEmpty allPass
+  left-low h k = rw (lt-ltb (r .llx) (r .urx) h, le-ltb (r .lly) (r .ury) k)
+
+  left-some : r .llx < r .urx → r .lly < r .ury → allPass f (unlessEmpty r) ≡ f r
+  unfolding unlessEmpty nonEmpty allPass
+  left-some h k = rw (lt-ltb (r .llx) (r .urx) h, lt-ltb (r .lly) (r .ury) k) (and-true (f r))
+
+-- what is left of a rectangle that is not empty, from the i-th of n rectangles on
+module _ (m : List ℕ) (n i : ℕ) (r : Rect) (x : r .llx < r .urx) (y : r .lly < r .ury) where
+  pub left-end : n ≤ i → false ≡ allPass (coveredBy (drop i (rectsIn m n))) (unlessEmpty r)
+  left-end h = sym (left-some _ r x y ∙ ap (λ p. coveredBy p r) (rects-end m n i h) ∙ covered-none r)
+
+  module _ (s : Rect) (k : Common) (h : i < n) (e : s ≡ rectAt m i) (g : k ≡ commonPart r s) where
+    left-cut : allPass (coveredBy (drop i (rectsIn m n))) (unlessEmpty r) ≡ allPass (coveredBy (drop (i + 1) (rectsIn m n))) (cut r s)
+    left-cut =
+        left-some _ r x y ∙ ap (λ p. coveredBy p r) (rects-next m n i h ∙ ap (λ q. q ∷ drop (i + 1) (rectsIn m n)) (sym e))
+        ∙ covered-cons s (drop (i + 1) (rectsIn m n)) r
+
+    pub left-apart : (b : Bool) → k ≡ Nothing → b ≡ allPass (coveredBy (drop (i + 1) (rectsIn m n))) (unlessEmpty r)
+        → b ≡ allPass (coveredBy (drop i (rectsIn m n))) (unlessEmpty r)
+    unfolding cut allPass
+    left-apart b q a =
+        a ∙ left-some _ r x y ∙ sym (left-cut ∙ rw (is-nothing r s k g q) (and-true (coveredBy (drop (i + 1) (rectsIn m n)) r)))
+
+    module _ (u : Rect) (q : k ≡ Part u) where
+      -- the pieces of the cut are tested one after another
+      pieces : allPass (coveredBy (drop i (rectsIn m n))) (unlessEmpty r) ≡
+          allPass (coveredBy (drop (i + 1) (rectsIn m n))) (unlessEmpty (record { llx = s .urx; lly = r .lly; urx = r .urx; ury = r .ury }))
+          && allPass (coveredBy (drop (i + 1) (rectsIn m n))) (unlessEmpty (record { llx = r .llx; lly = r .lly; urx = s .llx; ury = r .ury }))
+          && allPass (coveredBy (drop (i + 1) (rectsIn m n))) (unlessEmpty (record { llx = u .llx; lly = s .ury; urx = u .urx; ury = r .ury }))
+          && allPass (coveredBy (drop (i + 1) (rectsIn m n))) (unlessEmpty (record { llx = u .llx; lly = r .lly; urx = u .urx; ury = s .lly }))
+      unfolding cut xCeiling xFloor yCeiling yFloor
+      pieces =
+          let o = is-part r s k g u q in
+          left-cut ∙ rw (o .0, o .1) (simp pass-append)
+
+      module _ (a : Bool) (ea : a ≡ allPass (coveredBy (drop (i + 1) (rectsIn m n))) (unlessEmpty (record { llx = s .urx; lly = r .lly; urx = r .urx; ury = r .ury }))) where
+        pub left-stop-1 : a ≡ false → false ≡ allPass (coveredBy (drop i (rectsIn m n))) (unlessEmpty r)
+        left-stop-1 f = rw (pieces, ← ea, f)
+
+        module _ (fa : a ≡ true) (b : Bool) (eb : b ≡ allPass (coveredBy (drop (i + 1) (rectsIn m n))) (unlessEmpty (record { llx = r .llx; lly = r .lly; urx = s .llx; ury = r .ury }))) where
+          pub left-stop-2 : b ≡ false → false ≡ allPass (coveredBy (drop i (rectsIn m n))) (unlessEmpty r)
+          left-stop-2 f = rw (pieces, ← ea, ← eb, fa, f)
+
+          module _ (fb : b ≡ true) (c : Bool) (ec : c ≡ allPass (coveredBy (drop (i + 1) (rectsIn m n))) (unlessEmpty (record { llx = u .llx; lly = s .ury; urx = u .urx; ury = r .ury }))) where
+            pub left-stop-3 : c ≡ false → false ≡ allPass (coveredBy (drop i (rectsIn m n))) (unlessEmpty r)
+            left-stop-3 f = rw (pieces, ← ea, ← eb, ← ec, fa, fb, f)
+
+            pub left-last : (d : Bool) → c ≡ true → d ≡ allPass (coveredBy (drop (i + 1) (rectsIn m n))) (unlessEmpty (record { llx = u .llx; lly = r .lly; urx = u .urx; ury = s .lly }))
+                → d ≡ allPass (coveredBy (drop i (rectsIn m n))) (unlessEmpty r)
+            left-last d f ed = rw (pieces, ← ea, ← eb, ← ec, fa, fb, f) ed
+
+-- an empty rectangle is not covered: no rectangle cuts it
+module _ (r : Rect) (e : nonEmpty r ≡ false) where
+  uncut : (s : Rect) → nonEmpty (overlap r s) ≡ false
+  unfolding overlap
+  uncut s = is-false _ λ t.
+      let o = some-of (overlap r s) t in
+      let a = o .wide in
+      let b = o .high in
+      not-both _ (of-some r (record { wide = omega arith; high = omega arith })) e
+
+  pub covered-empty : (p : List Rect) → false ≡ coveredBy p r
+  unfolding allPass cut
+  covered-empty [] = sym (covered-none r)
+  covered-empty (s ∷ p) = covered-empty p ∙ sym (covered-cons s p r ∙ rw (uncut s) (and-true (coveredBy p r)))
+
+module _ (m : List ℕ) (n : ℕ) (r : Rect) where
+  pub covered-flat : r .urx ≤ r .llx → false ≡ coveredBy (rectsIn m n) r
+  unfolding nonEmpty
+  covered-flat h = covered-empty r (rw (le-ltb (r .llx) (r .urx) h)) (rectsIn m n)
+
+  pub covered-low : r .llx < r .urx → r .ury ≤ r .lly → false ≡ coveredBy (rectsIn m n) r
+  unfolding nonEmpty
+  covered-low h k = covered-empty r (rw (lt-ltb (r .llx) (r .urx) h, le-ltb (r .lly) (r .ury) k)) (rectsIn m n)
+
+  pub covered-whole : (b : Bool) → r .llx < r .urx → r .lly < r .ury → b ≡ allPass (coveredBy (drop 0 (rectsIn m n))) (unlessEmpty r) → b ≡ coveredBy (rectsIn m n) r
+  covered-whole b x y e = e ∙ left-some (coveredBy (rectsIn m n)) r x y
+
+-- whether a list is inside a polygon, rectangle by rectangle
+pub record Insides (p : List Rect) (q : List ℕ) (k i : ℕ) (w : Bool) : Type 0 where
+  pub i-le : i ≤ k
+  pub passing : Passing (coveredBy p) (rectsIn q k) i w
+
+pub inside-start : (p : List Rect) (q : List ℕ) (k : ℕ) → Insides p q k 0 (insideOf p (rectsIn q k))
+unfolding insideOf
+inside-start p q k = record { i-le = omega arith; passing = passing-start (coveredBy p) (rectsIn q k) }
+
+module _ (p : List Rect) (q : List ℕ) (k i : ℕ) (w : Bool) (v : Insides p q k i w) where
+  pub inside-end : k ≤ i → true ≡ w
+  inside-end h = passing-end (coveredBy p) (rectsIn q k) i w (v .passing) (rects-end q k i h)
+
+  module _ (h : i < k) (r : Rect) (e : r ≡ rectAt q i) (b : Bool) (f : b ≡ coveredBy p r) where
+    pub inside-stop : b ≡ false → false ≡ w
+    inside-stop g = passing-stop (coveredBy p) (rectsIn q k) i w (v .passing) (rectAt q i) (rects-next q k i h) (ap (coveredBy p) (sym e) ∙ sym f ∙ g)
+
+    pub inside-on : b ≡ true → Insides p q k (i + 1) w
+    inside-on g = record {
+      i-le = omega arith;
+      passing = passing-on (coveredBy p) (rectsIn q k) i w (v .passing) (rectAt q i) (rects-next q k i h) (ap (coveredBy p) (sym e) ∙ sym f ∙ g);
+    }
+
+-- a rectangle shares no cell with a list
+unfoldable pub noneShares : List Rect → Rect → Bool
+noneShares q r = not (anyOf (sharesWith r) q)
+
+-- whether two lists share no cell, rectangle by rectangle of the first
+pub record Aparts (p : List ℕ) (n : ℕ) (q : List Rect) (i : ℕ) (w : Bool) : Type 0 where
+  pub i-le : i ≤ n
+  pub passing : Passing (noneShares q) (rectsIn p n) i w
+
+pub apart-start : (p : List ℕ) (n : ℕ) (q : List Rect) → Aparts p n q 0 (apart (rectsIn p n) q)
+unfolding apart noneShares
+apart-start p n q = record { i-le = omega arith; passing = passing-start (noneShares q) (rectsIn p n) }
+
+module _ (p : List ℕ) (n : ℕ) (q : List Rect) (i : ℕ) (w : Bool) (v : Aparts p n q i w) where
+  pub apart-end : n ≤ i → true ≡ w
+  apart-end h = passing-end (noneShares q) (rectsIn p n) i w (v .passing) (rects-end p n i h)
+
+  module _ (h : i < n) (r : Rect) (e : r ≡ rectAt p i) (b : Bool) (f : b ≡ anyOf (sharesWith r) q) where
+    shares-is : noneShares q (rectAt p i) ≡ not b
+    unfolding noneShares
+    shares-is = ap (λ s. not (anyOf (sharesWith s) q)) (sym e) ∙ ap not (sym f)
+
+    pub apart-stop : b ≡ true → false ≡ w
+    apart-stop g = passing-stop (noneShares q) (rectsIn p n) i w (v .passing) (rectAt p i) (rects-next p n i h) (shares-is ∙ ap not g)
+
+    pub apart-on : b ≡ false → Aparts p n q (i + 1) w
+    apart-on g = record {
+      i-le = omega arith;
+      passing = passing-on (noneShares q) (rectsIn p n) i w (v .passing) (rectAt p i) (rects-next p n i h) (shares-is ∙ ap not g);
+    }

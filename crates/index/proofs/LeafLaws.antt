@@ -1,0 +1,174 @@
+-- A leaf's entries: what the code's scans say of the tests.
+use mathlib.Core.Path.{_≡_, refl, sym, ap, _∙_}
+use mathlib.Core.Bool.{Bool, true, false, _||_}
+use mathlib.Core.List.{List, [], _∷_, _++_}
+use Prim.Native.Nat.{ℕ, zero, suc, _+_, _*_, _-_, _<_, _≤_}
+use native.Mathlib.Omega.{arith}
+use native.Mathlib.Decide.{decLt}
+use native.Mathlib.Numerals.{add-one}
+use borrow.Author.Tests.{eq-eqb, ne-eqb}
+use lib.ListN.{length, take, drop, getD, drop-of-length-le, length-drop, List·getD-append}
+use lib.Seq.{drop-cons, getD-at, take-all}
+use Rattle.geometry.specs.declared.rect.Cell.{Cell}
+use Rattle.geometry.specs.declared.rect.Rect.{Rect}
+use Rattle.geometry.specs.Cells.{hasCell, anyHas}
+use Rattle.geometry.specs.Numbers.{rectAt, rectsIn}
+use Rattle.geometry.specs.Refine.{anyOf}
+use Rattle.geometry.proofs.ScanLoops.{Scan, scan-all, scan-hit, scan-miss}
+use Rattle.plane.specs.Lines.{CellEntry}
+use Rattle.memory.specs.Layout.{itemCount, polygonIn, entryIn, entriesIn}
+use Rattle.memory.specs.SoundTest.{allPass, pairsPass, apartTest, itemTest}
+use Rattle.memory.proofs.ReadingLaws.{entries-length}
+use Rattle.index.specs.Answers.{fanout}
+use Rattle.index.specs.Check.{NodePart}
+use Rattle.index.proofs.PassLoops.{Passing, passing-start, passing-end, passing-stop, passing-on, Pairing, pairing-start, pairing-end, pairing-stop, pairing-on}
+
+-- a rectangle has the cell, the cell first
+unfoldable pub cellIn : Cell → Rect → Bool
+cellIn c r = hasCell r c
+
+any-cell : (l : List Rect) (c : Cell) → anyHas l c ≡ anyOf (cellIn c) l
+unfolding anyHas anyOf cellIn
+any-cell [] c = refl
+any-cell (r ∷ l) c = ap (λ b. hasCell r c || b) (any-cell l c)
+
+module _ (m : List ℕ) (n : ℕ) (c : Cell) where
+  pub has-start : 4 * n ≤ length m → Scan (cellIn c) m n 0 (anyHas (rectsIn m n) c)
+  has-start h = rw (any-cell (rectsIn m n) c) (scan-all (cellIn c) m n 0 h)
+
+  module _ (i : ℕ) (w : Bool) (v : Scan (cellIn c) m n i w) (r : Rect) (b : Bool) (h : i < n) (e : r ≡ rectAt m i) (f : b ≡ hasCell r c) where
+    pub has-hit : b ≡ true → true ≡ w
+    unfolding cellIn
+    has-hit = scan-hit (cellIn c) m n i w v r b h e f
+
+    pub has-miss : b ≡ false → Scan (cellIn c) m n (i + 1) w
+    unfolding cellIn
+    has-miss = scan-miss (cellIn c) m n i w v r b h e f
+
+-- any entry
+abbrev none : CellEntry
+none = record { cell = record { x = 0; y = 0 }; tag = 0 }
+
+entries-at : (p : List ℕ) (n i : ℕ) → i < n → getD (entriesIn p n) i none ≡ entryIn p i
+unfolding entriesIn
+entries-at p zero i h = absurd (omega arith)
+entries-at p (suc n) i h = go (decLt i n) (entries-at p n i)
+  where
+    go : Dec (i < n) → (i < n → getD (entriesIn p n) i none ≡ entryIn p i) → getD (entriesIn p n ++ (entryIn p n ∷ [])) i none ≡ entryIn p i
+    go (yes k) ih = List·getD-append (entriesIn p n) _ none i (let l = entries-length p n in omega arith) ∙ ih k
+    go (no k) ih =
+        let e : n ≡ i = omega arith in
+        rw (← e) (getD-at (entriesIn p n) (entryIn p n) [] none n (entries-length p n))
+
+-- what is left from the i-th entry on
+pub entries-next : (p : List ℕ) (n i : ℕ) → i < n → drop i (entriesIn p n) ≡ entryIn p i ∷ drop (i + 1) (entriesIn p n)
+entries-next p n i h =
+    let a = entries-length p n in
+    let k : i < length (entriesIn p n) = omega arith in
+    rw (add-one, drop-cons (entriesIn p n) i none k, entries-at p n i h)
+
+pub entries-end : (p : List ℕ) (n i : ℕ) → n ≤ i → drop i (entriesIn p n) ≡ []
+entries-end p n i h =
+    let a = entries-length p n in
+    let k : length (entriesIn p n) ≤ i = omega arith in
+    drop-of-length-le (entriesIn p n) k
+
+-- the polygon's numbers as they are lent
+pub lent-rects : (p : List ℕ) → 2 ≤ length p → take (length p - 2) (drop 2 p) ≡ drop 2 p
+lent-rects p h =
+    let l = length-drop 2 p in
+    let k : length (drop 2 p) ≤ length p - 2 = omega arith in
+    take-all (length p - 2) (drop 2 p) k
+
+-- whether the polygon contains the entries, entry by entry
+pub record Holding (p : List ℕ) (i : ℕ) (w : Bool) : Type 0 where
+  pub i-le : i ≤ itemCount p
+  pub fits : NodePart p
+  pub passing : Passing (itemTest fanout 0 (polygonIn p)) (entriesIn p (itemCount p)) i w
+
+pub hold-start : (p : List ℕ) → NodePart p → Holding p 0 (allPass (itemTest fanout 0 (polygonIn p)) (entriesIn p (itemCount p)))
+hold-start p h = record { i-le = omega arith; fits = h; passing = passing-start (itemTest fanout 0 (polygonIn p)) (entriesIn p (itemCount p)) }
+
+module _ (p : List ℕ) (i : ℕ) (w : Bool) (v : Holding p i w) where
+  pub hold-end : itemCount p ≤ i → true ≡ w
+  hold-end h = passing-end (itemTest fanout 0 (polygonIn p)) (entriesIn p (itemCount p)) i w (v .passing) (entries-end p (itemCount p) i h)
+
+  module _ (h : i < itemCount p) (b : Bool)
+      (f : b ≡ anyHas (rectsIn (take (length p - 2) (drop 2 p)) (getD p 0 0)) (record { x = getD p (66 + 3 * i) 0; y = getD p (66 + 3 * i + 1) 0 })) where
+    hold-is : itemTest fanout 0 (polygonIn p) (entryIn p i) ≡ b
+    unfolding itemTest entryIn
+    hold-is =
+        let l = v .fits .length-is in
+        sym (f ∙ ap (λ q. anyHas (rectsIn q (getD p 0 0)) (record { x = getD p (66 + 3 * i) 0; y = getD p (66 + 3 * i + 1) 0 })) (lent-rects p (omega arith)))
+
+    pub hold-stop : b ≡ false → false ≡ w
+    hold-stop g = passing-stop (itemTest fanout 0 (polygonIn p)) (entriesIn p (itemCount p)) i w (v .passing) (entryIn p i) (entries-next p (itemCount p) i h) (hold-is ∙ g)
+
+    pub hold-on : b ≡ true → Holding p (i + 1) w
+    hold-on g = record {
+      i-le = omega arith;
+      fits = v .fits;
+      passing = passing-on (itemTest fanout 0 (polygonIn p)) (entriesIn p (itemCount p)) i w (v .passing) (entryIn p i) (entries-next p (itemCount p) i h) (hold-is ∙ g);
+    }
+
+-- whether the entries from the j-th on have other cells than the i-th
+pub record Unlike (p : List ℕ) (n i j : ℕ) (w : Bool) : Type 0 where
+  pub j-le : j ≤ n
+  pub fits : 66 + 3 * n ≤ length p
+  pub passing : Passing (apartTest fanout 0 (entryIn p i)) (entriesIn p n) j w
+
+pub unlike-start : (p : List ℕ) (n i : ℕ) → i < n → 66 + 3 * n ≤ length p
+    → Unlike p n i (i + 1) (allPass (apartTest fanout 0 (entryIn p i)) (drop (i + 1) (entriesIn p n)))
+unlike-start p n i h k = record { j-le = omega arith; fits = k; passing = record { rest = refl } }
+
+module _ (p : List ℕ) (n i j : ℕ) (w : Bool) (v : Unlike p n i j w) where
+  pub unlike-end : n ≤ j → true ≡ w
+  unlike-end h = passing-end (apartTest fanout 0 (entryIn p i)) (entriesIn p n) j w (v .passing) (entries-end p n j h)
+
+  module _ (h : j < n) where
+    unlike-on : apartTest fanout 0 (entryIn p i) (entryIn p j) ≡ true → Unlike p n i (j + 1) w
+    unlike-on g = record {
+      j-le = omega arith;
+      fits = v .fits;
+      passing = passing-on (apartTest fanout 0 (entryIn p i)) (entriesIn p n) j w (v .passing) (entryIn p j) (entries-next p n j h) g;
+    }
+
+    pub unlike-x : (getD p (66 + 3 * j) 0 ≡ getD p (66 + 3 * i) 0 → ⊥) → Unlike p n i (j + 1) w
+    unfolding apartTest entryIn
+    unlike-x f = unlike-on (rw (ne-eqb (getD p (66 + 3 * i) 0) (getD p (66 + 3 * j) 0) (λ e. f (sym e))))
+
+    module _ (x : getD p (66 + 3 * j) 0 ≡ getD p (66 + 3 * i) 0) where
+      pub unlike-y : (getD p (66 + 3 * j + 1) 0 ≡ getD p (66 + 3 * i + 1) 0 → ⊥) → Unlike p n i (j + 1) w
+      unfolding apartTest entryIn
+      unlike-y f =
+          unlike-on (rw (eq-eqb (getD p (66 + 3 * i) 0) (getD p (66 + 3 * j) 0) (sym x), ne-eqb (getD p (66 + 3 * i + 1) 0) (getD p (66 + 3 * j + 1) 0) (λ e. f (sym e))))
+
+      pub unlike-stop : getD p (66 + 3 * j + 1) 0 ≡ getD p (66 + 3 * i + 1) 0 → false ≡ w
+      unfolding apartTest entryIn
+      unlike-stop f =
+          passing-stop (apartTest fanout 0 (entryIn p i)) (entriesIn p n) j w (v .passing) (entryIn p j) (entries-next p n j h)
+          (rw (eq-eqb (getD p (66 + 3 * i) 0) (getD p (66 + 3 * j) 0) (sym x), eq-eqb (getD p (66 + 3 * i + 1) 0) (getD p (66 + 3 * j + 1) 0) (sym f)))
+
+-- whether no two entries have one cell
+pub record Differing (p : List ℕ) (i : ℕ) (w : Bool) : Type 0 where
+  pub i-le : i ≤ itemCount p
+  pub fits : NodePart p
+  pub pairing : Pairing (apartTest fanout 0) (entriesIn p (itemCount p)) i w
+
+pub differ-start : (p : List ℕ) → NodePart p → Differing p 0 (pairsPass (apartTest fanout 0) (entriesIn p (itemCount p)))
+differ-start p h = record { i-le = omega arith; fits = h; pairing = pairing-start (apartTest fanout 0) (entriesIn p (itemCount p)) }
+
+module _ (p : List ℕ) (i : ℕ) (w : Bool) (v : Differing p i w) where
+  pub differ-end : itemCount p ≤ i → true ≡ w
+  differ-end h = pairing-end (apartTest fanout 0) (entriesIn p (itemCount p)) i w (v .pairing) (entries-end p (itemCount p) i h)
+
+  module _ (h : i < itemCount p) (b : Bool) (f : b ≡ allPass (apartTest fanout 0 (entryIn p i)) (drop (i + 1) (entriesIn p (itemCount p)))) where
+    pub differ-stop : b ≡ false → false ≡ w
+    differ-stop g = pairing-stop (apartTest fanout 0) (entriesIn p (itemCount p)) i w (v .pairing) (entryIn p i) (entries-next p (itemCount p) i h) (sym f ∙ g)
+
+    pub differ-on : b ≡ true → Differing p (i + 1) w
+    differ-on g = record {
+      i-le = omega arith;
+      fits = v .fits;
+      pairing = pairing-on (apartTest fanout 0) (entriesIn p (itemCount p)) i w (v .pairing) (entryIn p i) (entries-next p (itemCount p) i h) (sym f ∙ g);
+    }

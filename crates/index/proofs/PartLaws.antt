@@ -1,0 +1,117 @@
+-- A node's part: the tests of its counts and of its unused numbers, as the code takes them.
+use mathlib.Core.Path.{_≡_, refl, sym, ap, _∙_}
+use mathlib.Core.Bool.{Bool, true, false, _&&_}
+use mathlib.Core.List.{List, []}
+use Prim.Native.Nat.{ℕ, _+_, _*_, _-_, _<_, _≤_}
+use native.Mathlib.Omega.{arith}
+use native.Mathlib.Nat.{mul-le-mul}
+use native.Mathlib.Numerals.{add-one}
+use borrow.Author.Tests.{le-leb, lt-leb, lt-ltb, le-ltb, leb-true, eq-eqb, ne-eqb}
+use lib.Dec.{leb, eqb}
+use lib.ListN.{length, getD, take, drop, drop-of-length-le, length-drop}
+use lib.Seq.{drop-cons, take-all}
+use Rattle.geometry.proofs.Booleans.{all4}
+use Rattle.memory.specs.Layout.{partsOf, part, inUse, allZero, rectCount, itemCount, countsFit, restZero, nodeFits}
+use Rattle.memory.proofs.ReadingLaws.{part-length}
+use Rattle.index.specs.Answers.{fanout}
+use Rattle.index.specs.Check.{NodePart}
+
+-- Whether all numbers are zero is w, and it is settled by those from the i-th on.
+pub record Zeros (s : List ℕ) (i : ℕ) (w : Bool) : Type 0 where
+  pub i-le : i ≤ length s
+  pub rest : w ≡ allZero (drop i s)
+
+pub zeros-start : (s : List ℕ) → Zeros s 0 (allZero s)
+zeros-start s = record { i-le = omega arith; rest = refl }
+
+module _ (s : List ℕ) (i : ℕ) (w : Bool) (v : Zeros s i w) where
+  zeros-next : i < length s → w ≡ eqb (getD s i 0) 0 && allZero (drop (i + 1) s)
+  unfolding allZero
+  zeros-next h = v .rest ∙ rw (add-one, drop-cons s i 0)
+
+  pub zeros-hit : i < length s → (getD s i 0 ≡ 0 → ⊥) → false ≡ w
+  zeros-hit h e = rw (zeros-next h, ne-eqb (getD s i 0) 0 e)
+
+  pub zeros-miss : i < length s → getD s i 0 ≡ 0 → Zeros s (i + 1) w
+  zeros-miss h e = record { i-le = omega arith; rest = zeros-next h ∙ rw (eq-eqb (getD s i 0) 0 e) }
+
+  pub zeros-end : length s ≤ i → true ≡ w
+  unfolding allZero
+  zeros-end h = let e : drop i s ≡ [] = drop-of-length-le s h in rw (v .rest, e)
+
+module _ (p : List ℕ) where
+  pub counts-1 : rectCount p < 1 → false ≡ countsFit fanout p
+  unfolding countsFit
+  counts-1 a = rw (lt-leb 1 (rectCount p) a)
+
+  pub counts-2 : 1 ≤ rectCount p → 16 < rectCount p → false ≡ countsFit fanout p
+  unfolding countsFit
+  counts-2 a b = rw (le-leb 1 (rectCount p) a, lt-leb (rectCount p) 16 b)
+
+  pub counts-3 : 1 ≤ rectCount p → rectCount p ≤ 16 → itemCount p < 1 → false ≡ countsFit fanout p
+  unfolding countsFit
+  counts-3 a b c = rw (le-leb 1 (rectCount p) a, le-leb (rectCount p) 16 b, lt-leb 1 (itemCount p) c)
+
+  pub counts-4 : 1 ≤ rectCount p → rectCount p ≤ 16 → 1 ≤ itemCount p → leb (itemCount p) 8 ≡ countsFit fanout p
+  unfolding countsFit
+  counts-4 a b c = rw (le-leb 1 (rectCount p) a, le-leb (rectCount p) 16 b, le-leb 1 (itemCount p) c)
+
+-- the numbers of a part's items
+pub few-numbers : (w n : ℕ) → w ≤ 3 → n ≤ 8 → w * n ≤ 24
+few-numbers w n a b = mul-le-mul a b
+
+-- the unused numbers: those behind the rectangles were tested, and then those behind the items
+module _ (w : ℕ) (p : List ℕ) (v : NodePart p) (h : w ≤ 3) (a : Bool)
+    (e : a ≡ allZero (take (66 - (2 + 4 * getD p 0 0)) (drop (2 + 4 * getD p 0 0) p))) where
+  between : take (66 - (2 + 4 * getD p 0 0)) (drop (2 + 4 * getD p 0 0) p) ≡ take (64 - 4 * rectCount p) (drop (2 + 4 * rectCount p) p)
+  between =
+      let q : 66 - (2 + 4 * getD p 0 0) ≡ 64 - 4 * rectCount p = omega arith in
+      ap (λ (n : ℕ). take n (drop (2 + 4 * getD p 0 0) p)) q
+
+  pub rest-stop : a ≡ false → false ≡ restZero w p
+  unfolding restZero
+  rest-stop f = rw (sym (ap allZero between), ← e, f)
+
+  pub rest-last : (b : Bool) → a ≡ true → b ≡ allZero (take (length p - (66 + w * getD p 1 0)) (drop (66 + w * getD p 1 0) p)) → b ≡ restZero w p
+  unfolding restZero
+  rest-last b f g =
+      let l = length-drop (66 + w * getD p 1 0) p in
+      let k : length (drop (66 + w * getD p 1 0) p) ≤ length p - (66 + w * getD p 1 0) = omega arith in
+      rw (sym (ap allZero between), ← e, f) (g ∙ ap allZero (take-all (length p - (66 + w * getD p 1 0)) (drop (66 + w * getD p 1 0) p) k))
+
+-- part k as it is lent
+pub lent-part : (m : List ℕ) (k : ℕ) → take (64 + 128 * k + 128 - (64 + 128 * k)) (drop (64 + 128 * k) m) ≡ part m k
+unfolding part
+lent-part m k =
+    let q : 64 + 128 * k + 128 - (64 + 128 * k) ≡ 128 = omega arith in
+    ap (λ (n : ℕ). take n (drop (64 + 128 * k) m)) q
+
+-- a part whose counts fit
+pub counted-part : (p : List ℕ) → length p ≡ 128 → countsFit fanout p ≡ true → NodePart p
+unfolding countsFit
+counted-part p l e =
+    let g = all4 (leb 1 (rectCount p)) (leb (rectCount p) 16) (leb 1 (itemCount p)) (leb (itemCount p) 8) e in
+    record { length-is = l; few-rects = leb-true _ _ (g .1); few-items = leb-true _ _ (g .3) }
+
+-- whether part k is a node's
+module _ (w : ℕ) (m : List ℕ) (k : ℕ) where
+  pub fits-stop-1 : partsOf m ≤ k → false ≡ nodeFits fanout w m k
+  unfolding nodeFits
+  fits-stop-1 h = rw (le-ltb k (partsOf m) h)
+
+  module _ (h : k < partsOf m) (a : Bool) (e : a ≡ inUse m k) where
+    pub fits-stop-2 : a ≡ false → false ≡ nodeFits fanout w m k
+    unfolding nodeFits
+    fits-stop-2 f = rw (lt-ltb k (partsOf m) h, ← e, f)
+
+    module _ (f : a ≡ true) (b : Bool) (g : b ≡ countsFit fanout (take (64 + 128 * k + 128 - (64 + 128 * k)) (drop (64 + 128 * k) m))) where
+      pub fits-stop-3 : b ≡ false → false ≡ nodeFits fanout w m k
+      unfolding nodeFits
+      fits-stop-3 i = rw (lt-ltb k (partsOf m) h, ← e, f, ← (g ∙ ap (countsFit fanout) (lent-part m k)), i)
+
+      pub fits-part : b ≡ true → NodePart (take (64 + 128 * k + 128 - (64 + 128 * k)) (drop (64 + 128 * k) m))
+      fits-part i = counted-part _ (ap length (lent-part m k) ∙ part-length m k h) (sym g ∙ i)
+
+      pub fits-last : (d : Bool) → b ≡ true → d ≡ restZero w (take (64 + 128 * k + 128 - (64 + 128 * k)) (drop (64 + 128 * k) m)) → d ≡ nodeFits fanout w m k
+      unfolding nodeFits
+      fits-last d i j = rw (lt-ltb k (partsOf m) h, ← e, f, ← (g ∙ ap (countsFit fanout) (lent-part m k)), i) (j ∙ ap (restZero w) (lent-part m k))

@@ -1,0 +1,109 @@
+-- The walk of the point query: an entry's test, the leaf, the loop over the children, and what was found.
+use Prim.Native.Nat.{ℕ, _+_, _*_, _-_, _≤_, _<_}
+use mathlib.Core.Path.{_≡_, refl, sym, ap, _∙_}
+use mathlib.Core.Bool.{Bool, true, false}
+use mathlib.Core.List.{List, [], _∷_, _++_}
+use native.Mathlib.Omega.{arith}
+use borrow.Author.Tests.{eq-eqb, ne-eqb}
+use lib.Dec.{eqb}
+use lib.ListN.{drop, getD, take}
+use Rattle.geometry.specs.declared.rect.Cell.{Cell}
+use Rattle.plane.specs.Lines.{CellEntry}
+use Rattle.memory.specs.Layout.{part, itemCount, entryIn, polygonIn}
+use Rattle.index.specs.declared.walk.Found.{Found}
+use Rattle.index.specs.Walks.{hasTest, cellTest, visitsBelow, entriesBelow, leafEntries, Walkable, found, foundOf, joined}
+use Rattle.index.proofs.WalkLeaf.{AtEntry, entry-hit}
+use Rattle.index.proofs.WalkRows.{leaf-visits, leaf-entries, part-is}
+use Rattle.index.proofs.WalkLoop.{AtChild, child-start, child-miss, child-hit, end-visits, end-entries, so-far-few}
+
+-- an entry's test, coordinate by coordinate
+module _ (p : List ℕ) (i : ℕ) (c : Cell) where
+  pub other-x : (getD p (66 + 3 * i) 0 ≡ c .x → ⊥) → false ≡ cellTest c (entryIn p i)
+  unfolding cellTest entryIn
+  other-x h = rw (ne-eqb (getD p (66 + 3 * i) 0) (c .x) h)
+
+  pub same-x : getD p (66 + 3 * i) 0 ≡ c .x → eqb (getD p (66 + 3 * i + 1) 0) (c .y) ≡ cellTest c (entryIn p i)
+  unfolding cellTest entryIn
+  same-x h = rw (eq-eqb (getD p (66 + 3 * i) 0) (c .x) h)
+
+-- what two walks found, taken apart by whether the first found an entry
+module _ (a b : Found) where
+  pub joined-first : a .held ≡ true → record { held = true; tag = a .tag; visits = a .visits + b .visits } ≡ joined a b
+  unfolding joined
+  joined-first e = rw e
+
+  pub joined-later : a .held ≡ false → record { held = b .held; tag = b .tag; visits = a .visits + b .visits } ≡ joined a b
+  unfolding joined
+  joined-later e = rw e
+
+found-append : (es fs : List CellEntry) (v w : ℕ) → joined (found es v) (found fs w) ≡ found (es ++ fs) (v + w)
+unfolding joined found foundOf
+found-append [] [] v w = refl
+found-append [] (f ∷ fs) v w = refl
+found-append (e ∷ es) [] v w = refl
+found-append (e ∷ es) (f ∷ fs) v w = refl
+
+pub found-visits : (es : List CellEntry) (v : ℕ) → found es v .visits ≡ v
+unfolding found foundOf
+found-visits [] v = refl
+found-visits (e ∷ es) v = refl
+
+-- the leaf: the first entry that passes, or none
+module _ (c : Cell) (p : List ℕ) (i : ℕ) (a : AtEntry (cellTest c) p i []) where
+  pub leaf-held : (b : Bool) → i < itemCount p → b ≡ cellTest c (entryIn p i) → b ≡ true
+      → record { held = true; tag = getD p (66 + 3 * i + 2) 0; visits = 1 } ≡ found (leafEntries (cellTest c) p) 1
+  unfolding found foundOf entryIn
+  leaf-held b h e f = rw (← (entry-hit (cellTest c) p i [] a h b e f .entries))
+
+  pub leaf-not-held : [] ≡ leafEntries (cellTest c) p → record { held = false; tag = 0; visits = 1 } ≡ found (leafEntries (cellTest c) p) 1
+  unfolding found foundOf
+  leaf-not-held e = rw (← e)
+
+module _ (c : Cell) (level : ℕ) (m : List ℕ) (lo k : ℕ) where
+  -- a node that is a leaf
+  pub point-leaf : (r : Found) → level ≡ 0 → Walkable level m lo k → r ≡ found (leafEntries (cellTest c) (take (64 + 128 * k + 128 - (64 + 128 * k)) (drop (64 + 128 * k) m))) 1
+      → r ≡ found (entriesBelow (hasTest c) (cellTest c) level m lo k) (visitsBelow (hasTest c) level m lo k)
+  point-leaf r z v e =
+      let v′ : Walkable 0 m lo k = rw z at v in
+      rw (z, leaf-entries (hasTest c) (cellTest c) m lo k v′, leaf-visits (hasTest c) (cellTest c) m lo k v′, ← (part-is 0 m lo k v′)) e
+
+-- Before the i-th child: the walk so far found what stands in a.
+pub record PointLoop (c : Cell) (level : ℕ) (m : List ℕ) (lo k i low : ℕ) (a : Found) : Type 0 where
+  pub es : List CellEntry
+  pub at : AtChild (hasTest c) (cellTest c) level m lo k i low (a .visits) es
+  pub so-far : a ≡ found es (a .visits)
+
+module _ (c : Cell) (level : ℕ) (m : List ℕ) (lo k : ℕ) where
+  pub point-start : (level ≡ 0 → ⊥) → Walkable level m lo k → PointLoop c level m lo k 0 lo (record { held = false; tag = 0; visits = 1 })
+  unfolding found foundOf
+  point-start ne v = record { es = []; at = child-start (hasTest c) (cellTest c) level m lo k ne v; so-far = refl }
+
+  module _ (i low : ℕ) (a : Found) (x : PointLoop c level m lo k i low a) where
+    pub point-end : getD m (64 + 128 * k + 1) 0 ≤ i → a ≡ found (entriesBelow (hasTest c) (cellTest c) level m lo k) (visitsBelow (hasTest c) level m lo k)
+    point-end h =
+        x .so-far ∙ ap (λ l. found l (a .visits)) (end-entries (hasTest c) (cellTest c) level m lo k i low (a .visits) (x .es) (x .at) h)
+        ∙ ap (found (entriesBelow (hasTest c) (cellTest c) level m lo k)) (end-visits (hasTest c) (cellTest c) level m lo k i low (a .visits) (x .es) (x .at) h)
+
+    module _ (h : i < getD m (64 + 128 * k + 1) 0) (b : Bool) (e : b ≡ hasTest c (polygonIn (part m (getD m (64 + 128 * k + 66 + i) 0)))) where
+      pub point-miss : (a′ : Found) → b ≡ false → a′ ≡ a → PointLoop c level m lo k (i + 1) (getD m (64 + 128 * k + 66 + i) 0 + 1) a′
+      point-miss a′ f q = rw q (record { es = x .es; at = child-miss (hasTest c) (cellTest c) level m lo k i low (a .visits) (x .es) (x .at) h b e f; so-far = x .so-far })
+
+      module _ (f : b ≡ true) (d : Found) (g : d ≡ found (entriesBelow (hasTest c) (cellTest c) (level - 1) m low (getD m (64 + 128 * k + 66 + i) 0)) (visitsBelow (hasTest c) (level - 1) m low (getD m (64 + 128 * k + 66 + i) 0))) where
+        next-at : AtChild (hasTest c) (cellTest c) level m lo k (i + 1) (getD m (64 + 128 * k + 66 + i) 0 + 1) (a .visits + d .visits)
+            (x .es ++ entriesBelow (hasTest c) (cellTest c) (level - 1) m low (getD m (64 + 128 * k + 66 + i) 0))
+        next-at =
+            let q : d .visits ≡ visitsBelow (hasTest c) (level - 1) m low (getD m (64 + 128 * k + 66 + i) 0) = ap (λ r. r .visits) g ∙ found-visits _ _ in
+            rw q (child-hit (hasTest c) (cellTest c) level m lo k i low (a .visits) (x .es) (x .at) h b e f)
+
+        pub point-room : a .visits + d .visits ≤ 4294967295
+        point-room = let q = so-far-few (hasTest c) (cellTest c) level m lo k _ _ _ _ next-at in omega arith
+
+        pub point-hit : (r a′ : Found) → r ≡ joined a d → a′ ≡ r → PointLoop c level m lo k (i + 1) (getD m (64 + 128 * k + 66 + i) 0 + 1) a′
+        point-hit r a′ y z =
+            let j = z ∙ y in
+            let q : d .visits ≡ visitsBelow (hasTest c) (level - 1) m low (getD m (64 + 128 * k + 66 + i) 0) = ap (λ r. r .visits) g ∙ found-visits _ _ in
+            let p : a′ ≡ found (x .es ++ entriesBelow (hasTest c) (cellTest c) (level - 1) m low (getD m (64 + 128 * k + 66 + i) 0)) (a .visits + d .visits) =
+            j ∙ ap (λ r. joined r d) (x .so-far) ∙ ap (joined (found (x .es) (a .visits))) g ∙ found-append (x .es) (entriesBelow (hasTest c) (cellTest c) (level - 1) m low (getD m (64 + 128 * k + 66 + i) 0)) (a .visits) _
+            ∙ ap (λ w. found (x .es ++ entriesBelow (hasTest c) (cellTest c) (level - 1) m low (getD m (64 + 128 * k + 66 + i) 0)) (a .visits + w)) (sym q) in
+            let w : a′ .visits ≡ a .visits + d .visits = ap (λ r. r .visits) p ∙ found-visits _ _ in
+            record { es = x .es ++ entriesBelow (hasTest c) (cellTest c) (level - 1) m low (getD m (64 + 128 * k + 66 + i) 0); at = rw w next-at; so-far = p ∙ ap (found _) (sym w) }

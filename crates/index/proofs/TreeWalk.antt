@@ -1,0 +1,75 @@
+-- The walk from the root of the tree that a memory reads as: it can be made, and it gives the queries' visits and entries.
+use Prim.Native.Nat.{ℕ}
+use mathlib.Core.Path.{_≡_, sym, ap, _∙_}
+use mathlib.Core.Bool.{Bool, cond}
+use mathlib.Core.List.{List, [], head?}
+use mathlib.Core.Option.{some}
+use native.Mathlib.Omega.{arith}
+use Rattle.geometry.specs.declared.rect.Cell.{Cell}
+use Rattle.geometry.specs.declared.rect.Rect.{Rect}
+use Rattle.tree.specs.Tree.{top}
+use Rattle.tree.specs.Query.{entryAt, visits, windowVisits}
+use Rattle.tree.specs.Walk.{walkVisits, walkEntries}
+use Rattle.tree.proofs.Walk.{point-visits, point-found, window-visits, window-entries}
+use Rattle.plane.specs.Lines.{CellEntry}
+use Rattle.plane.specs.Plane.{planeSpace, planeRoot}
+use Rattle.plane.specs.Windows.{planeWindow}
+use Rattle.plane.proofs.Rects.{plane-space-laws}
+use Rattle.plane.proofs.Windows.{plane-window-laws}
+use Rattle.memory.specs.Layout.{rootIn, part, polygonIn}
+use Rattle.memory.proofs.ReadingLaws.{read-as, read-sound}
+use Rattle.index.specs.Answers.{fanout, matchesIn}
+use Rattle.index.specs.Walks.{hasTest, cellTest, meetsTest, insideTest, visitsFrom, visitsBelow, entriesFrom, entriesBelow, Walkable, PolygonAt, TreeIn}
+use Rattle.index.proofs.WalkRows.{walkable, walk-polygon, polygon-is}
+
+module _ (m : List ℕ) (level root : ℕ) (v : TreeIn m level root) where
+  pub tree-walkable : Walkable level m 0 root
+  tree-walkable =
+      let t = v .tree in
+      let r = read-as fanout m t (v .reads) in
+      rw (← (v .level-is), ← (v .root-is)) (walkable (t .level) m 0 (rootIn m) (top (planeSpace fanout) t) (r .right) (omega arith) (r .root-node))
+
+  pub tree-polygon : PolygonAt m root
+  tree-polygon = walk-polygon level m 0 root tree-walkable
+
+  root-polygon : polygonIn (part m root) ≡ v .tree .root
+  root-polygon =
+      let t = v .tree in
+      let r = read-as fanout m t (v .reads) in
+      rw (← (v .root-is)) (sym (polygon-is (t .level) m 0 (rootIn m) (top (planeSpace fanout) t) (r .root-node)))
+
+  walk-visits : (t : List Rect → Bool) → cond (t (polygonIn (part m root))) (visitsBelow t level m 0 root) 0 ≡ walkVisits (planeSpace fanout) t (some (v .tree))
+  unfolding visitsBelow visitsFrom
+  walk-visits t = rw (root-polygon, ← (v .level-is), ← (v .root-is), read-as fanout m (v .tree) (v .reads) .root-node)
+
+  walk-entries : (t : List Rect → Bool) (u : CellEntry → Bool)
+      → cond (t (polygonIn (part m root))) (entriesBelow t u level m 0 root) [] ≡ walkEntries (planeSpace fanout) t u (some (v .tree))
+  unfolding entriesBelow entriesFrom
+  walk-entries t u = rw (root-polygon, ← (v .level-is), ← (v .root-is), read-as fanout m (v .tree) (v .reads) .root-node)
+
+  pub tree-visits : (c : Cell) → cond (hasTest c (polygonIn (part m root))) (visitsBelow (hasTest c) level m 0 root) 0 ≡ visits (planeSpace fanout) c (some (v .tree))
+  unfolding hasTest
+  tree-visits c =
+      walk-visits (hasTest c)
+      ∙ point-visits (planeSpace fanout) (plane-space-laws fanout) (planeRoot fanout) (some (v .tree)) (read-sound fanout m (v .tree) (v .reads) .sound) c
+
+  pub tree-entry : (c : Cell) → head? (cond (hasTest c (polygonIn (part m root))) (entriesBelow (hasTest c) (cellTest c) level m 0 root) []) ≡ entryAt (planeSpace fanout) c (some (v .tree))
+  unfolding hasTest cellTest
+  tree-entry c =
+      ap head? (walk-entries (hasTest c) (cellTest c))
+      ∙ point-found (planeSpace fanout) (plane-space-laws fanout) (planeRoot fanout) (some (v .tree)) (read-sound fanout m (v .tree) (v .reads) .sound) c
+
+  pub tree-window-visits : (w : Rect) → cond (meetsTest w (polygonIn (part m root))) (visitsBelow (meetsTest w) level m 0 root) 0
+      ≡ windowVisits (planeSpace fanout) (planeWindow fanout) w (some (v .tree))
+  unfolding meetsTest
+  tree-window-visits w =
+      walk-visits (meetsTest w)
+      ∙ window-visits (planeSpace fanout) (plane-space-laws fanout) (planeRoot fanout) (some (v .tree)) (read-sound fanout m (v .tree) (v .reads) .sound)
+      (planeWindow fanout) (plane-window-laws fanout) w
+
+  pub tree-matches : (w : Rect) → cond (meetsTest w (polygonIn (part m root))) (entriesBelow (meetsTest w) (insideTest w) level m 0 root) [] ≡ matchesIn w (some (v .tree))
+  unfolding meetsTest insideTest
+  tree-matches w =
+      walk-entries (meetsTest w) (insideTest w)
+      ∙ window-entries (planeSpace fanout) (plane-space-laws fanout) (planeRoot fanout) (some (v .tree)) (read-sound fanout m (v .tree) (v .reads) .sound)
+      (planeWindow fanout) (plane-window-laws fanout) w

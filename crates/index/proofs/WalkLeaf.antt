@@ -1,0 +1,73 @@
+-- The loop over a leaf's entries: those that passed so far and the entries that are left give all that pass.
+use Prim.Native.Nat.{ℕ, zero, suc, _+_, _≤_, _<_}
+use mathlib.Core.Path.{_≡_, refl, sym, _∙_}
+use mathlib.Core.Bool.{Bool, true, false, cond}
+use mathlib.Core.List.{List, [], _∷_, _++_, append-nil}
+use native.Mathlib.Omega.{arith}
+use native.Mathlib.Decide.{decLt}
+use mir.Syntax.{w64}
+use mir.Val.{Fits}
+use lib.ListN.{length, drop, getD, length-append, drop-of-length-le}
+use lib.Seq.{drop-append-le, drop-at, append-snoc}
+use Rattle.tree.specs.Lists.{keep}
+use Rattle.plane.specs.Lines.{CellEntry}
+use Rattle.memory.specs.Layout.{itemCount, entryIn, entriesIn}
+use Rattle.memory.proofs.ReadingLaws.{entries-length}
+use Rattle.index.specs.Walks.{leafEntries, LeafPart}
+
+-- the next entry
+next-entry : (p : List ℕ) (n i : ℕ) → i < n → drop i (entriesIn p n) ≡ entryIn p i ∷ drop (i + 1) (entriesIn p n)
+unfolding entriesIn
+next-entry p zero i h = absurd (omega arith)
+next-entry p (suc n) i h = go (decLt i n) (next-entry p n i) (entries-length p n)
+  where
+    go : Dec (i < n) → (i < n → drop i (entriesIn p n) ≡ entryIn p i ∷ drop (i + 1) (entriesIn p n)) → length (entriesIn p n) ≡ n
+        → drop i (entriesIn p n ++ (entryIn p n ∷ [])) ≡ entryIn p i ∷ drop (i + 1) (entriesIn p n ++ (entryIn p n ∷ []))
+    go (yes k) ih l =
+        let a : i ≤ length (entriesIn p n) = omega arith in
+        let b : i + 1 ≤ length (entriesIn p n) = omega arith in
+        rw (drop-append-le i (entriesIn p n) (entryIn p n ∷ []) a, drop-append-le (i + 1) (entriesIn p n) (entryIn p n ∷ []) b, ih k)
+    go (no k) ih l =
+        let e : i ≡ n = omega arith in
+        let f : length (entriesIn p n ++ (entryIn p n ∷ [])) ≤ n + 1 = rw length-append (omega arith) in
+        rw (e, drop-at (entriesIn p n) (entryIn p n ∷ []) n l, drop-of-length-le (entriesIn p n ++ (entryIn p n ∷ [])) f)
+
+-- Before the i-th entry of a leaf's part: es passed so far.
+pub record AtEntry (u : CellEntry → Bool) (p : List ℕ) (i : ℕ) (es : List CellEntry) : Type 0 where
+  pub i-le : i ≤ itemCount p
+  pub leaf : LeafPart p
+  pub entries : es ++ keep u (drop i (entriesIn p (itemCount p))) ≡ leafEntries u p
+
+pub leaf-count-fits : (p : List ℕ) → LeafPart p → Fits w64 (getD p 1 0)
+leaf-count-fits p v = let f = v .few in omega arith
+
+module _ (u : CellEntry → Bool) (p : List ℕ) where
+  pub entry-start : LeafPart p → AtEntry u p 0 []
+  unfolding leafEntries
+  entry-start v = record { i-le = omega arith; leaf = v; entries = refl }
+
+  module _ (i : ℕ) (es : List CellEntry) (a : AtEntry u p i es) where
+    pub entry-end : itemCount p ≤ i → es ≡ leafEntries u p
+    unfolding keep
+    entry-end h =
+        let l = entries-length p (itemCount p) in
+        let s : length (entriesIn p (itemCount p)) ≤ i = omega arith in
+        sym (append-nil es) ∙ (rw (drop-of-length-le (entriesIn p (itemCount p)) s) at (a .entries))
+
+    pub entry-few : i < itemCount p → i < 8
+    entry-few h = let f = a .leaf .few in omega arith
+
+    module _ (h : i < itemCount p) (b : Bool) (e : b ≡ u (entryIn p i)) where
+      whole : es ++ cond b (entryIn p i ∷ keep u (drop (i + 1) (entriesIn p (itemCount p)))) (keep u (drop (i + 1) (entriesIn p (itemCount p)))) ≡ leafEntries u p
+      unfolding keep
+      whole = rw e (rw (next-entry p (itemCount p) i h) at (a .entries))
+
+      pub entry-miss : b ≡ false → AtEntry u p (i + 1) es
+      entry-miss f = record { i-le = omega arith; leaf = a .leaf; entries = rw f at whole }
+
+      pub entry-hit : b ≡ true → AtEntry u p (i + 1) (es ++ (entryIn p i ∷ []))
+      entry-hit f = record {
+        i-le = omega arith;
+        leaf = a .leaf;
+        entries = append-snoc es (entryIn p i) (keep u (drop (i + 1) (entriesIn p (itemCount p)))) ∙ (rw f at whole);
+      }

@@ -1,0 +1,120 @@
+-- The walks of the window query: an entry's test, the counts of a leaf and of the children, and the list that is written.
+use Prim.Native.Nat.{ℕ, _+_, _*_, _-_, _≤_, _<_}
+use mathlib.Core.Path.{_≡_, refl, ap, _∙_}
+use mathlib.Core.Bool.{Bool, true, false}
+use mathlib.Core.List.{List, [], _∷_, _++_}
+use native.Mathlib.Omega.{arith}
+use mir.Syntax.{w32}
+use mir.Val.{Fits}
+use lib.ListN.{length, drop, getD, take, length-append}
+use Rattle.geometry.specs.declared.rect.Rect.{Rect}
+use Rattle.geometry.specs.Cells.{hasCell}
+use Rattle.plane.specs.Lines.{CellEntry}
+use Rattle.memory.specs.Layout.{part, itemCount, entryIn, polygonIn}
+use Rattle.index.specs.declared.window_query.Matched.{Matched}
+use Rattle.index.specs.Walks.{meetsTest, insideTest, visitsBelow, entriesBelow, leafEntries, Walkable, LeafPart, matched}
+use Rattle.index.proofs.WalkLeaf.{AtEntry, entry-start, entry-miss, entry-hit, entry-end}
+use Rattle.index.proofs.WalkRows.{leaf-visits, leaf-entries, part-is, entries-few}
+use Rattle.index.proofs.WalkLoop.{AtChild, child-start, child-miss, child-hit, end-visits, end-entries, so-far-few}
+
+-- an entry's test
+pub inside-is : (p : List ℕ) (i : ℕ) (w : Rect) (b : Bool) → b ≡ hasCell w (record { x = getD p (66 + 3 * i) 0; y = getD p (66 + 3 * i + 1) 0 }) → b ≡ insideTest w (entryIn p i)
+unfolding insideTest entryIn
+inside-is p i w b e = e
+
+-- Before the i-th entry of a leaf: a count of those that are in the window.
+pub record CountLeaf (w : Rect) (p : List ℕ) (i n : ℕ) : Type 0 where
+  pub es : List CellEntry
+  pub at : AtEntry (insideTest w) p i es
+  pub so-far : n ≡ length es
+  pub few : n ≤ i
+
+module _ (w : Rect) (p : List ℕ) where
+  pub count-start : LeafPart p → CountLeaf w p 0 0
+  count-start v = record { es = []; at = entry-start (insideTest w) p v; so-far = refl; few = omega arith }
+
+  module _ (i n : ℕ) (x : CountLeaf w p i n) where
+    pub count-end : itemCount p ≤ i → n ≡ length (leafEntries (insideTest w) p)
+    count-end h = x .so-far ∙ ap length (entry-end (insideTest w) p i (x .es) (x .at) h)
+
+    module _ (h : i < itemCount p) (b : Bool) (e : b ≡ insideTest w (entryIn p i)) where
+      pub count-miss : (n′ : ℕ) → b ≡ false → n′ ≡ n → CountLeaf w p (i + 1) n′
+      count-miss n′ f q =
+          let s = x .so-far in
+          let t = x .few in
+          record { es = x .es; at = entry-miss (insideTest w) p i (x .es) (x .at) h b e f; so-far = omega arith; few = omega arith }
+
+      pub count-hit : (n′ : ℕ) → b ≡ true → n′ ≡ n + 1 → CountLeaf w p (i + 1) n′
+      count-hit n′ f q =
+          let s = x .so-far in
+          let t = x .few in
+          record {
+            es = x .es ++ (entryIn p i ∷ []);
+            at = entry-hit (insideTest w) p i (x .es) (x .at) h b e f;
+            so-far = rw length-append (omega arith);
+            few = omega arith;
+          }
+
+module _ (w : Rect) (level : ℕ) (m : List ℕ) (lo k : ℕ) where
+  -- a node that is a leaf
+  pub matched-leaf : (n : ℕ) → level ≡ 0 → Walkable level m lo k → n ≡ length (leafEntries (insideTest w) (take (64 + 128 * k + 128 - (64 + 128 * k)) (drop (64 + 128 * k) m)))
+      → record { matches = n; visits = 1 } ≡ matched (entriesBelow (meetsTest w) (insideTest w) level m lo k) (visitsBelow (meetsTest w) level m lo k)
+  unfolding matched
+  matched-leaf n z v e =
+      let v′ : Walkable 0 m lo k = rw z at v in
+      rw (z, leaf-entries (meetsTest w) (insideTest w) m lo k v′, leaf-visits (meetsTest w) (insideTest w) m lo k v′, ← (part-is 0 m lo k v′), ← e)
+
+-- Before the i-th child: the counts so far.
+pub record CountLoop (w : Rect) (level : ℕ) (m : List ℕ) (lo k i low : ℕ) (a : Matched) : Type 0 where
+  pub es : List CellEntry
+  pub at : AtChild (meetsTest w) (insideTest w) level m lo k i low (a .visits) es
+  pub so-far : a .matches ≡ length es
+
+module _ (w : Rect) (level : ℕ) (m : List ℕ) (lo k : ℕ) where
+  pub counting-start : (level ≡ 0 → ⊥) → Walkable level m lo k → CountLoop w level m lo k 0 lo (record { matches = 0; visits = 1 })
+  counting-start ne v = record { es = []; at = child-start (meetsTest w) (insideTest w) level m lo k ne v; so-far = refl }
+
+  -- the entries found so far are among those below the node
+  so-far-entries : (i low vs : ℕ) (es : List CellEntry) → AtChild (meetsTest w) (insideTest w) level m lo k i low vs es
+      → length es ≤ length (entriesBelow (meetsTest w) (insideTest w) level m lo k)
+  so-far-entries i low vs es a = rw (← (a .entries), length-append) (omega arith)
+
+  module _ (i low : ℕ) (a : Matched) (x : CountLoop w level m lo k i low a) where
+    pub counting-end : getD m (64 + 128 * k + 1) 0 ≤ i → a ≡ matched (entriesBelow (meetsTest w) (insideTest w) level m lo k) (visitsBelow (meetsTest w) level m lo k)
+    unfolding matched
+    counting-end h =
+        let e = x .so-far ∙ ap length (end-entries (meetsTest w) (insideTest w) level m lo k i low (a .visits) (x .es) (x .at) h) in
+        let f = end-visits (meetsTest w) (insideTest w) level m lo k i low (a .visits) (x .es) (x .at) h in
+        rw (← e, ← f)
+
+    module _ (h : i < getD m (64 + 128 * k + 1) 0) (b : Bool) (e : b ≡ meetsTest w (polygonIn (part m (getD m (64 + 128 * k + 66 + i) 0)))) where
+      pub counting-miss : (a′ : Matched) → b ≡ false → a′ ≡ a → CountLoop w level m lo k (i + 1) (getD m (64 + 128 * k + 66 + i) 0 + 1) a′
+      counting-miss a′ f q = rw q (record { es = x .es; at = child-miss (meetsTest w) (insideTest w) level m lo k i low (a .visits) (x .es) (x .at) h b e f; so-far = x .so-far })
+
+      module _ (f : b ≡ true) (d : Matched) (g : d ≡ matched (entriesBelow (meetsTest w) (insideTest w) (level - 1) m low (getD m (64 + 128 * k + 66 + i) 0)) (visitsBelow (meetsTest w) (level - 1) m low (getD m (64 + 128 * k + 66 + i) 0))) where
+        counted-next : CountLoop w level m lo k (i + 1) (getD m (64 + 128 * k + 66 + i) 0 + 1) (record { matches = a .matches + d .matches; visits = a .visits + d .visits })
+        unfolding matched
+        counted-next =
+            let q : d .visits ≡ visitsBelow (meetsTest w) (level - 1) m low (getD m (64 + 128 * k + 66 + i) 0) = ap (λ r. r .visits) g in
+            let s : d .matches ≡ length (entriesBelow (meetsTest w) (insideTest w) (level - 1) m low (getD m (64 + 128 * k + 66 + i) 0)) = ap (λ r. r .matches) g in
+            let z = x .so-far in
+            record {
+              es = x .es ++ entriesBelow (meetsTest w) (insideTest w) (level - 1) m low (getD m (64 + 128 * k + 66 + i) 0);
+              at = rw q (child-hit (meetsTest w) (insideTest w) level m lo k i low (a .visits) (x .es) (x .at) h b e f);
+              so-far = rw length-append (omega arith);
+            }
+
+        pub matches-fit : Fits w32 (a .matches + d .matches)
+        matches-fit =
+            let n = counted-next in
+            let p = so-far-entries _ _ _ (n .es) (n .at) in
+            let q = entries-few (meetsTest w) (insideTest w) level m lo k (x .at .walkable) in
+            let s = n .so-far in
+            omega arith
+
+        pub visits-fit : Fits w32 (a .visits + d .visits)
+        visits-fit = let q = so-far-few (meetsTest w) (insideTest w) level m lo k _ _ _ _ (counted-next .at) in omega arith
+
+        pub counting-hit : (a′ : Matched) → a′ ≡ record { matches = a .matches + d .matches; visits = a .visits + d .visits }
+            → CountLoop w level m lo k (i + 1) (getD m (64 + 128 * k + 66 + i) 0 + 1) a′
+        counting-hit a′ q = rw q counted-next

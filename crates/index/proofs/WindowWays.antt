@@ -1,0 +1,118 @@
+-- The ways out of the window query, and the list that it leaves.
+use Prim.Native.Nat.{ℕ, suc, _+_, _*_, _≤_, _<_}
+use mathlib.Core.Path.{_≡_, sym, ap, _∙_}
+use mathlib.Core.Bool.{Bool, true, false, not}
+use mathlib.Core.List.{List, [], _∷_, _++_, flatMap, append-assoc}
+use mathlib.Core.Option.{some}
+use native.Mathlib.Omega.{arith}
+use borrow.Author.Tests.{not-true, not-false, le-leb, lt-leb}
+use lib.Dec.{leb}
+use lib.ListN.{length, take, drop, length-append, take-append-drop}
+use lib.Seq.{sets-eq, take-at, drop-set-lt, length-take-le}
+use Rattle.geometry.specs.declared.rect.Rect.{Rect}
+use Rattle.tree.specs.Query.{windowVisits}
+use Rattle.plane.specs.Lines.{CellEntry}
+use Rattle.plane.specs.Plane.{planeSpace}
+use Rattle.plane.specs.Windows.{planeWindow}
+use Rattle.memory.specs.Layout.{part, polygonIn}
+use Rattle.memory.specs.Image.{entryNumbers}
+use Rattle.index.specs.declared.answer.WindowFound.the-variants.{Found, ShortList}
+use Rattle.index.specs.declared.window_query.Matched.{Matched}
+use Rattle.index.specs.Answers.{fanout, matchesIn, windowRead, windowWritten}
+use Rattle.index.specs.Walks.{meetsTest, insideTest, visitsBelow, entriesBelow, matched, putEntry, putEntries, Listed, WalkRoom, TreeIn, WindowDone}
+use Rattle.index.proofs.TreeWalk.{tree-walkable, tree-window-visits, tree-matches}
+use Rattle.index.proofs.WindowWrite.{length-put}
+
+-- one entry put at a place
+put-is : (l : List ℕ) (at : ℕ) (e : CellEntry) → 3 * at + 3 ≤ length l → putEntry l at e ≡ take (3 * at) l ++ entryNumbers e ++ drop (3 * at + 3) l
+unfolding putEntry entryNumbers
+put-is l at e h =
+    let a : 3 * at + 1 ≡ suc (3 * at) = omega arith in
+    let b : 3 * at + 2 ≡ suc (suc (3 * at)) = omega arith in
+    rw (a, b) (sets-eq (e .cell .x ∷ e .cell .y ∷ e .tag ∷ []) l (3 * at) h)
+
+put-take : (l : List ℕ) (at : ℕ) (e : CellEntry) → 3 * at + 3 ≤ length l → take (3 * (at + 1)) (putEntry l at e) ≡ take (3 * at) l ++ entryNumbers e
+unfolding entryNumbers
+put-take l at e h =
+    let a = length-take-le (3 * at) l (omega arith) in
+    let n : length (take (3 * at) l ++ entryNumbers e) ≡ 3 * (at + 1) = rw length-append (omega arith) in
+    rw (put-is l at e h) (take-at (take (3 * at) l ++ entryNumbers e) (drop (3 * at + 3) l) (3 * (at + 1)) n)
+
+put-drop : (l : List ℕ) (at : ℕ) (e : CellEntry) (n : ℕ) → 3 * at + 3 ≤ n → drop n (putEntry l at e) ≡ drop n l
+unfolding putEntry
+put-drop l at e n h = drop-set-lt n _ _ _ (omega arith) ∙ drop-set-lt n _ _ _ (omega arith) ∙ drop-set-lt n _ _ _ (omega arith)
+
+-- entries put one after another, as a list
+puts-are : (l : List ℕ) (at : ℕ) (es : List CellEntry) → 3 * (at + length es) ≤ length l
+    → putEntries l at es ≡ take (3 * at) l ++ (flatMap entryNumbers es ++ drop (3 * (at + length es)) l)
+unfolding putEntries flatMap
+puts-are l at [] h =
+    let z : at + 0 ≡ at = omega arith in
+    rw z (sym (take-append-drop (3 * at) l))
+puts-are l at (e ∷ es) h =
+    let n : 3 * (at + 1 + length es) ≤ length (putEntry l at e) = rw (length-put l at e) (omega arith) in
+    let q : at + 1 + length es ≡ at + length (e ∷ es) = omega arith in
+    puts-are (putEntry l at e) (at + 1) es n
+    ∙ rw (put-take l at e (omega arith), put-drop l at e (3 * (at + 1 + length es)) (omega arith), q) (simp append-assoc)
+
+-- entries put at the start of a list
+puts-first : (l : List ℕ) (es : List CellEntry) → 3 * length es ≤ length l → putEntries l 0 es ≡ flatMap entryNumbers es ++ drop (3 * length es) l
+puts-first l es h =
+    let z : 0 + length es ≡ length es = omega arith in
+    puts-are l 0 es (omega arith) ∙ rw z
+
+module _ (m : List ℕ) (level root : ℕ) (w : Rect) (l : List ℕ) (v : TreeIn m level root) (b : Bool) (e : b ≡ meetsTest w (polygonIn (part m root))) where
+  -- the root's polygon shares no cell with the window
+  pub window-outside : not b ≡ true → WindowDone m w l l (Found 0 0)
+  unfolding windowRead windowWritten flatMap
+  window-outside f =
+      let g : meetsTest w (polygonIn (part m root)) ≡ false = sym e ∙ not-true b f in
+      let x : matchesIn w (some (v .tree)) ≡ [] = sym (tree-matches m level root v w) ∙ rw g in
+      let y : windowVisits (planeSpace fanout) (planeWindow fanout) w (some (v .tree)) ≡ 0 = sym (tree-window-visits m level root v w) ∙ rw g in
+      let z : leb 0 (length l) ≡ true = le-leb 0 (length l) (omega arith) in
+      record { answer = rw (v .reads, x, y, z); list = rw (v .reads, x, z) }
+
+  module _ (f : not b ≡ false) (d : Matched) (g : d ≡ matched (entriesBelow (meetsTest w) (insideTest w) level m 0 root) (visitsBelow (meetsTest w) level m 0 root)) where
+    matches-are : matchesIn w (some (v .tree)) ≡ entriesBelow (meetsTest w) (insideTest w) level m 0 root
+    matches-are =
+        let h : meetsTest w (polygonIn (part m root)) ≡ true = sym e ∙ not-false b f in
+        sym (tree-matches m level root v w) ∙ rw h
+
+    visits-are : windowVisits (planeSpace fanout) (planeWindow fanout) w (some (v .tree)) ≡ visitsBelow (meetsTest w) level m 0 root
+    visits-are =
+        let h : meetsTest w (polygonIn (part m root)) ≡ true = sym e ∙ not-false b f in
+        sym (tree-window-visits m level root v w) ∙ rw h
+
+    count-is : d .matches ≡ length (entriesBelow (meetsTest w) (insideTest w) level m 0 root)
+    unfolding matched
+    count-is = ap (λ r. r .matches) g
+
+    visits-is : d .visits ≡ visitsBelow (meetsTest w) level m 0 root
+    unfolding matched
+    visits-is = ap (λ r. r .visits) g
+
+    -- the list is too short
+    pub window-short : length l < 3 * d .matches → WindowDone m w l l (ShortList (d .matches))
+    unfolding windowRead windowWritten
+    window-short h =
+        let c = count-is in
+        let z : leb (3 * length (entriesBelow (meetsTest w) (insideTest w) level m 0 root)) (length l) ≡ false = lt-leb _ _ (rw c at h) in
+        record { answer = rw (v .reads, matches-are, z, c); list = rw (v .reads, matches-are, z) }
+
+    pub window-room : 3 * d .matches ≤ length l → WalkRoom level m 0 root w l 0
+    window-room h =
+        let c = count-is in
+        record { walk = tree-walkable m level root v; room = omega arith }
+
+    pub window-written : (l′ : List ℕ) (next : ℕ) → 3 * d .matches ≤ length l → Listed l 0 (entriesBelow (meetsTest w) (insideTest w) level m 0 root) l′ next
+        → WindowDone m w l l′ (Found (d .matches) (d .visits))
+    unfolding windowRead windowWritten
+    window-written l′ next h q =
+        let c = count-is in
+        let s = visits-is in
+        let k : 3 * length (entriesBelow (meetsTest w) (insideTest w) level m 0 root) ≤ length l = rw c at h in
+        let z : leb (3 * length (entriesBelow (meetsTest w) (insideTest w) level m 0 root)) (length l) ≡ true = le-leb _ _ k in
+        record {
+          answer = rw (v .reads, matches-are, visits-are, z, c, s);
+          list = q .list ∙ puts-first l _ k ∙ rw (v .reads, matches-are, z);
+        }

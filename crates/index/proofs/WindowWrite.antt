@@ -1,0 +1,165 @@
+-- The walk that writes the matches of a window: entries put one after another, the loop of a leaf and the loop over the children.
+use Prim.Native.Nat.{ℕ, _+_, _*_, _-_, _≤_, _<_}
+use mathlib.Core.Path.{_≡_, refl, sym, ap, _∙_}
+use mathlib.Core.Bool.{Bool, true, false}
+use mathlib.Core.List.{List, [], _∷_, _++_}
+use native.Mathlib.Omega.{arith}
+use mir.Syntax.{w64}
+use mir.Val.{Fits}
+use lib.ListN.{length, drop, getD, take, length-append, length-set}
+use Rattle.geometry.specs.declared.rect.Rect.{Rect}
+use Rattle.plane.specs.Lines.{CellEntry}
+use Rattle.memory.specs.Layout.{part, itemCount, entryIn, polygonIn}
+use Rattle.index.specs.Walks.{meetsTest, insideTest, entriesBelow, leafEntries, Walkable, putEntry, putEntries, Listed, LeafRoom, WalkRoom}
+use Rattle.index.proofs.WalkLeaf.{AtEntry, entry-start, entry-miss, entry-hit, entry-end}
+use Rattle.index.proofs.WalkRows.{leaf-entries, part-is, leaf-part}
+use Rattle.index.proofs.WalkLoop.{AtChild, child-start, child-miss, child-hit, end-entries, child-walkable}
+
+pub length-put : (l : List ℕ) (at : ℕ) (e : CellEntry) → length (putEntry l at e) ≡ length l
+unfolding putEntry
+length-put l at e = simp length-set
+
+-- entries put in two goes
+put-append : (l : List ℕ) (at : ℕ) (es fs : List CellEntry) → putEntries l at (es ++ fs) ≡ putEntries (putEntries l at es) (at + length es) fs
+unfolding putEntries
+put-append l at [] fs = ap (λ j. putEntries l j fs) (let q : at ≡ at + 0 = omega arith in q)
+put-append l at (e ∷ es) fs =
+    put-append (putEntry l at e) (at + 1) es fs ∙ ap (λ j. putEntries (putEntries (putEntry l at e) (at + 1) es) j fs) (let q : at + 1 + length es ≡ at + length (e ∷ es) = omega arith in q)
+
+put-one : (l : List ℕ) (at : ℕ) (e : CellEntry) → putEntries l at (e ∷ []) ≡ putEntry l at e
+unfolding putEntries
+put-one l at e = refl
+
+put-none : (l : List ℕ) (at : ℕ) → Listed l at [] l at
+unfolding putEntries
+put-none l at = record { next-is = omega arith; list = refl; same-length = refl }
+
+-- written so far, and then some more
+more : (l : List ℕ) (at : ℕ) (es : List CellEntry) (l′ : List ℕ) (next : ℕ) (fs : List CellEntry) (l″ : List ℕ) (next′ : ℕ)
+    → Listed l at es l′ next → Listed l′ next fs l″ next′ → Listed l at (es ++ fs) l″ next′
+more l at es l′ next fs l″ next′ x y =
+    let a = x .next-is in
+    let b = y .next-is in
+    record {
+      next-is = rw length-append (omega arith);
+      list = y .list ∙ ap (λ j. putEntries j next fs) (x .list) ∙ ap (λ j. putEntries (putEntries l at es) j fs) a ∙ sym (put-append l at es fs);
+      same-length = y .same-length ∙ x .same-length;
+    }
+
+one-more : (l : List ℕ) (next : ℕ) (e : CellEntry) (l′ : List ℕ) → l′ ≡ putEntry l next e → Listed l next (e ∷ []) l′ (next + 1)
+one-more l next e l′ q = record { next-is = refl; list = q ∙ sym (put-one l next e); same-length = ap length q ∙ length-put l next e }
+
+-- Before the i-th entry of a leaf: those in the window that were passed are written.
+pub record WriteLeaf (w : Rect) (p l₀ : List ℕ) (at₀ i : ℕ) (l : List ℕ) (next : ℕ) : Type 0 where
+  pub es : List CellEntry
+  pub at : AtEntry (insideTest w) p i es
+  pub room : 3 * (at₀ + length (leafEntries (insideTest w) p)) ≤ length l₀
+  pub fits : 3 * next ≤ length l
+  pub so-far : Listed l₀ at₀ es l next
+
+module _ (w : Rect) (p l₀ : List ℕ) (at₀ : ℕ) where
+  pub leaf-room-fits : LeafRoom p w l₀ at₀ → Fits w64 (getD p 1 0)
+  leaf-room-fits v = let f = v .leaf .few in omega arith
+
+  pub write-start : LeafRoom p w l₀ at₀ → WriteLeaf w p l₀ at₀ 0 l₀ at₀
+  write-start v = record { es = []; at = entry-start (insideTest w) p (v .leaf); room = v .room; fits = (let r = v .room in omega arith); so-far = put-none l₀ at₀ }
+
+  module _ (i : ℕ) (l : List ℕ) (next : ℕ) (x : WriteLeaf w p l₀ at₀ i l next) where
+    pub write-end : itemCount p ≤ i → Listed l₀ at₀ (leafEntries (insideTest w) p) l next
+    write-end h = rw (entry-end (insideTest w) p i (x .es) (x .at) h) at (x .so-far)
+
+    module _ (h : i < itemCount p) (b : Bool) (e : b ≡ insideTest w (entryIn p i)) where
+      pub write-room : b ≡ true → 3 * next + 3 ≤ length l
+      write-room f =
+          let a = entry-hit (insideTest w) p i (x .es) (x .at) h b e f .entries in
+          let q = simp length-append at (ap length a) in
+          let r = x .room in
+          let s = x .so-far .next-is in
+          let t = x .so-far .same-length in
+          omega arith
+
+      pub write-miss : (l′ : List ℕ) (next′ : ℕ) → b ≡ false → l′ ≡ l → next′ ≡ next → WriteLeaf w p l₀ at₀ (i + 1) l′ next′
+      write-miss l′ next′ f q r = rw (q, r) (record { es = x .es; at = entry-miss (insideTest w) p i (x .es) (x .at) h b e f; room = x .room; fits = x .fits; so-far = x .so-far })
+
+      pub write-hit : (l″ l′ : List ℕ) (next′ : ℕ) → b ≡ true → l″ ≡ putEntry l next (entryIn p i) → l′ ≡ l″ → next′ ≡ next + 1 → WriteLeaf w p l₀ at₀ (i + 1) l′ next′
+      write-hit l″ l′ next′ f q s r = rw (s, r) (record {
+        es = x .es ++ (entryIn p i ∷ []);
+        at = entry-hit (insideTest w) p i (x .es) (x .at) h b e f;
+        room = x .room;
+        fits =
+            let a : length l″ ≡ length l = ap length q ∙ length-put l next (entryIn p i) in
+            let d = write-room f in
+            omega arith;
+        so-far = more l₀ at₀ (x .es) l next (entryIn p i ∷ []) l″ (next + 1) (x .so-far) (one-more l next (entryIn p i) l″ q);
+      })
+
+module _ (w : Rect) (level : ℕ) (m : List ℕ) (lo k : ℕ) (l : List ℕ) (at : ℕ) where
+  pub room-items-fit : WalkRoom level m lo k w l at → Fits w64 (getD m (64 + 128 * k + 1) 0)
+  room-items-fit v = let f = v .walk .few in omega arith
+
+  -- a node that is a leaf
+  pub written-leaf-room : level ≡ 0 → WalkRoom level m lo k w l at → LeafRoom (take (64 + 128 * k + 128 - (64 + 128 * k)) (drop (64 + 128 * k) m)) w l at
+  written-leaf-room z v =
+      let v′ : Walkable 0 m lo k = rw z at (v .walk) in
+      let r : 3 * (at + length (entriesBelow (meetsTest w) (insideTest w) 0 m lo k)) ≤ length l = rw z at (v .room) in
+      record {
+        leaf = leaf-part 0 m lo k v′;
+        room = rw (part-is 0 m lo k v′, ← (leaf-entries (meetsTest w) (insideTest w) m lo k v′)) r;
+      }
+
+  pub written-leaf : (l′ : List ℕ) (next : ℕ) → level ≡ 0 → WalkRoom level m lo k w l at
+      → Listed l at (leafEntries (insideTest w) (take (64 + 128 * k + 128 - (64 + 128 * k)) (drop (64 + 128 * k) m))) l′ next
+      → Listed l at (entriesBelow (meetsTest w) (insideTest w) level m lo k) l′ next
+  written-leaf l′ next z v e =
+      let v′ : Walkable 0 m lo k = rw z at (v .walk) in
+      rw (z, leaf-entries (meetsTest w) (insideTest w) m lo k v′, ← (part-is 0 m lo k v′)) e
+
+-- Before the i-th child: the matches below the children that were passed are written.
+pub record WriteLoop (w : Rect) (level : ℕ) (m : List ℕ) (lo k : ℕ) (l₀ : List ℕ) (at₀ i low : ℕ) (l : List ℕ) (next : ℕ) : Type 0 where
+  pub vs : ℕ
+  pub es : List CellEntry
+  pub at : AtChild (meetsTest w) (insideTest w) level m lo k i low vs es
+  pub room : 3 * (at₀ + length (entriesBelow (meetsTest w) (insideTest w) level m lo k)) ≤ length l₀
+  pub so-far : Listed l₀ at₀ es l next
+
+module _ (w : Rect) (level : ℕ) (m : List ℕ) (lo k : ℕ) (l₀ : List ℕ) (at₀ : ℕ) where
+  pub writing-start : (level ≡ 0 → ⊥) → WalkRoom level m lo k w l₀ at₀ → WriteLoop w level m lo k l₀ at₀ 0 lo l₀ at₀
+  writing-start ne v = record { vs = 1; es = []; at = child-start (meetsTest w) (insideTest w) level m lo k ne (v .walk); room = v .room; so-far = put-none l₀ at₀ }
+
+  module _ (i low : ℕ) (l : List ℕ) (next : ℕ) (x : WriteLoop w level m lo k l₀ at₀ i low l next) where
+    pub writing-end : getD m (64 + 128 * k + 1) 0 ≤ i → Listed l₀ at₀ (entriesBelow (meetsTest w) (insideTest w) level m lo k) l next
+    writing-end h = rw (end-entries (meetsTest w) (insideTest w) level m lo k i low (x .vs) (x .es) (x .at) h) at (x .so-far)
+
+    module _ (h : i < getD m (64 + 128 * k + 1) 0) (b : Bool) (e : b ≡ meetsTest w (polygonIn (part m (getD m (64 + 128 * k + 66 + i) 0)))) where
+      pub writing-room : b ≡ true → WalkRoom (level - 1) m low (getD m (64 + 128 * k + 66 + i) 0) w l next
+      writing-room f =
+          let a = child-hit (meetsTest w) (insideTest w) level m lo k i low (x .vs) (x .es) (x .at) h b e f .entries in
+          let q = simp length-append at (ap length a) in
+          let r = x .room in
+          let s = x .so-far .next-is in
+          let t = x .so-far .same-length in
+          record {
+            walk = child-walkable (meetsTest w) (insideTest w) level m lo k i low (x .vs) (x .es) (x .at) h;
+            room = omega arith;
+          }
+
+      pub writing-miss : (l′ : List ℕ) (next′ : ℕ) → b ≡ false → l′ ≡ l → next′ ≡ next
+          → WriteLoop w level m lo k l₀ at₀ (i + 1) (getD m (64 + 128 * k + 66 + i) 0 + 1) l′ next′
+      writing-miss l′ next′ f q r = rw (q, r) (record {
+        vs = x .vs;
+        es = x .es;
+        at = child-miss (meetsTest w) (insideTest w) level m lo k i low (x .vs) (x .es) (x .at) h b e f;
+        room = x .room;
+        so-far = x .so-far;
+      })
+
+      pub writing-hit : (l″ l′ : List ℕ) (next′ next″ : ℕ) → b ≡ true
+          → Listed l next (entriesBelow (meetsTest w) (insideTest w) (level - 1) m low (getD m (64 + 128 * k + 66 + i) 0)) l″ next′ → l′ ≡ l″ → next″ ≡ next′
+          → WriteLoop w level m lo k l₀ at₀ (i + 1) (getD m (64 + 128 * k + 66 + i) 0 + 1) l′ next″
+      writing-hit l″ l′ next′ next″ f q s r = rw (s, r) (record {
+        vs = _;
+        es = _;
+        at = child-hit (meetsTest w) (insideTest w) level m lo k i low (x .vs) (x .es) (x .at) h b e f;
+        room = x .room;
+        so-far = more l₀ at₀ (x .es) l next _ l″ next′ (x .so-far) q;
+      })

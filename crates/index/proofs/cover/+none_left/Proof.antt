@@ -1,0 +1,279 @@
+use Prim.Native.Nat.{ℕ, _<_, _-_}
+use borrow.Author.Needs.{needs}
+use borrow.Author.Tests.{not-true, not-false}
+use Rattle.index.proofs.CoverLaws.{left-flat, left-low, left-end, left-apart, left-stop-1, left-stop-2, left-stop-3, left-last}
+use borrow.Fn.Kinds.{In}
+use borrow.Fn.PlainCycle.{Measures, is, falls, and}
+use Rattle.index.proofs.cover.none_left.Reads as none-left
+use Rattle.index.proofs.cover.none_left.Kinds as none-left-kinds
+use Rattle.index.proofs.cover.+none_left.Lts-none_left as none-left-lts
+use Rattle.geometry.proofs.rect_at.Reads as rect-at-reads
+use Rattle.geometry.proofs.rect.Rect.common.Reads as common-reads
+use Rattle.index.proofs.cover.+none_left.{statement}
+use Rattle.index.proofs.cover.+none_left.Tie.{close}
+
+abbrev μ-none-left : Measures 1 none-left-kinds.ps ℕ
+μ-none-left κs a = a .1 .0 - a .1 .1 .0
+
+abbrev none-left-at : ℕ → In 1 none-left-kinds.ps
+none-left-at t = and 1 none-left-kinds.ps (is 1 none-left-kinds.ps μ-none-left t) none-left.Pre
+
+abbrev none-left-below : ℕ → In 1 none-left-kinds.ps
+none-left-below t =
+    and 1 none-left-kinds.ps (falls 1 none-left-kinds.ps _<_ μ-none-left t) none-left.Pre
+
+none-left-returns : (t : ℕ) → none-left-lts.Need-returns (
+  rect-at-reads.Asked,
+  rect-at-reads.Learnt,
+  common-reads.Asked,
+  common-reads.Learnt,
+  none-left-below t,
+  none-left.Post,
+) (none-left-at t) none-left.Post
+none-left-returns t c = search left-flat
+
+none-left-returns-2 : (t : ℕ) → none-left-lts.Need-returns-2 (
+  rect-at-reads.Asked,
+  rect-at-reads.Learnt,
+  common-reads.Asked,
+  common-reads.Learnt,
+  none-left-below t,
+  none-left.Post,
+) (none-left-at t) none-left.Post
+none-left-returns-2 t c = search left-low
+
+none-left-returns-3 : (t : ℕ) → none-left-lts.Need-returns-3 (
+  rect-at-reads.Asked,
+  rect-at-reads.Learnt,
+  common-reads.Asked,
+  common-reads.Learnt,
+  none-left-below t,
+  none-left.Post,
+) (none-left-at t) none-left.Post
+none-left-returns-3 t c = search left-end
+
+none-left-rect-at-requires : (t : ℕ) → none-left-lts.Need-rect-at-requires (
+  rect-at-reads.Asked,
+  rect-at-reads.Learnt,
+  common-reads.Asked,
+  common-reads.Learnt,
+  none-left-below t,
+  none-left.Post,
+) (none-left-at t) none-left.Post
+none-left-rect-at-requires t c κs = search needs
+
+none-left-common-requires : (t : ℕ) → none-left-lts.Need-common-requires (
+  rect-at-reads.Asked,
+  rect-at-reads.Learnt,
+  common-reads.Asked,
+  common-reads.Learnt,
+  none-left-below t,
+  none-left.Post,
+) (none-left-at t) none-left.Post
+none-left-common-requires t c κs = search needs
+
+none-left-enum-known-u : (t : ℕ) → none-left-lts.Need-enum-known-u (
+  rect-at-reads.Asked,
+  rect-at-reads.Learnt,
+  common-reads.Asked,
+  common-reads.Learnt,
+  none-left-below t,
+  none-left.Post,
+) (none-left-at t) none-left.Post
+none-left-enum-known-u t c = search needs
+
+none-left-enum-told : (t : ℕ) → none-left-lts.Need-enum-told (
+  rect-at-reads.Asked,
+  rect-at-reads.Learnt,
+  common-reads.Asked,
+  common-reads.Learnt,
+  none-left-below t,
+  none-left.Post,
+) (none-left-at t) none-left.Post
+none-left-enum-told t c = search needs
+
+none-left-add-none-left : (t : ℕ) → none-left-lts.Need-add-none-left (
+  rect-at-reads.Asked,
+  rect-at-reads.Learnt,
+  common-reads.Asked,
+  common-reads.Learnt,
+  none-left-below t,
+  none-left.Post,
+) (none-left-at t) none-left.Post
+none-left-add-none-left t c = search needs
+
+none-left-none-left-requires : (t : ℕ) → none-left-lts.Need-none-left-requires (
+  rect-at-reads.Asked,
+  rect-at-reads.Learnt,
+  common-reads.Asked,
+  common-reads.Learnt,
+  none-left-below t,
+  none-left.Post,
+) (none-left-at t) none-left.Post
+none-left-none-left-requires t c κs = search needs
+
+none-left-returns-4 : (t : ℕ) → none-left-lts.Need-returns-4 (
+  rect-at-reads.Asked,
+  rect-at-reads.Learnt,
+  common-reads.Asked,
+  common-reads.Learnt,
+  none-left-below t,
+  none-left.Post,
+) (none-left-at t) none-left.Post
+none-left-returns-4 t c = search left-apart
+
+none-left-add-none-left-2 : (t : ℕ) → none-left-lts.Need-add-none-left-2 (
+  rect-at-reads.Asked,
+  rect-at-reads.Learnt,
+  common-reads.Asked,
+  common-reads.Learnt,
+  none-left-below t,
+  none-left.Post,
+) (none-left-at t) none-left.Post
+none-left-add-none-left-2 t c = search needs
+
+none-left-none-left-requires-2 : (t : ℕ) → none-left-lts.Need-none-left-requires-2 (
+  rect-at-reads.Asked,
+  rect-at-reads.Learnt,
+  common-reads.Asked,
+  common-reads.Learnt,
+  none-left-below t,
+  none-left.Post,
+) (none-left-at t) none-left.Post
+none-left-none-left-requires-2 t c κs = search needs
+
+none-left-returns-5 : (t : ℕ) → none-left-lts.Need-returns-5 (
+  rect-at-reads.Asked,
+  rect-at-reads.Learnt,
+  common-reads.Asked,
+  common-reads.Learnt,
+  none-left-below t,
+  none-left.Post,
+) (none-left-at t) none-left.Post
+none-left-returns-5 t c = search (left-stop-1, not-true)
+
+none-left-add-none-left-3 : (t : ℕ) → none-left-lts.Need-add-none-left-3 (
+  rect-at-reads.Asked,
+  rect-at-reads.Learnt,
+  common-reads.Asked,
+  common-reads.Learnt,
+  none-left-below t,
+  none-left.Post,
+) (none-left-at t) none-left.Post
+none-left-add-none-left-3 t c = search needs
+
+none-left-none-left-requires-3 : (t : ℕ) → none-left-lts.Need-none-left-requires-3 (
+  rect-at-reads.Asked,
+  rect-at-reads.Learnt,
+  common-reads.Asked,
+  common-reads.Learnt,
+  none-left-below t,
+  none-left.Post,
+) (none-left-at t) none-left.Post
+none-left-none-left-requires-3 t c κs = search needs
+
+none-left-returns-6 : (t : ℕ) → none-left-lts.Need-returns-6 (
+  rect-at-reads.Asked,
+  rect-at-reads.Learnt,
+  common-reads.Asked,
+  common-reads.Learnt,
+  none-left-below t,
+  none-left.Post,
+) (none-left-at t) none-left.Post
+none-left-returns-6 t c = search (left-stop-2, not-true, not-false)
+
+none-left-add-none-left-4 : (t : ℕ) → none-left-lts.Need-add-none-left-4 (
+  rect-at-reads.Asked,
+  rect-at-reads.Learnt,
+  common-reads.Asked,
+  common-reads.Learnt,
+  none-left-below t,
+  none-left.Post,
+) (none-left-at t) none-left.Post
+none-left-add-none-left-4 t c = search needs
+
+none-left-none-left-requires-4 : (t : ℕ) → none-left-lts.Need-none-left-requires-4 (
+  rect-at-reads.Asked,
+  rect-at-reads.Learnt,
+  common-reads.Asked,
+  common-reads.Learnt,
+  none-left-below t,
+  none-left.Post,
+) (none-left-at t) none-left.Post
+none-left-none-left-requires-4 t c κs = search needs
+
+none-left-returns-7 : (t : ℕ) → none-left-lts.Need-returns-7 (
+  rect-at-reads.Asked,
+  rect-at-reads.Learnt,
+  common-reads.Asked,
+  common-reads.Learnt,
+  none-left-below t,
+  none-left.Post,
+) (none-left-at t) none-left.Post
+none-left-returns-7 t c = search (left-stop-3, not-true, not-false)
+
+none-left-add-none-left-5 : (t : ℕ) → none-left-lts.Need-add-none-left-5 (
+  rect-at-reads.Asked,
+  rect-at-reads.Learnt,
+  common-reads.Asked,
+  common-reads.Learnt,
+  none-left-below t,
+  none-left.Post,
+) (none-left-at t) none-left.Post
+none-left-add-none-left-5 t c = search needs
+
+none-left-none-left-requires-5 : (t : ℕ) → none-left-lts.Need-none-left-requires-5 (
+  rect-at-reads.Asked,
+  rect-at-reads.Learnt,
+  common-reads.Asked,
+  common-reads.Learnt,
+  none-left-below t,
+  none-left.Post,
+) (none-left-at t) none-left.Post
+none-left-none-left-requires-5 t c κs =
+    let p = c .before .before .before .before .before .before .before .before .before .before .before .before .before .before .before .before .before .pre .1 in
+    search needs
+
+none-left-returns-8 : (t : ℕ) → none-left-lts.Need-returns-8 (
+  rect-at-reads.Asked,
+  rect-at-reads.Learnt,
+  common-reads.Asked,
+  common-reads.Learnt,
+  none-left-below t,
+  none-left.Post,
+) (none-left-at t) none-left.Post
+none-left-returns-8 t c = search (left-last, not-false)
+
+pub +none-left-spec : {M : Type 1} → statement M
++none-left-spec = close μ-none-left λ t. none-left-lts.spec (
+  rect-at-reads.Asked,
+  rect-at-reads.Learnt,
+  common-reads.Asked,
+  common-reads.Learnt,
+  none-left-below t,
+  none-left.Post,
+)
+    (none-left-at t)
+    none-left.Post
+    (none-left-returns t)
+    (none-left-returns-2 t)
+    (none-left-returns-3 t)
+    (none-left-rect-at-requires t)
+    (none-left-common-requires t)
+    (none-left-enum-known-u t)
+    (none-left-enum-told t)
+    (none-left-add-none-left t)
+    (none-left-none-left-requires t)
+    (none-left-returns-4 t)
+    (none-left-add-none-left-2 t)
+    (none-left-none-left-requires-2 t)
+    (none-left-returns-5 t)
+    (none-left-add-none-left-3 t)
+    (none-left-none-left-requires-3 t)
+    (none-left-returns-6 t)
+    (none-left-add-none-left-4 t)
+    (none-left-none-left-requires-4 t)
+    (none-left-returns-7 t)
+    (none-left-add-none-left-5 t)
+    (none-left-none-left-requires-5 t)
+    (none-left-returns-8 t)

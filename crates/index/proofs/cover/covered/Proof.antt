@@ -1,0 +1,19 @@
+use Rattle.index.proofs.CoverLaws.{covered-flat, covered-low, covered-whole}
+use borrow.Author.Needs.{needs}
+use Rattle.index.proofs.cover.covered.Statement.{statement}
+use Rattle.index.proofs.cover.covered.Tie as tie
+
+returns : tie.Need-returns
+returns c = search covered-flat
+
+returns-2 : tie.Need-returns-2
+returns-2 c = search covered-low
+
+none-left-requires : tie.Need-none-left-requires
+none-left-requires c κs = search needs
+
+returns-3 : tie.Need-returns-3
+returns-3 c = search covered-whole
+
+pub covered-spec : {M : Type 1} → statement M
+covered-spec = tie.close (tie.spec returns returns-2 none-left-requires returns-3)

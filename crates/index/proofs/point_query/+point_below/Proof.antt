@@ -1,0 +1,402 @@
+-- `point_query::point_below` meets its contract, with the level as its measure; its loop is in WalkLoop and PointWalk.
+use Prim.Native.Nat.{ℕ, _<_, _-_}
+use mathlib.Core.Logic.{⊎-elim}
+use native.Mathlib.Omega.{arith}
+use borrow.Author.Needs.{needs}
+use Rattle.index.proofs.WalkRows.{leaf-part, items-fit}
+use Rattle.index.proofs.WalkLoop.{child-walkable, child-polygon, child-fits}
+use Rattle.index.proofs.PointWalk.{PointLoop, point-leaf, point-start, point-miss, point-hit, point-room, point-end}
+use borrow.Fn.Kinds.{In}
+use borrow.Fn.PlainCycle.{Measures, is, falls, and}
+use Rattle.index.proofs.point_query.point_below.Reads as point-below
+use Rattle.index.proofs.point_query.point_below.Kinds as point-below-kinds
+use Rattle.index.proofs.point_query.+point_below.Lts-point_below as point-below-lts
+use Rattle.index.proofs.point_query.point_in_leaf.Reads as point-in-leaf-reads
+use Rattle.index.proofs.walk.Found.then.Reads as then-reads
+use Rattle.index.proofs.walk.polygon_has.Reads as polygon-has-reads
+use Rattle.index.proofs.point_query.+point_below.{statement}
+use Rattle.index.proofs.point_query.+point_below.Tie.{close}
+
+abbrev μ-point-below : Measures 1 point-below-kinds.ps ℕ
+μ-point-below κs a = a .1 .0
+
+abbrev point-below-at : ℕ → In 1 point-below-kinds.ps
+point-below-at t =
+    and 1 point-below-kinds.ps (is 1 point-below-kinds.ps μ-point-below t) point-below.Pre
+
+abbrev point-below-below : ℕ → In 1 point-below-kinds.ps
+point-below-below t =
+    and 1 point-below-kinds.ps (falls 1 point-below-kinds.ps _<_ μ-point-below t) point-below.Pre
+
+abbrev point-below-Inv-loop : point-below-lts.InvT-loop
+point-below-Inv-loop m level lo k c a e n so-far₀ low₀ i₀ so-far low i = PointLoop c level m lo k i low so-far
+
+abbrev point-below-μ-loop : point-below-lts.MeasureT-loop
+point-below-μ-loop m level lo k c a e n so-far₀ low₀ i₀ so-far low i = n - i
+
+point-below-mul-a : (t : ℕ) → point-below-lts.Need-mul-a (
+  point-in-leaf-reads.Asked,
+  point-in-leaf-reads.Learnt,
+  polygon-has-reads.Asked,
+  polygon-has-reads.Learnt,
+  point-below-below t,
+  point-below.Post,
+  then-reads.Asked,
+  then-reads.Learnt,
+) (point-below-at t) point-below.Post point-below-Inv-loop point-below-μ-loop
+point-below-mul-a t c = search needs
+
+point-below-add-a : (t : ℕ) → point-below-lts.Need-add-a (
+  point-in-leaf-reads.Asked,
+  point-in-leaf-reads.Learnt,
+  polygon-has-reads.Asked,
+  polygon-has-reads.Learnt,
+  point-below-below t,
+  point-below.Post,
+  then-reads.Asked,
+  then-reads.Learnt,
+) (point-below-at t) point-below.Post point-below-Inv-loop point-below-μ-loop
+point-below-add-a t c = search needs
+
+point-below-add-e : (t : ℕ) → point-below-lts.Need-add-e (
+  point-in-leaf-reads.Asked,
+  point-in-leaf-reads.Learnt,
+  polygon-has-reads.Asked,
+  polygon-has-reads.Learnt,
+  point-below-below t,
+  point-below.Post,
+  then-reads.Asked,
+  then-reads.Learnt,
+) (point-below-at t) point-below.Post point-below-Inv-loop point-below-μ-loop
+point-below-add-e t c = search needs
+
+point-below-mul-point-in-leaf : (t : ℕ) → point-below-lts.Need-mul-point-in-leaf (
+  point-in-leaf-reads.Asked,
+  point-in-leaf-reads.Learnt,
+  polygon-has-reads.Asked,
+  polygon-has-reads.Learnt,
+  point-below-below t,
+  point-below.Post,
+  then-reads.Asked,
+  then-reads.Learnt,
+) (point-below-at t) point-below.Post point-below-Inv-loop point-below-μ-loop
+point-below-mul-point-in-leaf t c = search needs
+
+point-below-sub-point-in-leaf : (t : ℕ) → point-below-lts.Need-sub-point-in-leaf (
+  point-in-leaf-reads.Asked,
+  point-in-leaf-reads.Learnt,
+  polygon-has-reads.Asked,
+  polygon-has-reads.Learnt,
+  point-below-below t,
+  point-below.Post,
+  then-reads.Asked,
+  then-reads.Learnt,
+) (point-below-at t) point-below.Post point-below-Inv-loop point-below-μ-loop
+point-below-sub-point-in-leaf t c = search needs
+
+point-below-part-point-in-leaf-start : (t : ℕ) → point-below-lts.Need-part-point-in-leaf-start (
+  point-in-leaf-reads.Asked,
+  point-in-leaf-reads.Learnt,
+  polygon-has-reads.Asked,
+  polygon-has-reads.Learnt,
+  point-below-below t,
+  point-below.Post,
+  then-reads.Asked,
+  then-reads.Learnt,
+) (point-below-at t) point-below.Post point-below-Inv-loop point-below-μ-loop
+point-below-part-point-in-leaf-start t c = search needs
+
+point-below-part-point-in-leaf-end : (t : ℕ) → point-below-lts.Need-part-point-in-leaf-end (
+  point-in-leaf-reads.Asked,
+  point-in-leaf-reads.Learnt,
+  polygon-has-reads.Asked,
+  polygon-has-reads.Learnt,
+  point-below-below t,
+  point-below.Post,
+  then-reads.Asked,
+  then-reads.Learnt,
+) (point-below-at t) point-below.Post point-below-Inv-loop point-below-μ-loop
+point-below-part-point-in-leaf-end t c = search needs
+
+point-below-point-in-leaf-requires : (t : ℕ) → point-below-lts.Need-point-in-leaf-requires (
+  point-in-leaf-reads.Asked,
+  point-in-leaf-reads.Learnt,
+  polygon-has-reads.Asked,
+  polygon-has-reads.Learnt,
+  point-below-below t,
+  point-below.Post,
+  then-reads.Asked,
+  then-reads.Learnt,
+) (point-below-at t) point-below.Post point-below-Inv-loop point-below-μ-loop
+point-below-point-in-leaf-requires t c κs = search leaf-part
+
+point-below-returns : (t : ℕ) → point-below-lts.Need-returns (
+  point-in-leaf-reads.Asked,
+  point-in-leaf-reads.Learnt,
+  polygon-has-reads.Asked,
+  polygon-has-reads.Learnt,
+  point-below-below t,
+  point-below.Post,
+  then-reads.Asked,
+  then-reads.Learnt,
+) (point-below-at t) point-below.Post point-below-Inv-loop point-below-μ-loop
+point-below-returns t c = search point-leaf
+
+point-below-add-n : (t : ℕ) → point-below-lts.Need-add-n (
+  point-in-leaf-reads.Asked,
+  point-in-leaf-reads.Learnt,
+  polygon-has-reads.Asked,
+  polygon-has-reads.Learnt,
+  point-below-below t,
+  point-below.Post,
+  then-reads.Asked,
+  then-reads.Learnt,
+) (point-below-at t) point-below.Post point-below-Inv-loop point-below-μ-loop
+point-below-add-n t c = search needs
+
+point-below-mul-n : (t : ℕ) → point-below-lts.Need-mul-n (
+  point-in-leaf-reads.Asked,
+  point-in-leaf-reads.Learnt,
+  polygon-has-reads.Asked,
+  polygon-has-reads.Learnt,
+  point-below-below t,
+  point-below.Post,
+  then-reads.Asked,
+  then-reads.Learnt,
+) (point-below-at t) point-below.Post point-below-Inv-loop point-below-μ-loop
+point-below-mul-n t c = search needs
+
+point-below-shared-slice-read-n : (t : ℕ) → point-below-lts.Need-shared-slice-read-n (
+  point-in-leaf-reads.Asked,
+  point-in-leaf-reads.Learnt,
+  polygon-has-reads.Asked,
+  polygon-has-reads.Learnt,
+  point-below-below t,
+  point-below.Post,
+  then-reads.Asked,
+  then-reads.Learnt,
+) (point-below-at t) point-below.Post point-below-Inv-loop point-below-μ-loop
+point-below-shared-slice-read-n t c = search needs
+
+point-below-cast-n : (t : ℕ) → point-below-lts.Need-cast-n (
+  point-in-leaf-reads.Asked,
+  point-in-leaf-reads.Learnt,
+  polygon-has-reads.Asked,
+  polygon-has-reads.Learnt,
+  point-below-below t,
+  point-below.Post,
+  then-reads.Asked,
+  then-reads.Learnt,
+) (point-below-at t) point-below.Post point-below-Inv-loop point-below-μ-loop
+point-below-cast-n t c = search items-fit
+
+point-below-loop-holds : (t : ℕ) → point-below-lts.Need-loop-holds (
+  point-in-leaf-reads.Asked,
+  point-in-leaf-reads.Learnt,
+  polygon-has-reads.Asked,
+  polygon-has-reads.Learnt,
+  point-below-below t,
+  point-below.Post,
+  then-reads.Asked,
+  then-reads.Learnt,
+) (point-below-at t) point-below.Post point-below-Inv-loop point-below-μ-loop
+point-below-loop-holds t c = search point-start
+
+point-below-add-j : (t : ℕ) → point-below-lts.Need-add-j (
+  point-in-leaf-reads.Asked,
+  point-in-leaf-reads.Learnt,
+  polygon-has-reads.Asked,
+  polygon-has-reads.Learnt,
+  point-below-below t,
+  point-below.Post,
+  then-reads.Asked,
+  then-reads.Learnt,
+) (point-below-at t) point-below.Post point-below-Inv-loop point-below-μ-loop
+point-below-add-j t c = search needs
+
+point-below-add-j-2 : (t : ℕ) → point-below-lts.Need-add-j-2 (
+  point-in-leaf-reads.Asked,
+  point-in-leaf-reads.Learnt,
+  polygon-has-reads.Asked,
+  polygon-has-reads.Learnt,
+  point-below-below t,
+  point-below.Post,
+  then-reads.Asked,
+  then-reads.Learnt,
+) (point-below-at t) point-below.Post point-below-Inv-loop point-below-μ-loop
+point-below-add-j-2 t c = search needs
+
+point-below-mul-j : (t : ℕ) → point-below-lts.Need-mul-j (
+  point-in-leaf-reads.Asked,
+  point-in-leaf-reads.Learnt,
+  polygon-has-reads.Asked,
+  polygon-has-reads.Learnt,
+  point-below-below t,
+  point-below.Post,
+  then-reads.Asked,
+  then-reads.Learnt,
+) (point-below-at t) point-below.Post point-below-Inv-loop point-below-μ-loop
+point-below-mul-j t c = search needs
+
+point-below-shared-slice-read-j : (t : ℕ) → point-below-lts.Need-shared-slice-read-j (
+  point-in-leaf-reads.Asked,
+  point-in-leaf-reads.Learnt,
+  polygon-has-reads.Asked,
+  polygon-has-reads.Learnt,
+  point-below-below t,
+  point-below.Post,
+  then-reads.Asked,
+  then-reads.Learnt,
+) (point-below-at t) point-below.Post point-below-Inv-loop point-below-μ-loop
+point-below-shared-slice-read-j t c = search needs
+
+point-below-polygon-has-requires : (t : ℕ) → point-below-lts.Need-polygon-has-requires (
+  point-in-leaf-reads.Asked,
+  point-in-leaf-reads.Learnt,
+  polygon-has-reads.Asked,
+  polygon-has-reads.Learnt,
+  point-below-below t,
+  point-below.Post,
+  then-reads.Asked,
+  then-reads.Learnt,
+) (point-below-at t) point-below.Post point-below-Inv-loop point-below-μ-loop
+point-below-polygon-has-requires t c κs = search child-polygon
+
+point-below-sub-point-below : (t : ℕ) → point-below-lts.Need-sub-point-below (
+  point-in-leaf-reads.Asked,
+  point-in-leaf-reads.Learnt,
+  polygon-has-reads.Asked,
+  polygon-has-reads.Learnt,
+  point-below-below t,
+  point-below.Post,
+  then-reads.Asked,
+  then-reads.Learnt,
+) (point-below-at t) point-below.Post point-below-Inv-loop point-below-μ-loop
+point-below-sub-point-below t c = search needs
+
+point-below-point-below-requires : (t : ℕ) → point-below-lts.Need-point-below-requires (
+  point-in-leaf-reads.Asked,
+  point-in-leaf-reads.Learnt,
+  polygon-has-reads.Asked,
+  polygon-has-reads.Learnt,
+  point-below-below t,
+  point-below.Post,
+  then-reads.Asked,
+  then-reads.Learnt,
+) (point-below-at t) point-below.Post point-below-Inv-loop point-below-μ-loop
+point-below-point-below-requires t c κs = (omega arith, search child-walkable)
+
+point-below-then-requires : (t : ℕ) → point-below-lts.Need-then-requires (
+  point-in-leaf-reads.Asked,
+  point-in-leaf-reads.Learnt,
+  polygon-has-reads.Asked,
+  polygon-has-reads.Learnt,
+  point-below-below t,
+  point-below.Post,
+  then-reads.Asked,
+  then-reads.Learnt,
+) (point-below-at t) point-below.Post point-below-Inv-loop point-below-μ-loop
+point-below-then-requires t c κs = search point-room
+
+point-below-add-low : (t : ℕ) → point-below-lts.Need-add-low (
+  point-in-leaf-reads.Asked,
+  point-in-leaf-reads.Learnt,
+  polygon-has-reads.Asked,
+  polygon-has-reads.Learnt,
+  point-below-below t,
+  point-below.Post,
+  then-reads.Asked,
+  then-reads.Learnt,
+) (point-below-at t) point-below.Post point-below-Inv-loop point-below-μ-loop
+point-below-add-low t c = search child-fits
+
+point-below-add-i : (t : ℕ) → point-below-lts.Need-add-i (
+  point-in-leaf-reads.Asked,
+  point-in-leaf-reads.Learnt,
+  polygon-has-reads.Asked,
+  polygon-has-reads.Learnt,
+  point-below-below t,
+  point-below.Post,
+  then-reads.Asked,
+  then-reads.Learnt,
+) (point-below-at t) point-below.Post point-below-Inv-loop point-below-μ-loop
+point-below-add-i t c = search needs
+
+point-below-loop-less : (t : ℕ) → point-below-lts.Need-loop-less (
+  point-in-leaf-reads.Asked,
+  point-in-leaf-reads.Learnt,
+  polygon-has-reads.Asked,
+  polygon-has-reads.Learnt,
+  point-below-below t,
+  point-below.Post,
+  then-reads.Asked,
+  then-reads.Learnt,
+) (point-below-at t) point-below.Post point-below-Inv-loop point-below-μ-loop
+point-below-loop-less t c = search needs
+
+point-below-loop-again : (t : ℕ) → point-below-lts.Need-loop-again (
+  point-in-leaf-reads.Asked,
+  point-in-leaf-reads.Learnt,
+  polygon-has-reads.Asked,
+  polygon-has-reads.Learnt,
+  point-below-below t,
+  point-below.Post,
+  then-reads.Asked,
+  then-reads.Learnt,
+) (point-below-at t) point-below.Post point-below-Inv-loop point-below-μ-loop
+point-below-loop-again t c = ⊎-elim (λ w. search point-hit) (λ w. search point-miss) (c .if2 .came)
+
+point-below-returns-2 : (t : ℕ) → point-below-lts.Need-returns-2 (
+  point-in-leaf-reads.Asked,
+  point-in-leaf-reads.Learnt,
+  polygon-has-reads.Asked,
+  polygon-has-reads.Learnt,
+  point-below-below t,
+  point-below.Post,
+  then-reads.Asked,
+  then-reads.Learnt,
+) (point-below-at t) point-below.Post point-below-Inv-loop point-below-μ-loop
+point-below-returns-2 t c = search point-end
+
+pub +point-below-spec : {M : Type 1} → statement M
++point-below-spec = close μ-point-below λ t. point-below-lts.spec (
+  point-in-leaf-reads.Asked,
+  point-in-leaf-reads.Learnt,
+  polygon-has-reads.Asked,
+  polygon-has-reads.Learnt,
+  point-below-below t,
+  point-below.Post,
+  then-reads.Asked,
+  then-reads.Learnt,
+)
+    (point-below-at t)
+    point-below.Post
+    point-below-Inv-loop
+    point-below-μ-loop
+    (point-below-mul-a t)
+    (point-below-add-a t)
+    (point-below-add-e t)
+    (point-below-mul-point-in-leaf t)
+    (point-below-sub-point-in-leaf t)
+    (point-below-part-point-in-leaf-start t)
+    (point-below-part-point-in-leaf-end t)
+    (point-below-point-in-leaf-requires t)
+    (point-below-returns t)
+    (point-below-add-n t)
+    (point-below-mul-n t)
+    (point-below-shared-slice-read-n t)
+    (point-below-cast-n t)
+    (point-below-loop-holds t)
+    (point-below-add-j t)
+    (point-below-add-j-2 t)
+    (point-below-mul-j t)
+    (point-below-shared-slice-read-j t)
+    (point-below-polygon-has-requires t)
+    (point-below-sub-point-below t)
+    (point-below-point-below-requires t)
+    (point-below-then-requires t)
+    (point-below-add-low t)
+    (point-below-add-i t)
+    (point-below-loop-less t)
+    (point-below-loop-again t)
+    (point-below-returns-2 t)

@@ -1,0 +1,78 @@
+-- `point_query::point_in_leaf` meets its contract; its loop is in WalkLeaf.
+use Prim.Native.Nat.{_-_}
+use mathlib.Core.List.{[]}
+use borrow.Author.Needs.{needs}
+use Rattle.index.specs.Walks.{cellTest}
+use Rattle.index.proofs.WalkLeaf.{AtEntry, leaf-count-fits, entry-start, entry-miss, entry-end}
+use Rattle.index.proofs.PointWalk.{leaf-held, leaf-not-held}
+use Rattle.index.proofs.point_query.point_in_leaf.Statement.{statement}
+use Rattle.index.proofs.point_query.point_in_leaf.Tie as tie
+
+abbrev Inv-loop : tie.InvT-loop
+Inv-loop p c n i₀ i = AtEntry (cellTest c) p i []
+
+abbrev μ-loop : tie.MeasureT-loop
+μ-loop p c n i₀ i = n - i
+
+shared-slice-read-n : tie.Need-shared-slice-read-n Inv-loop μ-loop
+shared-slice-read-n c = search needs
+
+cast-n : tie.Need-cast-n Inv-loop μ-loop
+cast-n c = search leaf-count-fits
+
+loop-holds : tie.Need-loop-holds Inv-loop μ-loop
+loop-holds c = search entry-start
+
+is-of-cell-requires : tie.Need-is-of-cell-requires Inv-loop μ-loop
+is-of-cell-requires c κs = search needs
+
+mul-tag : tie.Need-mul-tag Inv-loop μ-loop
+mul-tag c = search needs
+
+add-tag : tie.Need-add-tag Inv-loop μ-loop
+add-tag c = search needs
+
+add-tag-2 : tie.Need-add-tag-2 Inv-loop μ-loop
+add-tag-2 c = search needs
+
+mul-tag-2 : tie.Need-mul-tag-2 Inv-loop μ-loop
+mul-tag-2 c = search needs
+
+shared-slice-read-tag : tie.Need-shared-slice-read-tag Inv-loop μ-loop
+shared-slice-read-tag c = search needs
+
+returns : tie.Need-returns Inv-loop μ-loop
+returns c = search leaf-held
+
+add-i : tie.Need-add-i Inv-loop μ-loop
+add-i c = search needs
+
+loop-less : tie.Need-loop-less Inv-loop μ-loop
+loop-less c = search needs
+
+loop-again : tie.Need-loop-again Inv-loop μ-loop
+loop-again c = search entry-miss
+
+returns-2 : tie.Need-returns-2 Inv-loop μ-loop
+returns-2 c = search (leaf-not-held, entry-end)
+
+pub point-in-leaf-spec : {M : Type 1} → statement M
+point-in-leaf-spec =
+    tie.close
+    (tie.spec
+    Inv-loop
+    μ-loop
+    shared-slice-read-n
+    cast-n
+    loop-holds
+    is-of-cell-requires
+    mul-tag
+    add-tag
+    add-tag-2
+    mul-tag-2
+    shared-slice-read-tag
+    returns
+    add-i
+    loop-less
+    loop-again
+    returns-2)

@@ -1,0 +1,358 @@
+-- `window_query::count_below` meets its contract, with the level as its measure; its loop is in WalkLoop and WindowWalk.
+use Prim.Native.Nat.{ℕ, _<_, _-_}
+use mathlib.Core.Logic.{⊎-elim}
+use native.Mathlib.Omega.{arith}
+use borrow.Author.Needs.{needs}
+use Rattle.index.proofs.WalkRows.{leaf-part, items-fit}
+use Rattle.index.proofs.WalkLoop.{child-walkable, child-polygon, child-fits}
+use Rattle.index.proofs.WindowWalk.{CountLoop, matched-leaf, counting-start, counting-miss, counting-hit, matches-fit, visits-fit, counting-end}
+use borrow.Fn.Kinds.{In}
+use borrow.Fn.PlainCycle.{Measures, is, falls, and}
+use Rattle.index.proofs.window_query.count_below.Reads as count-below
+use Rattle.index.proofs.window_query.count_below.Kinds as count-below-kinds
+use Rattle.index.proofs.window_query.+count_below.Lts-count_below as count-below-lts
+use Rattle.index.proofs.walk.polygon_meets.Reads as polygon-meets-reads
+use Rattle.index.proofs.window_query.count_leaf.Reads as count-leaf-reads
+use Rattle.index.proofs.window_query.+count_below.{statement}
+use Rattle.index.proofs.window_query.+count_below.Tie.{close}
+
+abbrev μ-count-below : Measures 1 count-below-kinds.ps ℕ
+μ-count-below κs a = a .1 .0
+
+abbrev count-below-at : ℕ → In 1 count-below-kinds.ps
+count-below-at t =
+    and 1 count-below-kinds.ps (is 1 count-below-kinds.ps μ-count-below t) count-below.Pre
+
+abbrev count-below-below : ℕ → In 1 count-below-kinds.ps
+count-below-below t =
+    and 1 count-below-kinds.ps (falls 1 count-below-kinds.ps _<_ μ-count-below t) count-below.Pre
+
+abbrev count-below-Inv-loop : count-below-lts.InvT-loop
+count-below-Inv-loop m level lo k w a e n so-far₀ low₀ i₀ so-far low i = CountLoop w level m lo k i low so-far
+
+abbrev count-below-μ-loop : count-below-lts.MeasureT-loop
+count-below-μ-loop m level lo k w a e n so-far₀ low₀ i₀ so-far low i = n - i
+
+count-below-mul-a : (t : ℕ) → count-below-lts.Need-mul-a (
+  count-leaf-reads.Asked,
+  count-leaf-reads.Learnt,
+  polygon-meets-reads.Asked,
+  polygon-meets-reads.Learnt,
+  count-below-below t,
+  count-below.Post,
+) (count-below-at t) count-below.Post count-below-Inv-loop count-below-μ-loop
+count-below-mul-a t c = search needs
+
+count-below-add-a : (t : ℕ) → count-below-lts.Need-add-a (
+  count-leaf-reads.Asked,
+  count-leaf-reads.Learnt,
+  polygon-meets-reads.Asked,
+  polygon-meets-reads.Learnt,
+  count-below-below t,
+  count-below.Post,
+) (count-below-at t) count-below.Post count-below-Inv-loop count-below-μ-loop
+count-below-add-a t c = search needs
+
+count-below-add-e : (t : ℕ) → count-below-lts.Need-add-e (
+  count-leaf-reads.Asked,
+  count-leaf-reads.Learnt,
+  polygon-meets-reads.Asked,
+  polygon-meets-reads.Learnt,
+  count-below-below t,
+  count-below.Post,
+) (count-below-at t) count-below.Post count-below-Inv-loop count-below-μ-loop
+count-below-add-e t c = search needs
+
+count-below-mul-count-leaf : (t : ℕ) → count-below-lts.Need-mul-count-leaf (
+  count-leaf-reads.Asked,
+  count-leaf-reads.Learnt,
+  polygon-meets-reads.Asked,
+  polygon-meets-reads.Learnt,
+  count-below-below t,
+  count-below.Post,
+) (count-below-at t) count-below.Post count-below-Inv-loop count-below-μ-loop
+count-below-mul-count-leaf t c = search needs
+
+count-below-sub-count-leaf : (t : ℕ) → count-below-lts.Need-sub-count-leaf (
+  count-leaf-reads.Asked,
+  count-leaf-reads.Learnt,
+  polygon-meets-reads.Asked,
+  polygon-meets-reads.Learnt,
+  count-below-below t,
+  count-below.Post,
+) (count-below-at t) count-below.Post count-below-Inv-loop count-below-μ-loop
+count-below-sub-count-leaf t c = search needs
+
+count-below-part-count-leaf-start : (t : ℕ) → count-below-lts.Need-part-count-leaf-start (
+  count-leaf-reads.Asked,
+  count-leaf-reads.Learnt,
+  polygon-meets-reads.Asked,
+  polygon-meets-reads.Learnt,
+  count-below-below t,
+  count-below.Post,
+) (count-below-at t) count-below.Post count-below-Inv-loop count-below-μ-loop
+count-below-part-count-leaf-start t c = search needs
+
+count-below-part-count-leaf-end : (t : ℕ) → count-below-lts.Need-part-count-leaf-end (
+  count-leaf-reads.Asked,
+  count-leaf-reads.Learnt,
+  polygon-meets-reads.Asked,
+  polygon-meets-reads.Learnt,
+  count-below-below t,
+  count-below.Post,
+) (count-below-at t) count-below.Post count-below-Inv-loop count-below-μ-loop
+count-below-part-count-leaf-end t c = search needs
+
+count-below-count-leaf-requires : (t : ℕ) → count-below-lts.Need-count-leaf-requires (
+  count-leaf-reads.Asked,
+  count-leaf-reads.Learnt,
+  polygon-meets-reads.Asked,
+  polygon-meets-reads.Learnt,
+  count-below-below t,
+  count-below.Post,
+) (count-below-at t) count-below.Post count-below-Inv-loop count-below-μ-loop
+count-below-count-leaf-requires t c κs = search leaf-part
+
+count-below-returns : (t : ℕ) → count-below-lts.Need-returns (
+  count-leaf-reads.Asked,
+  count-leaf-reads.Learnt,
+  polygon-meets-reads.Asked,
+  polygon-meets-reads.Learnt,
+  count-below-below t,
+  count-below.Post,
+) (count-below-at t) count-below.Post count-below-Inv-loop count-below-μ-loop
+count-below-returns t c = search matched-leaf
+
+count-below-add-n : (t : ℕ) → count-below-lts.Need-add-n (
+  count-leaf-reads.Asked,
+  count-leaf-reads.Learnt,
+  polygon-meets-reads.Asked,
+  polygon-meets-reads.Learnt,
+  count-below-below t,
+  count-below.Post,
+) (count-below-at t) count-below.Post count-below-Inv-loop count-below-μ-loop
+count-below-add-n t c = search needs
+
+count-below-mul-n : (t : ℕ) → count-below-lts.Need-mul-n (
+  count-leaf-reads.Asked,
+  count-leaf-reads.Learnt,
+  polygon-meets-reads.Asked,
+  polygon-meets-reads.Learnt,
+  count-below-below t,
+  count-below.Post,
+) (count-below-at t) count-below.Post count-below-Inv-loop count-below-μ-loop
+count-below-mul-n t c = search needs
+
+count-below-shared-slice-read-n : (t : ℕ) → count-below-lts.Need-shared-slice-read-n (
+  count-leaf-reads.Asked,
+  count-leaf-reads.Learnt,
+  polygon-meets-reads.Asked,
+  polygon-meets-reads.Learnt,
+  count-below-below t,
+  count-below.Post,
+) (count-below-at t) count-below.Post count-below-Inv-loop count-below-μ-loop
+count-below-shared-slice-read-n t c = search needs
+
+count-below-cast-n : (t : ℕ) → count-below-lts.Need-cast-n (
+  count-leaf-reads.Asked,
+  count-leaf-reads.Learnt,
+  polygon-meets-reads.Asked,
+  polygon-meets-reads.Learnt,
+  count-below-below t,
+  count-below.Post,
+) (count-below-at t) count-below.Post count-below-Inv-loop count-below-μ-loop
+count-below-cast-n t c = search items-fit
+
+count-below-loop-holds : (t : ℕ) → count-below-lts.Need-loop-holds (
+  count-leaf-reads.Asked,
+  count-leaf-reads.Learnt,
+  polygon-meets-reads.Asked,
+  polygon-meets-reads.Learnt,
+  count-below-below t,
+  count-below.Post,
+) (count-below-at t) count-below.Post count-below-Inv-loop count-below-μ-loop
+count-below-loop-holds t c = search counting-start
+
+count-below-add-j : (t : ℕ) → count-below-lts.Need-add-j (
+  count-leaf-reads.Asked,
+  count-leaf-reads.Learnt,
+  polygon-meets-reads.Asked,
+  polygon-meets-reads.Learnt,
+  count-below-below t,
+  count-below.Post,
+) (count-below-at t) count-below.Post count-below-Inv-loop count-below-μ-loop
+count-below-add-j t c = search needs
+
+count-below-add-j-2 : (t : ℕ) → count-below-lts.Need-add-j-2 (
+  count-leaf-reads.Asked,
+  count-leaf-reads.Learnt,
+  polygon-meets-reads.Asked,
+  polygon-meets-reads.Learnt,
+  count-below-below t,
+  count-below.Post,
+) (count-below-at t) count-below.Post count-below-Inv-loop count-below-μ-loop
+count-below-add-j-2 t c = search needs
+
+count-below-mul-j : (t : ℕ) → count-below-lts.Need-mul-j (
+  count-leaf-reads.Asked,
+  count-leaf-reads.Learnt,
+  polygon-meets-reads.Asked,
+  polygon-meets-reads.Learnt,
+  count-below-below t,
+  count-below.Post,
+) (count-below-at t) count-below.Post count-below-Inv-loop count-below-μ-loop
+count-below-mul-j t c = search needs
+
+count-below-shared-slice-read-j : (t : ℕ) → count-below-lts.Need-shared-slice-read-j (
+  count-leaf-reads.Asked,
+  count-leaf-reads.Learnt,
+  polygon-meets-reads.Asked,
+  polygon-meets-reads.Learnt,
+  count-below-below t,
+  count-below.Post,
+) (count-below-at t) count-below.Post count-below-Inv-loop count-below-μ-loop
+count-below-shared-slice-read-j t c = search needs
+
+count-below-polygon-meets-requires : (t : ℕ) → count-below-lts.Need-polygon-meets-requires (
+  count-leaf-reads.Asked,
+  count-leaf-reads.Learnt,
+  polygon-meets-reads.Asked,
+  polygon-meets-reads.Learnt,
+  count-below-below t,
+  count-below.Post,
+) (count-below-at t) count-below.Post count-below-Inv-loop count-below-μ-loop
+count-below-polygon-meets-requires t c κs = search child-polygon
+
+count-below-sub-count-below : (t : ℕ) → count-below-lts.Need-sub-count-below (
+  count-leaf-reads.Asked,
+  count-leaf-reads.Learnt,
+  polygon-meets-reads.Asked,
+  polygon-meets-reads.Learnt,
+  count-below-below t,
+  count-below.Post,
+) (count-below-at t) count-below.Post count-below-Inv-loop count-below-μ-loop
+count-below-sub-count-below t c = search needs
+
+count-below-count-below-requires : (t : ℕ) → count-below-lts.Need-count-below-requires (
+  count-leaf-reads.Asked,
+  count-leaf-reads.Learnt,
+  polygon-meets-reads.Asked,
+  polygon-meets-reads.Learnt,
+  count-below-below t,
+  count-below.Post,
+) (count-below-at t) count-below.Post count-below-Inv-loop count-below-μ-loop
+count-below-count-below-requires t c κs =
+    let l = c .before .before .before in
+    (omega arith, child-walkable _ _ _ _ _ _ _ _ _ _ (l .before .loop .inv .at) (l .loop-test .taken))
+
+count-below-add-so-far : (t : ℕ) → count-below-lts.Need-add-so-far (
+  count-leaf-reads.Asked,
+  count-leaf-reads.Learnt,
+  polygon-meets-reads.Asked,
+  polygon-meets-reads.Learnt,
+  count-below-below t,
+  count-below.Post,
+) (count-below-at t) count-below.Post count-below-Inv-loop count-below-μ-loop
+count-below-add-so-far t c = search matches-fit
+
+count-below-add-so-far-2 : (t : ℕ) → count-below-lts.Need-add-so-far-2 (
+  count-leaf-reads.Asked,
+  count-leaf-reads.Learnt,
+  polygon-meets-reads.Asked,
+  polygon-meets-reads.Learnt,
+  count-below-below t,
+  count-below.Post,
+) (count-below-at t) count-below.Post count-below-Inv-loop count-below-μ-loop
+count-below-add-so-far-2 t c = search visits-fit
+
+count-below-add-low : (t : ℕ) → count-below-lts.Need-add-low (
+  count-leaf-reads.Asked,
+  count-leaf-reads.Learnt,
+  polygon-meets-reads.Asked,
+  polygon-meets-reads.Learnt,
+  count-below-below t,
+  count-below.Post,
+) (count-below-at t) count-below.Post count-below-Inv-loop count-below-μ-loop
+count-below-add-low t c = search child-fits
+
+count-below-add-i : (t : ℕ) → count-below-lts.Need-add-i (
+  count-leaf-reads.Asked,
+  count-leaf-reads.Learnt,
+  polygon-meets-reads.Asked,
+  polygon-meets-reads.Learnt,
+  count-below-below t,
+  count-below.Post,
+) (count-below-at t) count-below.Post count-below-Inv-loop count-below-μ-loop
+count-below-add-i t c = search needs
+
+count-below-loop-less : (t : ℕ) → count-below-lts.Need-loop-less (
+  count-leaf-reads.Asked,
+  count-leaf-reads.Learnt,
+  polygon-meets-reads.Asked,
+  polygon-meets-reads.Learnt,
+  count-below-below t,
+  count-below.Post,
+) (count-below-at t) count-below.Post count-below-Inv-loop count-below-μ-loop
+count-below-loop-less t c = search needs
+
+count-below-loop-again : (t : ℕ) → count-below-lts.Need-loop-again (
+  count-leaf-reads.Asked,
+  count-leaf-reads.Learnt,
+  polygon-meets-reads.Asked,
+  polygon-meets-reads.Learnt,
+  count-below-below t,
+  count-below.Post,
+) (count-below-at t) count-below.Post count-below-Inv-loop count-below-μ-loop
+count-below-loop-again t c = ⊎-elim (λ x. search counting-hit) (λ x. search counting-miss) (c .if2 .came)
+
+count-below-returns-2 : (t : ℕ) → count-below-lts.Need-returns-2 (
+  count-leaf-reads.Asked,
+  count-leaf-reads.Learnt,
+  polygon-meets-reads.Asked,
+  polygon-meets-reads.Learnt,
+  count-below-below t,
+  count-below.Post,
+) (count-below-at t) count-below.Post count-below-Inv-loop count-below-μ-loop
+count-below-returns-2 t c = search counting-end
+
+pub +count-below-spec : {M : Type 1} → statement M
++count-below-spec = close μ-count-below λ t. count-below-lts.spec (
+  count-leaf-reads.Asked,
+  count-leaf-reads.Learnt,
+  polygon-meets-reads.Asked,
+  polygon-meets-reads.Learnt,
+  count-below-below t,
+  count-below.Post,
+)
+    (count-below-at t)
+    count-below.Post
+    count-below-Inv-loop
+    count-below-μ-loop
+    (count-below-mul-a t)
+    (count-below-add-a t)
+    (count-below-add-e t)
+    (count-below-mul-count-leaf t)
+    (count-below-sub-count-leaf t)
+    (count-below-part-count-leaf-start t)
+    (count-below-part-count-leaf-end t)
+    (count-below-count-leaf-requires t)
+    (count-below-returns t)
+    (count-below-add-n t)
+    (count-below-mul-n t)
+    (count-below-shared-slice-read-n t)
+    (count-below-cast-n t)
+    (count-below-loop-holds t)
+    (count-below-add-j t)
+    (count-below-add-j-2 t)
+    (count-below-mul-j t)
+    (count-below-shared-slice-read-j t)
+    (count-below-polygon-meets-requires t)
+    (count-below-sub-count-below t)
+    (count-below-count-below-requires t)
+    (count-below-add-so-far t)
+    (count-below-add-so-far-2 t)
+    (count-below-add-low t)
+    (count-below-add-i t)
+    (count-below-loop-less t)
+    (count-below-loop-again t)
+    (count-below-returns-2 t)

@@ -1,0 +1,64 @@
+-- `window_query::write_leaf` meets its contract; its loop is in WindowWrite.
+use Prim.Native.Nat.{_-_}
+use mathlib.Core.Logic.{⊎-elim}
+use borrow.Author.Needs.{needs}
+use Rattle.index.proofs.WindowWrite.{WriteLeaf, leaf-room-fits, write-start, write-room, write-miss, write-hit, write-end}
+use Rattle.index.proofs.window_query.write_leaf.Statement.{statement}
+use Rattle.index.proofs.window_query.write_leaf.Tie as tie
+
+abbrev Inv-loop : tie.InvT-loop
+Inv-loop p w list₀ at n next₀ i₀ list next i = WriteLeaf w p list₀ at i list next
+
+abbrev μ-loop : tie.MeasureT-loop
+μ-loop p w list₀ at n next₀ i₀ list next i = n - i
+
+shared-slice-read-n : tie.Need-shared-slice-read-n Inv-loop μ-loop
+shared-slice-read-n c = search needs
+
+cast-n : tie.Need-cast-n Inv-loop μ-loop
+cast-n c = search leaf-room-fits
+
+loop-holds : tie.Need-loop-holds Inv-loop μ-loop
+loop-holds c = search write-start
+
+is-inside-requires : tie.Need-is-inside-requires Inv-loop μ-loop
+is-inside-requires c κs = search needs
+
+put-entry-requires : tie.Need-put-entry-requires Inv-loop μ-loop
+put-entry-requires c κs = (search needs, search needs, search write-room)
+
+add-next : tie.Need-add-next Inv-loop μ-loop
+add-next c = search needs
+
+add-i : tie.Need-add-i Inv-loop μ-loop
+add-i c = search needs
+
+loop-less : tie.Need-loop-less Inv-loop μ-loop
+loop-less c = search needs
+
+loop-again : tie.Need-loop-again Inv-loop μ-loop
+loop-again c = ⊎-elim (λ x. search write-hit) (λ x. search write-miss) (c .if1 .came)
+
+same-length : tie.Need-same-length Inv-loop μ-loop
+same-length c = search needs
+
+returns : tie.Need-returns Inv-loop μ-loop
+returns c = search write-end
+
+pub write-leaf-spec : {M : Type 1} → statement M
+write-leaf-spec =
+    tie.close
+    (tie.spec
+    Inv-loop
+    μ-loop
+    shared-slice-read-n
+    cast-n
+    loop-holds
+    is-inside-requires
+    put-entry-requires
+    add-next
+    add-i
+    loop-less
+    loop-again
+    same-length
+    returns)

@@ -1,0 +1,47 @@
+-- The soundness test as the code takes it: a node with all below it, and what the functions on its part may rely on.
+use Prim.Native.Nat.{ℕ, suc, _≤_, _<_}
+use mathlib.Core.Bool.{Bool, _&&_, cond}
+use mathlib.Core.List.{List}
+use mathlib.Core.Path.{_≡_}
+use mathlib.Core.Option.{Option, none, some}
+use lib.ListN.{length, getD}
+use Rattle.tree.specs.Nodes.{Item, nodes}
+use Rattle.plane.specs.Plane.{planeSpace}
+use Rattle.memory.specs.Layout.{partsOf, part, rectCount, itemCount, polygonIn}
+use Rattle.memory.specs.SoundTest.{allPass, pairsPass, apart, polygonFits, countTest, apartTest, itemTest}
+use Rattle.memory.specs.Reading.{readNode}
+use Rattle.index.specs.Answers.{fanout}
+
+-- a part whose counts fit
+pub record NodePart (p : List ℕ) : Type 0 where
+  pub length-is : length p ≡ 128
+  pub few-rects : rectCount p ≤ 16
+  pub few-items : itemCount p ≤ 8
+
+-- a node is sound in itself, all below it included
+unfoldable pub nodeTest : (n : ℕ) → Item (planeSpace fanout) (suc n) → Bool
+nodeTest n b =
+    polygonFits (b .poly) && countTest fanout (b .child) && allPass (itemTest fanout n (b .poly)) (b .child)
+    && pairsPass (apartTest fanout n) (b .child)
+
+-- the number of nodes of a subtree that was read and is sound in itself; 0 otherwise
+unfoldable pub checked : (n : ℕ) → Option (Item (planeSpace fanout) (suc n)) → ℕ
+checked n none = 0
+checked n (some b) = cond (nodeTest n b) (nodes (planeSpace fanout) (suc n) b) 0
+
+-- the same of the subtree at part k of a memory, whose parts are those from lo on
+unfoldable pub checkedAt : ℕ → List ℕ → ℕ → ℕ → ℕ
+checkedAt n m lo k = checked n (readNode fanout n m lo k)
+
+-- the polygons at two parts share no cell
+unfoldable pub partsApart : List ℕ → ℕ → ℕ → Bool
+partsApart m i j = apart (polygonIn (part m i)) (polygonIn (part m j))
+
+-- part k is one of the memory's, and its polygon has at most 16 rectangles
+pub record PolygonPart (m : List ℕ) (k : ℕ) : Type 0 where
+  pub below : k < partsOf m
+  pub few-rects : rectCount (part m k) ≤ 16
+
+-- so is each of some parts
+pub record PolygonParts (m : List ℕ) (ks : List ℕ) : Type 0 where
+  pub each : (i : ℕ) → i < length ks → PolygonPart m (getD ks i 0)

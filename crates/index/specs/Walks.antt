@@ -1,0 +1,139 @@
+-- The walks that the queries make in a memory, below the node at a part: what they enter and what they find there.
+use Prim.Native.Nat.{ℕ, suc, _+_, _*_, _≤_, _<_}
+use mathlib.Core.Bool.{Bool, true, false, _||_, cond}
+use mathlib.Core.List.{List, [], _∷_, head?}
+use mathlib.Core.Option.{Option, none, some}
+use mathlib.Core.Path.{_≡_}
+use lib.ListN.{length, getD, set}
+use Rattle.geometry.specs.declared.rect.Cell.{Cell}
+use Rattle.geometry.specs.declared.rect.Rect.{Rect}
+use Rattle.geometry.specs.Cells.{hasCell}
+use Rattle.tree.specs.Lists.{keep}
+use Rattle.tree.specs.Nodes.{Item}
+use Rattle.tree.specs.Query.{ofCell, matching}
+use Rattle.tree.specs.Tree.{Tree}
+use Rattle.tree.specs.Walk.{nodeWalkVisits, nodeWalkEntries}
+use Rattle.plane.specs.Lines.{CellEntry}
+use Rattle.plane.specs.Plane.{planeSpace}
+use Rattle.plane.specs.Windows.{planeWindow}
+use Rattle.memory.specs.Layout.{partsOf, rightLength, rootIn, part, rectCount, itemCount, entriesIn}
+use Rattle.memory.specs.Reading.{readNode, reading}
+use Rattle.index.specs.declared.walk.Found.{Found}
+use Rattle.index.specs.declared.window_query.Matched.{Matched}
+use Rattle.index.specs.declared.answer.WindowFound.{WindowFound}
+use Rattle.index.specs.Answers.{fanout, windowRead, windowWritten}
+
+-- the point query's tests: a polygon has the cell, an entry is of the cell
+unfoldable pub hasTest : Cell → List Rect → Bool
+hasTest c p = planeSpace fanout .has p c
+
+unfoldable pub cellTest : Cell → CellEntry → Bool
+cellTest c e = ofCell (planeSpace fanout) c e
+
+-- a rectangle has the cell
+unfoldable pub hasRect : Cell → Rect → Bool
+hasRect c r = hasCell r c
+
+-- the window query's tests: a polygon shares a cell with the window, an entry's cell is in it
+unfoldable pub meetsTest : Rect → List Rect → Bool
+meetsTest w p = planeWindow fanout .meets p w
+
+unfoldable pub insideTest : Rect → CellEntry → Bool
+insideTest w e = matching (planeSpace fanout) (planeWindow fanout) w e
+
+module _ (t : List Rect → Bool) where
+  -- the nodes entered below the node at part k, itself among them; none where it does not read
+  unfoldable pub visitsFrom : (n : ℕ) → Option (Item (planeSpace fanout) (suc n)) → ℕ
+  visitsFrom n none = 0
+  visitsFrom n (some b) = nodeWalkVisits (planeSpace fanout) t n (b .child)
+
+  unfoldable pub visitsBelow : ℕ → List ℕ → ℕ → ℕ → ℕ
+  visitsBelow n m lo k = visitsFrom n (readNode fanout n m lo k)
+
+  module _ (u : CellEntry → Bool) where
+    -- the entries that pass u in the leaves entered, in depth-first order
+    unfoldable pub entriesFrom : (n : ℕ) → Option (Item (planeSpace fanout) (suc n)) → List CellEntry
+    entriesFrom n none = []
+    entriesFrom n (some b) = nodeWalkEntries (planeSpace fanout) t u n (b .child)
+
+    unfoldable pub entriesBelow : ℕ → List ℕ → ℕ → ℕ → List CellEntry
+    entriesBelow n m lo k = entriesFrom n (readNode fanout n m lo k)
+
+-- the entries of a leaf's part that pass
+unfoldable pub leafEntries : (CellEntry → Bool) → List ℕ → List CellEntry
+leafEntries u p = keep u (entriesIn p (itemCount p))
+
+-- A memory of a right length has a node at part k that reads, with its subtree in the parts from lo on. The bounds follow from that (the
+-- law walkable).
+pub record Walkable (n : ℕ) (m : List ℕ) (lo k : ℕ) : Type 0 where
+  pub right : rightLength m ≡ true
+  pub from : lo ≤ k
+  pub below : k < 256
+  pub ends : 64 + 128 * k + 128 ≤ length m
+  pub few : getD m (64 + 128 * k + 1) 0 ≤ 8
+  pub node : Item (planeSpace fanout) (suc n)
+  pub reads : readNode fanout n m lo k ≡ some node
+
+-- The part k is one of the memory's, and has the rectangles of a polygon.
+pub record PolygonAt (m : List ℕ) (k : ℕ) : Type 0 where
+  pub right : rightLength m ≡ true
+  pub below : k < partsOf m
+  pub few : rectCount (part m k) ≤ 16
+
+-- The numbers are the part of a leaf.
+pub record LeafPart (p : List ℕ) : Type 0 where
+  pub size : length p ≡ 128
+  pub few : itemCount p ≤ 8
+
+-- what a walk for a cell found: the first entry, and the visits
+unfoldable pub foundOf : Option CellEntry → ℕ → Found
+foundOf none v = record { held = false; tag = 0; visits = v }
+foundOf (some e) v = record { held = true; tag = e .tag; visits = v }
+
+unfoldable pub found : List CellEntry → ℕ → Found
+found es v = foundOf (head? es) v
+
+-- what two walks found, one after the other: the first entry of the two, and the visits of both
+unfoldable pub joined : Found → Found → Found
+joined a b = record { held = a .held || b .held; tag = cond (a .held) (a .tag) (b .tag); visits = a .visits + b .visits }
+
+-- what a walk for a window found: how many entries match, and the visits
+unfoldable pub matched : List CellEntry → ℕ → Matched
+matched es v = record { matches = length es; visits = v }
+
+-- a list with an entry's numbers at the at-th place, three numbers a place
+unfoldable pub putEntry : List ℕ → ℕ → CellEntry → List ℕ
+putEntry l at e = set (set (set l (3 * at) (e .cell .x)) (3 * at + 1) (e .cell .y)) (3 * at + 2) (e .tag)
+
+-- a list with the numbers of some entries from the at-th place on
+unfoldable pub putEntries : List ℕ → ℕ → List CellEntry → List ℕ
+putEntries l at [] = l
+putEntries l at (e ∷ es) = putEntries (putEntry l at e) (at + 1) es
+
+-- The entries were written into l from the at-th place on, which gives l′; next is the first free place.
+pub record Listed (l : List ℕ) (at : ℕ) (es : List CellEntry) (l′ : List ℕ) (next : ℕ) : Type 0 where
+  pub next-is : next ≡ at + length es
+  pub list : l′ ≡ putEntries l at es
+  pub same-length : length l′ ≡ length l
+
+-- A leaf's part can be walked, and its entries in the window fit into the list from the at-th place on.
+pub record LeafRoom (p : List ℕ) (w : Rect) (l : List ℕ) (at : ℕ) : Type 0 where
+  pub leaf : LeafPart p
+  pub room : 3 * (at + length (leafEntries (insideTest w) p)) ≤ length l
+
+-- The node at part k can be walked, and the entries below it in the window fit into the list from the at-th place on.
+pub record WalkRoom (n : ℕ) (m : List ℕ) (lo k : ℕ) (w : Rect) (l : List ℕ) (at : ℕ) : Type 0 where
+  pub walk : Walkable n m lo k
+  pub room : 3 * (at + length (entriesBelow (meetsTest w) (insideTest w) n m lo k)) ≤ length l
+
+-- The memory reads as a tree whose leaves lie that many steps below its root, which is at that part.
+pub record TreeIn (m : List ℕ) (level root : ℕ) : Type 0 where
+  pub tree : Tree (planeSpace fanout)
+  pub reads : reading fanout m ≡ some (some tree)
+  pub level-is : tree .level ≡ level
+  pub root-is : rootIn m ≡ root
+
+-- A window query of the index that the memory reads as ended with that answer, and left the list l′.
+pub record WindowDone (m : List ℕ) (w : Rect) (l l′ : List ℕ) (r : WindowFound) : Type 0 where
+  pub answer : r ≡ windowRead w (length l) (reading fanout m)
+  pub list : l′ ≡ windowWritten w (reading fanout m) l

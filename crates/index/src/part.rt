@@ -1,0 +1,76 @@
+// A node's part: its counts and its unused numbers.
+ghost use mathlib.Core.Path.{_≡_};
+ghost use Prim.Native.Nat.{_≤_};
+ghost use lib.ListN.{length};
+ghost use Rattle.memory.specs.Layout.{allZero, countsFit, restZero, nodeFits};
+ghost use Rattle.memory.proofs.ReadingLaws.{RightLength};
+ghost use Rattle.index.specs.Answers.{fanout};
+ghost use Rattle.index.specs.Check.{NodePart};
+use crate::bits::in_use;
+
+// Whether every number is zero.
+pub fn all_zero(s: &[u32]) -> bool
+    ensures { λ b. ⌜ b ≡ allZero (now (s .entry)) ⌝ }
+{
+    let mut i = 0;
+    while i < s.len() {
+        if s[i] != 0 {
+            return false;
+        }
+        i += 1;
+    }
+    true
+}
+
+// Whether a part has 1 to 16 rectangles and 1 to 8 entries or branches.
+fn counts_fit(p: &[u32]) -> bool
+    requires { ⌜ 2 ≤ length (now p) ⌝ }
+    ensures { λ b. ⌜ b ≡ countsFit fanout (now (p .entry)) ⌝ }
+{
+    let rects = p[0];
+    if rects < 1 {
+        return false;
+    }
+    if 16 < rects {
+        return false;
+    }
+    let items = p[1];
+    if items < 1 {
+        return false;
+    }
+    items <= 8
+}
+
+// Whether the numbers behind the rectangles and behind the items, of w numbers each, are zero.
+fn rest_zero(p: &[u32], w: usize) -> bool
+    requires { ⌜ NodePart (now p) × (w ≤ 3) ⌝ }
+    ensures { λ b. ⌜ b ≡ restZero w (now (p .entry)) ⌝ }
+{
+    let n = p[0] as usize;
+    let a = 2 + 4 * n;
+    if all_zero(&p[a..66]) {
+        let count = p[1] as usize;
+        let b = 66 + w * count;
+        return all_zero(&p[b..]);
+    }
+    false
+}
+
+// Whether part k is a node's, whose items take w numbers each: in use, with counts and unused numbers that fit.
+pub fn node_fits(m: &[u32], k: usize, w: usize) -> bool
+    requires { ⌜ RightLength (now m) × (w ≤ 3) ⌝ }
+    ensures { λ b. ⌜ b ≡ nodeFits fanout w (now (m .entry)) k ⌝ }
+{
+    if (m.len() - 64) / 128 <= k {
+        return false;
+    }
+    if !in_use(m, k) {
+        return false;
+    }
+    let at = 64 + 128 * k;
+    let p = &m[at..at + 128];
+    if !counts_fit(p) {
+        return false;
+    }
+    rest_zero(p, w)
+}

@@ -1,0 +1,100 @@
+// The point query: the walk into the nodes whose polygon has the cell.
+ghost use mathlib.Core.Path.{_≡_};
+ghost use Prim.Native.Nat.{_+_, _*_, _<_};
+ghost use lib.ListN.{length};
+ghost use Rattle.memory.specs.Layout.{entryIn};
+ghost use Rattle.memory.specs.Reading.{reading};
+ghost use Rattle.index.specs.Answers.{fanout, pointRead};
+ghost use Rattle.index.specs.Walks.{hasTest, cellTest, visitsBelow, entriesBelow, leafEntries, Walkable, LeafPart, found, TreeIn};
+use crate::answer::PointFound;
+use crate::walk::Found;
+use crate::walk::polygon_has;
+use geometry::Cell;
+
+// Whether the i-th entry of a leaf's part is of the cell.
+fn is_of_cell(p: &[u32], i: usize, c: Cell) -> bool
+    requires { ⌜ (length (now p) ≡ 128) × (i < 8) ⌝ }
+    ensures { λ b. ⌜ b ≡ cellTest c (entryIn (now (p .entry)) i) ⌝ }
+{
+    let at = 66 + 3 * i;
+    if p[at] != c.x {
+        return false;
+    }
+    p[at + 1] == c.y
+}
+
+// The entry of the cell in a leaf's part.
+fn point_in_leaf(p: &[u32], c: Cell) -> Found
+    requires { ⌜ LeafPart (now p) ⌝ }
+    ensures { λ r. ⌜ r ≡ found (leafEntries (cellTest c) (now (p .entry))) 1 ⌝ }
+{
+    let n = p[1] as usize;
+    let mut i = 0;
+    while i < n {
+        if is_of_cell(p, i, c) {
+            let tag = p[66 + 3 * i + 2];
+            return Found {
+                held: true,
+                tag,
+                visits: 1,
+            };
+        }
+        i += 1;
+    }
+    Found {
+        held: false,
+        tag: 0,
+        visits: 1,
+    }
+}
+
+// The walk below the node at part k, whose subtree has the parts from lo on: it enters only children
+// whose polygon has the cell.
+pub fn point_below(m: &[u32], level: u32, lo: u32, k: u32, c: Cell) -> Found
+    requires { ⌜ Walkable level (now m) lo k ⌝ }
+    ensures { λ r. ⌜ r ≡ found (entriesBelow (hasTest c) (cellTest c) level (now (m .entry)) lo k) (visitsBelow (hasTest c) level (now (m .entry)) lo k) ⌝ }
+{
+    let a = 64 + 128 * (k as usize);
+    let e = a + 128;
+    if level == 0 {
+        return point_in_leaf(&m[a..e], c);
+    }
+    let n = m[a + 1] as usize;
+    let mut so_far = Found {
+        held: false,
+        tag: 0,
+        visits: 1,
+    };
+    let mut low = lo;
+    let mut i = 0;
+    while i < n {
+        let j = m[a + 66 + i];
+        if polygon_has(m, j, c) {
+            let below = point_below(m, level - 1, low, j, c);
+            so_far = so_far.then(below);
+        }
+        low = j + 1;
+        i += 1;
+    }
+    so_far
+}
+
+// The point query of the tree in a memory: its root is visited too, if its polygon has the cell.
+fn point_in_tree(m: &[u32], level: u32, root: u32, c: Cell) -> PointFound
+    requires { ⌜ TreeIn (now m) level root ⌝ }
+    ensures { λ r. ⌜ r ≡ pointRead c (reading fanout (now (m .entry))) ⌝ }
+{
+    if !polygon_has(m, root, c) {
+        return PointFound::NotHeld { visits: 0 };
+    }
+    let found = point_below(m, level, 0, root, c);
+    if found.held {
+        return PointFound::Held {
+            tag: found.tag,
+            visits: found.visits,
+        };
+    }
+    PointFound::NotHeld {
+        visits: found.visits,
+    }
+}

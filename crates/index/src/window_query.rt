@@ -1,0 +1,168 @@
+// The window query: two walks into the nodes whose polygon shares a cell with the window. The first
+// counts, the second writes: a list that is too short is left as it was.
+ghost use mathlib.Core.Path.{_≡_};
+ghost use Prim.Native.Nat.{_+_, _*_, _≤_, _<_};
+ghost use lib.ListN.{length};
+ghost use Rattle.memory.specs.Layout.{entryIn};
+ghost use Rattle.index.specs.Walks.{meetsTest, insideTest, visitsBelow, entriesBelow, leafEntries, Walkable, LeafPart, matched, putEntry, Listed, LeafRoom, WalkRoom, TreeIn, WindowDone};
+use crate::answer::WindowFound;
+use crate::walk::polygon_meets;
+use geometry::Cell;
+use geometry::Rect;
+
+// How many entries match a window, and the nodes visited.
+pub struct Matched {
+    pub matches: u32,
+    pub visits: u32,
+}
+
+// Whether the cell of the i-th entry of a leaf's part is in the window.
+fn is_inside(p: &[u32], i: usize, w: Rect) -> bool
+    requires { ⌜ (length (now p) ≡ 128) × (i < 8) ⌝ }
+    ensures { λ b. ⌜ b ≡ insideTest w (entryIn (now (p .entry)) i) ⌝ }
+{
+    let at = 66 + 3 * i;
+    let c = Cell {
+        x: p[at],
+        y: p[at + 1],
+    };
+    w.has_cell(c)
+}
+
+// How many entries of a leaf's part are in the window.
+fn count_leaf(p: &[u32], w: Rect) -> u32
+    requires { ⌜ LeafPart (now p) ⌝ }
+    ensures { λ r. ⌜ r ≡ length (leafEntries (insideTest w) (now (p .entry))) ⌝ }
+{
+    let n = p[1] as usize;
+    let mut matches: u32 = 0;
+    let mut i = 0;
+    while i < n {
+        if is_inside(p, i, w) {
+            matches += 1;
+        }
+        i += 1;
+    }
+    matches
+}
+
+// Counts the matches and the visits below the node at part k, whose subtree has the parts from lo on: the
+// walk enters only children whose polygon shares a cell with the window.
+pub fn count_below(m: &[u32], level: u32, lo: u32, k: u32, w: Rect) -> Matched
+    requires { ⌜ Walkable level (now m) lo k ⌝ }
+    ensures { λ r. ⌜ r ≡ matched (entriesBelow (meetsTest w) (insideTest w) level (now (m .entry)) lo k) (visitsBelow (meetsTest w) level (now (m .entry)) lo k) ⌝ }
+{
+    let a = 64 + 128 * (k as usize);
+    let e = a + 128;
+    if level == 0 {
+        let matches = count_leaf(&m[a..e], w);
+        return Matched { matches, visits: 1 };
+    }
+    let n = m[a + 1] as usize;
+    let mut so_far = Matched {
+        matches: 0,
+        visits: 1,
+    };
+    let mut low = lo;
+    let mut i = 0;
+    while i < n {
+        let j = m[a + 66 + i];
+        if polygon_meets(m, j, w) {
+            let below = count_below(m, level - 1, low, j, w);
+            so_far.matches += below.matches;
+            so_far.visits += below.visits;
+        }
+        low = j + 1;
+        i += 1;
+    }
+    so_far
+}
+
+// Writes the i-th entry of a leaf's part at the at-th place of the list.
+fn put_entry(p: &[u32], i: usize, list: &mut [u32], at: usize)
+    requires { ⌜ (length (now p) ≡ 128) × (i < 8) × (3 * at + 3 ≤ length (now list)) ⌝ }
+    ensures { λ _. ⌜ now (list .exit) ≡ putEntry (now (list .entry)) at (entryIn (now (p .entry)) i) ⌝ }
+{
+    let from = 66 + 3 * i;
+    let to = 3 * at;
+    list[to] = p[from];
+    list[to + 1] = p[from + 1];
+    list[to + 2] = p[from + 2];
+}
+
+// Writes the entries of a leaf's part that are in the window, from the at-th place of the list on;
+// answers the next place.
+fn write_leaf(p: &[u32], w: Rect, list: &mut [u32], at: usize) -> usize
+    requires { ⌜ LeafRoom (now p) w (now list) at ⌝ }
+    ensures { λ r. ⌜ Listed (now (list .entry)) at (leafEntries (insideTest w) (now (p .entry))) (now (list .exit)) r ⌝ }
+{
+    let n = p[1] as usize;
+    let mut next = at;
+    let mut i = 0;
+    while i < n {
+        if is_inside(p, i, w) {
+            put_entry(p, i, list, next);
+            next += 1;
+        }
+        i += 1;
+    }
+    next
+}
+
+// Writes the matches below the node at part k, in depth-first order, from the at-th place of the list
+// on; answers the next place.
+pub fn write_below(
+    m: &[u32],
+    level: u32,
+    lo: u32,
+    k: u32,
+    w: Rect,
+    list: &mut [u32],
+    at: usize,
+) -> usize
+    requires { ⌜ WalkRoom level (now m) lo k w (now list) at ⌝ }
+    ensures { λ r. ⌜ Listed (now (list .entry)) at (entriesBelow (meetsTest w) (insideTest w) level (now (m .entry)) lo k) (now (list .exit)) r ⌝ }
+{
+    let a = 64 + 128 * (k as usize);
+    let e = a + 128;
+    if level == 0 {
+        return write_leaf(&m[a..e], w, list, at);
+    }
+    let n = m[a + 1] as usize;
+    let mut next = at;
+    let mut low = lo;
+    let mut i = 0;
+    while i < n {
+        let j = m[a + 66 + i];
+        if polygon_meets(m, j, w) {
+            next = write_below(m, level - 1, low, j, w, list, next);
+        }
+        low = j + 1;
+        i += 1;
+    }
+    next
+}
+
+// The window query of the tree in a memory: its root is visited too, if its polygon shares a cell with the
+// window. The list is written only if all matches fit.
+fn window_in_tree(m: &[u32], level: u32, root: u32, w: Rect, list: &mut [u32]) -> WindowFound
+    requires { ⌜ TreeIn (now m) level root ⌝ }
+    ensures { λ r. ⌜ WindowDone (now (m .entry)) w (now (list .entry)) (now (list .exit)) r ⌝ }
+{
+    if !polygon_meets(m, root, w) {
+        return WindowFound::Found {
+            matches: 0,
+            visits: 0,
+        };
+    }
+    let found = count_below(m, level, 0, root, w);
+    let matches = found.matches;
+    if list.len() < 3 * (matches as usize) {
+        return WindowFound::ShortList { matches };
+    }
+    write_below(m, level, 0, root, w, list, 0);
+    WindowFound::Found {
+        matches,
+        visits: found.visits,
+    }
+}
