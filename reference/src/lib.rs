@@ -3,5 +3,7 @@
 
 pub mod drawing;
 pub mod geometry;
+pub mod lines;
 pub mod proved;
 pub mod random;
+pub mod tree;

@@ -1,12 +1,25 @@
-//! What the tests share: cases and their comparison, random lists, faults, and counts.
+//! What the tests share: cases of the drawing exercise and their comparison, random lists, faults,
+//! counts; for the index the checks after each command and the streams.
 
 // Each test program uses a part of this module.
 #![allow(dead_code)]
 
+pub mod bars;
+pub mod build;
 pub mod case;
+pub mod checked;
 pub mod fault;
+pub mod kinds;
+pub mod ladder;
 pub mod lists;
+pub mod others;
+pub mod parent;
+pub mod settle;
+pub mod shapes;
+pub mod sound;
+pub mod streams;
 pub mod tally;
+pub mod trace;
 
 use std::env;
 use std::io::Write;

@@ -25,6 +25,13 @@ impl Tally {
         *self.0.entry(kind).or_default() += 1;
     }
 
+    /// Adds the counts of another tally.
+    pub fn add_all(&mut self, other: &Tally) {
+        for (kind, n) in &other.0 {
+            *self.0.entry(kind).or_default() += n;
+        }
+    }
+
     /// Fails where a kind was seen less often than required.
     pub fn require(&self, least: u64, kinds: &[&'static str]) {
         for kind in kinds {

@@ -1,0 +1,140 @@
+//! The index: a tree of at most N nodes, and the calls with their refusals in number order.
+
+use super::{insert, query, remove, Entry, Refusal, Tree, MOST_NODES};
+use crate::geometry::{is_cell, Cell, Rectangle};
+
+#[derive(Clone, Debug, PartialEq, Eq)]
+pub struct Index {
+    n: usize,
+    tree: Option<Tree>,
+}
+
+/// 'A point query answers held with tag, or not held, and the visits.'
+#[derive(Clone, Copy, Debug, PartialEq, Eq)]
+pub struct PointAnswer {
+    /// The tag, if the cell is held.
+    pub tag: Option<u32>,
+    pub visits: usize,
+}
+
+/// A window query 'reports matches and visits'.
+#[derive(Clone, Copy, Debug, PartialEq, Eq)]
+pub struct WindowAnswer {
+    pub matches: usize,
+    pub visits: usize,
+}
+
+impl Index {
+    /// The fresh, empty index of at most `n` nodes, 'N from 1 to 256'.
+    pub fn new(n: usize) -> Index {
+        Index::with_tree(n, None)
+    }
+
+    /// The index with a sound tree of at most `n` nodes.
+    pub fn with_tree(n: usize, tree: Option<Tree>) -> Index {
+        assert!((1..=MOST_NODES).contains(&n), "N is from 1 to 256");
+        assert!(tree.as_ref().map_or(0, Tree::nodes) <= n, "at most N nodes");
+        Index { n, tree }
+    }
+
+    pub fn n(&self) -> usize {
+        self.n
+    }
+
+    /// The tree, none when the index is empty.
+    pub fn tree(&self) -> Option<&Tree> {
+        self.tree.as_ref()
+    }
+
+    /// The number of entries held.
+    pub fn held(&self) -> usize {
+        self.tree.as_ref().map_or(0, |tree| tree.entries().len())
+    }
+
+    /// 'Height is the number of levels, 0 when empty.'
+    pub fn height(&self) -> usize {
+        self.tree.as_ref().map_or(0, Tree::height)
+    }
+
+    /// Puts the entry in; reports the entries held after the call. Refusals 3, 5, 7 and 8.
+    pub fn insert(&mut self, cell: Cell, tag: u32) -> Result<usize, Refusal> {
+        test_cell(cell)?;
+        if self.holds(cell) {
+            return Err(Refusal::Held);
+        }
+        let after = insert(self.tree(), Entry { cell, tag }).map_err(Refusal::Polygon)?;
+        if after.nodes() > self.n {
+            return Err(Refusal::Nodes);
+        }
+        self.tree = Some(after);
+        Ok(self.held())
+    }
+
+    /// Takes the cell's entry out; reports the entries held after the call. Refusals 3 and 6.
+    pub fn remove(&mut self, cell: Cell) -> Result<usize, Refusal> {
+        test_cell(cell)?;
+        match &self.tree {
+            Some(tree) if self.holds(cell) => self.tree = remove(tree, cell),
+            _ => return Err(Refusal::NotHeld),
+        }
+        Ok(self.held())
+    }
+
+    /// Empties the index; reports the entries held after the call.
+    pub fn clear(&mut self) -> usize {
+        self.tree = None;
+        self.held()
+    }
+
+    /// Refusal 3.
+    pub fn point(&self, cell: Cell) -> Result<PointAnswer, Refusal> {
+        test_cell(cell)?;
+        Ok(PointAnswer {
+            tag: self.entry_of(cell).map(|e| e.tag),
+            visits: self
+                .tree()
+                .map_or(0, |tree| query::point_visits(tree, cell)),
+        })
+    }
+
+    /// 'Writes x, y, tag for each matching entry in depth-first order, leaves the rest of the
+    /// list.' Refusals 3 and 9.
+    pub fn window(&self, window: Rectangle, list: &mut [u32]) -> Result<WindowAnswer, Refusal> {
+        if !window.is_valid() {
+            return Err(Refusal::Invalid);
+        }
+        let found = self
+            .tree()
+            .map_or_else(Vec::new, |tree| query::matches(tree, window));
+        let matches = found.len();
+        if list.len() < 3 * matches {
+            return Err(Refusal::ShortList { matches });
+        }
+        for (i, Entry { cell: [x, y], tag }) in found.into_iter().enumerate() {
+            list[3 * i..3 * i + 3].copy_from_slice(&[x, y, tag]);
+        }
+        Ok(WindowAnswer {
+            matches,
+            visits: self
+                .tree()
+                .map_or(0, |tree| query::window_visits(tree, window)),
+        })
+    }
+
+    fn entry_of(&self, cell: Cell) -> Option<Entry> {
+        self.tree().and_then(|tree| query::entry_of(tree, cell))
+    }
+
+    fn holds(&self, cell: Cell) -> bool {
+        self.entry_of(cell).is_some()
+    }
+}
+
+/// Refusal 3: 'coordinate over 65535.'
+fn test_cell(cell: Cell) -> Result<(), Refusal> {
+    if is_cell(cell) {
+        Ok(())
+    } else {
+        Err(Refusal::Invalid)
+    }
+}

@@ -1,0 +1,27 @@
+//! Document 01, 'The tree and its memory' up to 'Causes for saying no': the index as an owned tree,
+//! with the tree after a call named from the tree before. Memory and its layout are not part of it.
+
+mod choose;
+mod index;
+mod insert;
+mod line;
+mod node;
+mod polygon;
+mod query;
+mod refusal;
+mod remove;
+mod split;
+
+pub use index::{Index, PointAnswer, WindowAnswer};
+pub use insert::insert;
+pub use line::{leaf_line, routing_line, Line};
+pub use node::{Branch, Entry, Leaf, Node, Routing, Tree};
+pub use refusal::{PolygonLimit, Refusal};
+pub use remove::remove;
+pub use split::{split, Side};
+
+/// 'A leaf holds 1 to 8 entries', 'a routing node holds 1 to 8 branches'.
+pub const F: usize = 8;
+
+/// The most nodes of any index: 'N from 1 to 256'.
+pub const MOST_NODES: usize = 256;

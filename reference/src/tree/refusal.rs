@@ -1,0 +1,44 @@
+//! Document 01, 'Causes for saying no', as far as they do not speak of memory.
+
+/// Why a call refuses. The numbers 1, 2 and 4 speak of lengths and of memory that reads as no
+/// sound tree; an owned tree has neither.
+#[derive(Clone, Copy, Debug, PartialEq, Eq)]
+pub enum Refusal {
+    /// 'Coordinate over 65535; window with ll >= ur in a dimension or ur over 65536.'
+    Invalid,
+    /// 'Cell already held (insertion).'
+    Held,
+    /// 'Cell not held (removal).'
+    NotHeld,
+    /// In step 2 a list passed its limit.
+    Polygon(PolygonLimit),
+    /// 'Tree after would exceed N nodes.'
+    Nodes,
+    /// 'List shorter than 3 x matches'; reports the matches.
+    ShortList { matches: usize },
+}
+
+/// The three limits of step 2, in the order of the work.
+#[derive(Clone, Copy, Debug, PartialEq, Eq)]
+pub enum PolygonLimit {
+    /// 'Pieces over 256 after a cut by one rectangle.'
+    AfterCut,
+    /// 'Pieces over 256 .. after the common parts.'
+    AfterCommonParts,
+    /// 'The refined polygon over 16.'
+    Refined,
+}
+
+impl Refusal {
+    /// Document 01's number of the refusal.
+    pub fn number(self) -> u32 {
+        match self {
+            Refusal::Invalid => 3,
+            Refusal::Held => 5,
+            Refusal::NotHeld => 6,
+            Refusal::Polygon(_) => 7,
+            Refusal::Nodes => 8,
+            Refusal::ShortList { .. } => 9,
+        }
+    }
+}

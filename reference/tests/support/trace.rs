@@ -1,0 +1,131 @@
+//! Step 2 of an insertion, followed by the tests: the sizes of its lists at each level, the limit
+//! that is passed first, and the tree before any split.
+
+use super::sound::polygon_has;
+use super::{LIST_LIMIT, POLYGON_LIMIT};
+use reference::geometry::{cut_list, refine, Rectangle};
+use reference::tree::{Branch, Entry, Node, PolygonLimit, Tree};
+
+/// The largest lists of step 2, over all levels up to the one that passes a limit.
+#[derive(Clone, Copy, Debug, Default, PartialEq, Eq)]
+pub struct Sizes {
+    /// Pieces after a cut by one rectangle.
+    pub after_cut: usize,
+    pub after_common_parts: usize,
+    pub refined: usize,
+    /// Levels at which a polygon grew.
+    pub levels: usize,
+}
+
+impl Sizes {
+    /// The larger of each.
+    pub fn max(self, other: Sizes) -> Sizes {
+        Sizes {
+            after_cut: self.after_cut.max(other.after_cut),
+            after_common_parts: self.after_common_parts.max(other.after_common_parts),
+            refined: self.refined.max(other.refined),
+            levels: self.levels.max(other.levels),
+        }
+    }
+}
+
+/// What steps 1 to 3 do.
+#[derive(Clone, Debug)]
+pub struct Trace {
+    pub sizes: Sizes,
+    pub limit: Option<PolygonLimit>,
+    /// The tree after steps 1 to 3: a leaf may have nine entries. Not complete where a limit was
+    /// passed.
+    pub unsplit: Tree,
+}
+
+/// Follows the insertion of an entry whose cell is not held.
+pub fn trace(tree: &Tree, entry: Entry) -> Trace {
+    let mut unsplit = tree.clone();
+    unsplit.rectangle = unsplit.rectangle.grow(entry.cell);
+    let mut polygon = vec![unsplit.rectangle];
+    let mut sizes = Sizes::default();
+    let mut limit = None;
+    let mut node = &mut unsplit.root;
+    loop {
+        match node {
+            Node::Leaf(leaf) => {
+                leaf.entries.push(entry);
+                break;
+            }
+            Node::Routing(routing) => {
+                let level = follow(&routing.branches, &polygon, entry, &mut sizes);
+                let (place, grown) = match level {
+                    Ok(level) => level,
+                    Err(passed) => {
+                        limit = Some(passed);
+                        break;
+                    }
+                };
+                let branch = &mut routing.branches[place];
+                branch.polygon = grown;
+                polygon = branch.polygon.clone();
+                node = &mut branch.child;
+            }
+        }
+    }
+    Trace {
+        sizes,
+        limit,
+        unsplit,
+    }
+}
+
+/// One level: the branch's place and its polygon after.
+fn follow(
+    branches: &[Branch],
+    parent: &[Rectangle],
+    entry: Entry,
+    sizes: &mut Sizes,
+) -> Result<(usize, Vec<Rectangle>), PolygonLimit> {
+    for (place, branch) in branches.iter().enumerate() {
+        if polygon_has(&branch.polygon, entry.cell) {
+            return Ok((place, branch.polygon.clone()));
+        }
+    }
+    sizes.levels += 1;
+    let (place, at) = cheapest(branches, entry);
+    let mut list = branches[place].polygon.clone();
+    let mut pieces = vec![list[at].grow(entry.cell)];
+    let siblings = (0..branches.len()).filter(|&other| other != place);
+    for &s in siblings.flat_map(|other| &branches[other].polygon) {
+        pieces = cut_list(&pieces, s);
+        sizes.after_cut = sizes.after_cut.max(pieces.len());
+        within(pieces.len(), LIST_LIMIT, PolygonLimit::AfterCut)?;
+    }
+    let parts: Vec<Rectangle> = pieces
+        .iter()
+        .flat_map(|piece| parent.iter().filter_map(|&p| piece.common_part(p)))
+        .collect();
+    sizes.after_common_parts = sizes.after_common_parts.max(parts.len());
+    within(parts.len(), LIST_LIMIT, PolygonLimit::AfterCommonParts)?;
+    list.splice(at..=at, parts);
+    let refined = refine(&list);
+    sizes.refined = sizes.refined.max(refined.len());
+    within(refined.len(), POLYGON_LIMIT, PolygonLimit::Refined)?;
+    Ok((place, refined))
+}
+
+/// The branch and the rectangle of least extra area: the smallest of (extra area, branch,
+/// rectangle).
+fn cheapest(branches: &[Branch], entry: Entry) -> (usize, usize) {
+    let all = branches.iter().enumerate().flat_map(|(b, branch)| {
+        let extras = branch.polygon.iter().map(|r| r.extra_area(entry.cell));
+        extras.enumerate().map(move |(r, extra)| (extra, b, r))
+    });
+    let (_, branch, rectangle) = all.min().expect("a branch");
+    (branch, rectangle)
+}
+
+fn within(length: usize, most: usize, limit: PolygonLimit) -> Result<(), PolygonLimit> {
+    if length > most {
+        Err(limit)
+    } else {
+        Ok(())
+    }
+}
