@@ -1,7 +1,8 @@
-//! Links the proved library, target/staticlib/libdrawing.a of the repository.
+//! Links the proved libraries of the repository's target/staticlib: libdrawing.a, and libindex.a
+//! where it is there. Without libindex.a the tests and programs of the index are not compiled.
 //!
-//! LINTZOGER_LIB_DIR names another folder that holds a libdrawing.a, to try the tests against a
-//! library of one's own (for instance one with a fault that the tests should find).
+//! LINTZOGER_LIB_DIR names another folder that holds them, to try the tests against a library of
+//! one's own (for instance one with a fault that the tests should find).
 
 use std::env;
 use std::path::{Path, PathBuf};
@@ -9,20 +10,34 @@ use std::process::exit;
 
 fn main() {
     let folder = library_folder();
-    let archive = folder.join("libdrawing.a");
     println!("cargo:rerun-if-env-changed=LINTZOGER_LIB_DIR");
-    println!("cargo:rerun-if-changed={}", archive.display());
-    if !archive.is_file() {
+    println!("cargo:rustc-link-search=native={}", folder.display());
+    println!("cargo:rustc-check-cfg=cfg(lintzoger_index)");
+    if !link(&folder, "drawing", "LINTZOGER_ARCHIVE") {
         eprintln!(
             "{} is missing: run rt staticlib drawing first",
-            archive.display()
+            folder.join("libdrawing.a").display()
         );
         exit(1);
     }
-    println!("cargo:rustc-link-search=native={}", folder.display());
-    println!("cargo:rustc-link-lib=static=drawing");
-    // The test of the C example links the same archive.
-    println!("cargo:rustc-env=LINTZOGER_ARCHIVE={}", archive.display());
+    if link(&folder, "index", "LINTZOGER_INDEX_ARCHIVE") {
+        println!("cargo:rustc-cfg=lintzoger_index");
+    }
+}
+
+/// Links the folder's library of that name, if it is there. The tests of the C examples link the
+/// same archive, by the variable.
+fn link(folder: &Path, name: &str, variable: &str) -> bool {
+    let archive = folder.join(format!("lib{name}.a"));
+    if !archive.is_file() {
+        // The folder changes when the file appears.
+        println!("cargo:rerun-if-changed={}", folder.display());
+        return false;
+    }
+    println!("cargo:rerun-if-changed={}", archive.display());
+    println!("cargo:rustc-link-lib=static={name}");
+    println!("cargo:rustc-env={variable}={}", archive.display());
+    true
 }
 
 fn library_folder() -> PathBuf {

@@ -4,6 +4,9 @@
 pub mod drawing;
 pub mod geometry;
 pub mod lines;
+pub mod memory;
 pub mod proved;
+#[cfg(lintzoger_index)]
+pub mod proved_index;
 pub mod random;
 pub mod tree;

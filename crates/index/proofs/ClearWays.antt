@@ -1,33 +1,14 @@
--- The test of a memory's length, the loop that zeros a memory, and the ways out of clearing.
-use Prim.Native.Nat.{ℕ, _+_, _%_, _≤_, _<_}
-use mathlib.Core.Path.{_≡_, refl, sym, ap, _∙_}
+-- The loop that zeros a memory, and the ways out of clearing.
+use Prim.Native.Nat.{ℕ, _+_, _≤_, _<_}
+use mathlib.Core.Path.{_≡_, refl, ap, _∙_}
 use mathlib.Core.Bool.{Bool, true, false}
 use mathlib.Core.List.{List, _++_, append-nil}
 use native.Mathlib.Omega.{arith}
 use borrow.Author.Fill.{fill-more}
-use borrow.Author.Tests.{eqb-true, eq-eqb}
-use lib.Dec.{eqb}
 use lib.ListN.{length, drop, set, replicate, length-set, drop-of-length-le}
-use Rattle.geometry.proofs.Booleans.{is-false, same}
-use Rattle.memory.specs.Layout.{partsOf, rightLength}
-use Rattle.memory.proofs.ReadingLaws.{right-length, length-right}
+use Rattle.memory.specs.Layout.{rightLength}
 use Rattle.index.specs.declared.answer.Cleared.the-variants.{Accepted, WrongLength}
 use Rattle.index.specs.Answers.{clearAnswer, cleared}
-
-module _ (m : List ℕ) where
-  -- a memory shorter than one part's has no right length
-  pub too-short : length m < 192 → false ≡ rightLength m
-  too-short h = sym (is-false (rightLength m) (λ e. let r = length-right m e in absurd (let a = r .length-is in let b = r .some-parts in omega arith)))
-
-  -- nor has one longer than 256 parts'
-  pub too-long : 32832 < length m → false ≡ rightLength m
-  too-long h = sym (is-false (rightLength m) (λ e. let r = length-right m e in absurd (let a = r .length-is in let b = r .few-parts in omega arith)))
-
-  -- between them the length is right exactly if 64 is left over
-  pub whole-parts : 192 ≤ length m → length m ≤ 32832 → eqb (length m % 128) 64 ≡ rightLength m
-  whole-parts h k = same _ _
-      (λ e. let a : length m % 128 ≡ 64 = eqb-true _ _ e in right-length m (partsOf m) (omega arith) (omega arith) (omega arith))
-      (λ e. let r = length-right m e in let a : length m % 128 ≡ 64 = (let q = r .length-is in omega arith) in eq-eqb _ _ a)
 
 -- The first i numbers are zeroed.
 pub record Zeroing (m₀ m : List ℕ) (i : ℕ) : Type 0 where

@@ -3,6 +3,7 @@ use mathlib.Core.Path.{_≡_, refl, sym, ap, _∙_}
 use mathlib.Core.Bool.{Bool, true, false, _&&_, not, and-true, and-assoc}
 use mathlib.Core.List.{List, [], _∷_, _++_}
 use Prim.Native.Nat.{ℕ, _+_, _<_, _≤_}
+use native.Mathlib.Nat.{le-refl}
 use native.Mathlib.Omega.{arith}
 use borrow.Author.Tests.{lt-ltb, le-ltb}
 use lib.ListN.{drop}
@@ -20,6 +21,7 @@ use Rattle.geometry.proofs.NumberLaws.{rects-next, rects-end}
 use Rattle.geometry.proofs.RectWays.{is-part, is-nothing}
 use Rattle.memory.specs.SoundTest.{allPass, coveredBy, insideOf, apart}
 use Rattle.memory.proofs.SoundTested.{covered-none, covered-cons}
+use Rattle.index.specs.Check.{Skipped}
 use Rattle.index.proofs.PassLoops.{Passing, passing-start, passing-end, passing-stop, passing-on}
 
 pass-append : {A : Type 0} (f : A → Bool) (l k : List A) → allPass f (l ++ k) ≡ allPass f l && allPass f k
@@ -41,26 +43,43 @@ module _ (f : Rect → Bool) (r : Rect) where
   unfolding unlessEmpty nonEmpty allPass
   left-some h k = rw (lt-ltb (r .llx) (r .urx) h, lt-ltb (r .lly) (r .ury) k) (and-true (f r))
 
--- what is left of a rectangle that is not empty, from the i-th of n rectangles on
-module _ (m : List ℕ) (n i : ℕ) (r : Rect) (x : r .llx < r .urx) (y : r .lly < r .ury) where
-  pub left-end : n ≤ i → false ≡ allPass (coveredBy (drop i (rectsIn m n))) (unlessEmpty r)
-  left-end h = sym (left-some _ r x y ∙ ap (λ p. coveredBy p r) (rects-end m n i h) ∙ covered-none r)
+-- rectangles that share no cell with r are passed over
+module _ (m : List ℕ) (n : ℕ) (r : Rect) (i : ℕ) where
+  pub skip-start : i ≤ n → Skipped m n r i i
+  skip-start h = record { from = le-refl i; to = h; same = refl }
+
+  pub skip-on : (j : ℕ) (s : Rect) (b : Bool) → Skipped m n r i j → j < n → s ≡ rectAt m j → b ≡ sharesWith s r → b ≡ false → Skipped m n r i (j + 1)
+  unfolding sharesWith cut allPass
+  skip-on j s b v h e g f =
+      let z : nonEmpty (overlap r s) ≡ false = sym g ∙ f in
+      let a = v .from in
+      record {
+        from = omega arith;
+        to = omega arith;
+        same = v .same ∙ ap (λ p. coveredBy p r) (rects-next m n j h ∙ ap (λ q. q ∷ drop (j + 1) (rectsIn m n)) (sym e))
+            ∙ covered-cons s (drop (j + 1) (rectsIn m n)) r ∙ rw z (and-true (coveredBy (drop (j + 1) (rectsIn m n)) r));
+      }
+
+-- what is left of a rectangle that is not empty, from the i-th of n rectangles on, of which the j-th is the next to cut
+module _ (m : List ℕ) (n i₀ i : ℕ) (r : Rect) (x : r .llx < r .urx) (y : r .lly < r .ury) (v : Skipped m n r i₀ i) where
+  pub left-end : n ≤ i → false ≡ allPass (coveredBy (drop i₀ (rectsIn m n))) (unlessEmpty r)
+  left-end h = sym (left-some _ r x y ∙ v .same ∙ ap (λ p. coveredBy p r) (rects-end m n i h) ∙ covered-none r)
 
   module _ (s : Rect) (k : Common) (h : i < n) (e : s ≡ rectAt m i) (g : k ≡ commonPart r s) where
-    left-cut : allPass (coveredBy (drop i (rectsIn m n))) (unlessEmpty r) ≡ allPass (coveredBy (drop (i + 1) (rectsIn m n))) (cut r s)
+    left-cut : allPass (coveredBy (drop i₀ (rectsIn m n))) (unlessEmpty r) ≡ allPass (coveredBy (drop (i + 1) (rectsIn m n))) (cut r s)
     left-cut =
-        left-some _ r x y ∙ ap (λ p. coveredBy p r) (rects-next m n i h ∙ ap (λ q. q ∷ drop (i + 1) (rectsIn m n)) (sym e))
+        left-some _ r x y ∙ v .same ∙ ap (λ p. coveredBy p r) (rects-next m n i h ∙ ap (λ q. q ∷ drop (i + 1) (rectsIn m n)) (sym e))
         ∙ covered-cons s (drop (i + 1) (rectsIn m n)) r
 
     pub left-apart : (b : Bool) → k ≡ Nothing → b ≡ allPass (coveredBy (drop (i + 1) (rectsIn m n))) (unlessEmpty r)
-        → b ≡ allPass (coveredBy (drop i (rectsIn m n))) (unlessEmpty r)
+        → b ≡ allPass (coveredBy (drop i₀ (rectsIn m n))) (unlessEmpty r)
     unfolding cut allPass
     left-apart b q a =
         a ∙ left-some _ r x y ∙ sym (left-cut ∙ rw (is-nothing r s k g q) (and-true (coveredBy (drop (i + 1) (rectsIn m n)) r)))
 
     module _ (u : Rect) (q : k ≡ Part u) where
       -- the pieces of the cut are tested one after another
-      pieces : allPass (coveredBy (drop i (rectsIn m n))) (unlessEmpty r) ≡
+      pieces : allPass (coveredBy (drop i₀ (rectsIn m n))) (unlessEmpty r) ≡
           allPass (coveredBy (drop (i + 1) (rectsIn m n))) (unlessEmpty (record { llx = s .urx; lly = r .lly; urx = r .urx; ury = r .ury }))
           && allPass (coveredBy (drop (i + 1) (rectsIn m n))) (unlessEmpty (record { llx = r .llx; lly = r .lly; urx = s .llx; ury = r .ury }))
           && allPass (coveredBy (drop (i + 1) (rectsIn m n))) (unlessEmpty (record { llx = u .llx; lly = s .ury; urx = u .urx; ury = r .ury }))
@@ -71,19 +90,19 @@ module _ (m : List ℕ) (n i : ℕ) (r : Rect) (x : r .llx < r .urx) (y : r .lly
           left-cut ∙ rw (o .0, o .1) (simp pass-append)
 
       module _ (a : Bool) (ea : a ≡ allPass (coveredBy (drop (i + 1) (rectsIn m n))) (unlessEmpty (record { llx = s .urx; lly = r .lly; urx = r .urx; ury = r .ury }))) where
-        pub left-stop-1 : a ≡ false → false ≡ allPass (coveredBy (drop i (rectsIn m n))) (unlessEmpty r)
+        pub left-stop-1 : a ≡ false → false ≡ allPass (coveredBy (drop i₀ (rectsIn m n))) (unlessEmpty r)
         left-stop-1 f = rw (pieces, ← ea, f)
 
         module _ (fa : a ≡ true) (b : Bool) (eb : b ≡ allPass (coveredBy (drop (i + 1) (rectsIn m n))) (unlessEmpty (record { llx = r .llx; lly = r .lly; urx = s .llx; ury = r .ury }))) where
-          pub left-stop-2 : b ≡ false → false ≡ allPass (coveredBy (drop i (rectsIn m n))) (unlessEmpty r)
+          pub left-stop-2 : b ≡ false → false ≡ allPass (coveredBy (drop i₀ (rectsIn m n))) (unlessEmpty r)
           left-stop-2 f = rw (pieces, ← ea, ← eb, fa, f)
 
           module _ (fb : b ≡ true) (c : Bool) (ec : c ≡ allPass (coveredBy (drop (i + 1) (rectsIn m n))) (unlessEmpty (record { llx = u .llx; lly = s .ury; urx = u .urx; ury = r .ury }))) where
-            pub left-stop-3 : c ≡ false → false ≡ allPass (coveredBy (drop i (rectsIn m n))) (unlessEmpty r)
+            pub left-stop-3 : c ≡ false → false ≡ allPass (coveredBy (drop i₀ (rectsIn m n))) (unlessEmpty r)
             left-stop-3 f = rw (pieces, ← ea, ← eb, ← ec, fa, fb, f)
 
             pub left-last : (d : Bool) → c ≡ true → d ≡ allPass (coveredBy (drop (i + 1) (rectsIn m n))) (unlessEmpty (record { llx = u .llx; lly = r .lly; urx = u .urx; ury = s .lly }))
-                → d ≡ allPass (coveredBy (drop i (rectsIn m n))) (unlessEmpty r)
+                → d ≡ allPass (coveredBy (drop i₀ (rectsIn m n))) (unlessEmpty r)
             left-last d f ed = rw (pieces, ← ea, ← eb, ← ec, fa, fb, f) ed
 
 -- an empty rectangle is not covered: no rectangle cuts it

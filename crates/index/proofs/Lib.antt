@@ -5,6 +5,7 @@ pub mod CoverLaws
 pub mod LeafLaws
 pub mod CheckLaws
 pub mod CheckLoops
+pub mod OpenLaws
 pub mod ClearWays
 pub mod WalkParts
 pub mod WalkRows
@@ -16,3 +17,4 @@ pub mod WindowWrite
 pub mod TreeWalk
 pub mod PointWays
 pub mod WindowWays
+pub mod ExportWays

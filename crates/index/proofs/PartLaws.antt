@@ -1,43 +1,56 @@
 -- A node's part: the tests of its counts and of its unused numbers, as the code takes them.
 use mathlib.Core.Path.{_≡_, refl, sym, ap, _∙_}
-use mathlib.Core.Bool.{Bool, true, false, _&&_}
+use mathlib.Core.Bool.{Bool, true, false, _&&_, and-true, and-assoc}
 use mathlib.Core.List.{List, []}
-use Prim.Native.Nat.{ℕ, _+_, _*_, _-_, _<_, _≤_}
+use Prim.Native.Nat.{ℕ, suc, _+_, _*_, _-_, _<_, _≤_}
 use native.Mathlib.Omega.{arith}
 use native.Mathlib.Nat.{mul-le-mul}
 use native.Mathlib.Numerals.{add-one}
-use borrow.Author.Tests.{le-leb, lt-leb, lt-ltb, le-ltb, leb-true, eq-eqb, ne-eqb}
+use borrow.Author.Tests.{le-leb, lt-leb, lt-ltb, le-ltb, leb-true, eqb-true, eq-eqb}
+use lib.Bits.{bitOr, or-add-and, and-le-l, and-le-r, or-zero-l}
 use lib.Dec.{leb, eqb}
 use lib.ListN.{length, getD, take, drop, drop-of-length-le, length-drop}
 use lib.Seq.{drop-cons, take-all}
-use Rattle.geometry.proofs.Booleans.{all4}
+use Rattle.geometry.proofs.Booleans.{same, both, split-and, all4}
 use Rattle.memory.specs.Layout.{partsOf, part, inUse, allZero, rectCount, itemCount, countsFit, restZero, nodeFits}
 use Rattle.memory.proofs.ReadingLaws.{part-length}
 use Rattle.index.specs.Answers.{fanout}
 use Rattle.index.specs.Check.{NodePart}
 
--- Whether all numbers are zero is w, and it is settled by those from the i-th on.
-pub record Zeros (s : List ℕ) (i : ℕ) (w : Bool) : Type 0 where
-  pub i-le : i ≤ length s
-  pub rest : w ≡ allZero (drop i s)
+-- one of two numbers has a bit exactly if one of them is not zero
+or-zero : (a b : ℕ) → bitOr a b ≡ 0 → (a ≡ 0) × (b ≡ 0)
+or-zero a b e =
+    let s = or-add-and a b in
+    let l = and-le-l a b in
+    let r = and-le-r a b in
+    (omega arith, omega arith)
 
-pub zeros-start : (s : List ℕ) → Zeros s 0 (allZero s)
+zero-both : (a b : ℕ) → eqb (bitOr a b) 0 ≡ eqb a 0 && eqb b 0
+zero-both a b = same _ _
+    (λ t. let z = or-zero a b (eqb-true _ _ t) in both _ _ (eq-eqb a 0 (z .0)) (eq-eqb b 0 (z .1)))
+    (λ t. let z = split-and (eqb a 0) (eqb b 0) t in eq-eqb _ 0 (ap (λ x. bitOr x b) (eqb-true a 0 (z .0)) ∙ or-zero-l b ∙ eqb-true b 0 (z .1)))
+
+-- Whether all numbers are zero is w; of those before the i-th, the bits seen tell it.
+pub record Zeros (s : List ℕ) (seen i : ℕ) (w : Bool) : Type 0 where
+  pub i-le : i ≤ length s
+  pub rest : w ≡ eqb seen 0 && allZero (drop i s)
+
+pub zeros-start : (s : List ℕ) → Zeros s 0 0 (allZero s)
 zeros-start s = record { i-le = omega arith; rest = refl }
 
-module _ (s : List ℕ) (i : ℕ) (w : Bool) (v : Zeros s i w) where
-  zeros-next : i < length s → w ≡ eqb (getD s i 0) 0 && allZero (drop (i + 1) s)
+module _ (s : List ℕ) (seen i : ℕ) (w : Bool) (v : Zeros s seen i w) where
+  pub zeros-on : i < length s → Zeros s (bitOr seen (getD s i 0)) (i + 1) w
   unfolding allZero
-  zeros-next h = v .rest ∙ rw (add-one, drop-cons s i 0)
+  zeros-on h = record {
+    i-le = omega arith;
+    rest = v .rest ∙ rw (add-one, drop-cons s i 0, zero-both seen (getD s i 0)) (sym (and-assoc (eqb seen 0) (eqb (getD s i 0) 0) (allZero (drop (suc i) s))));
+  }
 
-  pub zeros-hit : i < length s → (getD s i 0 ≡ 0 → ⊥) → false ≡ w
-  zeros-hit h e = rw (zeros-next h, ne-eqb (getD s i 0) 0 e)
-
-  pub zeros-miss : i < length s → getD s i 0 ≡ 0 → Zeros s (i + 1) w
-  zeros-miss h e = record { i-le = omega arith; rest = zeros-next h ∙ rw (eq-eqb (getD s i 0) 0 e) }
-
-  pub zeros-end : length s ≤ i → true ≡ w
+  pub zeros-end : length s ≤ i → eqb seen 0 ≡ w
   unfolding allZero
-  zeros-end h = let e : drop i s ≡ [] = drop-of-length-le s h in rw (v .rest, e)
+  zeros-end h =
+      let e : drop i s ≡ [] = drop-of-length-le s h in
+      sym (v .rest ∙ rw e (and-true (eqb seen 0)))
 
 module _ (p : List ℕ) where
   pub counts-1 : rectCount p < 1 → false ≡ countsFit fanout p

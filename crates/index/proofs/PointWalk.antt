@@ -6,12 +6,12 @@ use mathlib.Core.List.{List, [], _∷_, _++_}
 use native.Mathlib.Omega.{arith}
 use borrow.Author.Tests.{eq-eqb, ne-eqb}
 use lib.Dec.{eqb}
-use lib.ListN.{drop, getD, take}
+use lib.ListN.{getD}
 use Rattle.geometry.specs.declared.rect.Cell.{Cell}
 use Rattle.plane.specs.Lines.{CellEntry}
 use Rattle.memory.specs.Layout.{part, itemCount, entryIn, polygonIn}
 use Rattle.index.specs.declared.walk.Found.{Found}
-use Rattle.index.specs.Walks.{hasTest, cellTest, visitsBelow, entriesBelow, leafEntries, Walkable, found, foundOf, joined}
+use Rattle.index.specs.Walks.{hasTest, cellTest, visitsBelow, leafEntries, Walkable, found, foundOf, joined, childAt, countAt, heldBelow, partAt}
 use Rattle.index.proofs.WalkLeaf.{AtEntry, entry-hit}
 use Rattle.index.proofs.WalkRows.{leaf-visits, leaf-entries, part-is}
 use Rattle.index.proofs.WalkLoop.{AtChild, child-start, child-miss, child-hit, end-visits, end-entries, so-far-few}
@@ -61,8 +61,8 @@ module _ (c : Cell) (p : List ℕ) (i : ℕ) (a : AtEntry (cellTest c) p i []) w
 
 module _ (c : Cell) (level : ℕ) (m : List ℕ) (lo k : ℕ) where
   -- a node that is a leaf
-  pub point-leaf : (r : Found) → level ≡ 0 → Walkable level m lo k → r ≡ found (leafEntries (cellTest c) (take (64 + 128 * k + 128 - (64 + 128 * k)) (drop (64 + 128 * k) m))) 1
-      → r ≡ found (entriesBelow (hasTest c) (cellTest c) level m lo k) (visitsBelow (hasTest c) level m lo k)
+  pub point-leaf : (r : Found) → level ≡ 0 → Walkable level m lo k → r ≡ found (leafEntries (cellTest c) (partAt m k)) 1
+      → r ≡ found (heldBelow c level m lo k) (visitsBelow (hasTest c) level m lo k)
   point-leaf r z v e =
       let v′ : Walkable 0 m lo k = rw z at v in
       rw (z, leaf-entries (hasTest c) (cellTest c) m lo k v′, leaf-visits (hasTest c) (cellTest c) m lo k v′, ← (part-is 0 m lo k v′)) e
@@ -79,31 +79,31 @@ module _ (c : Cell) (level : ℕ) (m : List ℕ) (lo k : ℕ) where
   point-start ne v = record { es = []; at = child-start (hasTest c) (cellTest c) level m lo k ne v; so-far = refl }
 
   module _ (i low : ℕ) (a : Found) (x : PointLoop c level m lo k i low a) where
-    pub point-end : getD m (64 + 128 * k + 1) 0 ≤ i → a ≡ found (entriesBelow (hasTest c) (cellTest c) level m lo k) (visitsBelow (hasTest c) level m lo k)
+    pub point-end : countAt m k ≤ i → a ≡ found (heldBelow c level m lo k) (visitsBelow (hasTest c) level m lo k)
     point-end h =
         x .so-far ∙ ap (λ l. found l (a .visits)) (end-entries (hasTest c) (cellTest c) level m lo k i low (a .visits) (x .es) (x .at) h)
-        ∙ ap (found (entriesBelow (hasTest c) (cellTest c) level m lo k)) (end-visits (hasTest c) (cellTest c) level m lo k i low (a .visits) (x .es) (x .at) h)
+        ∙ ap (found (heldBelow c level m lo k)) (end-visits (hasTest c) (cellTest c) level m lo k i low (a .visits) (x .es) (x .at) h)
 
-    module _ (h : i < getD m (64 + 128 * k + 1) 0) (b : Bool) (e : b ≡ hasTest c (polygonIn (part m (getD m (64 + 128 * k + 66 + i) 0)))) where
-      pub point-miss : (a′ : Found) → b ≡ false → a′ ≡ a → PointLoop c level m lo k (i + 1) (getD m (64 + 128 * k + 66 + i) 0 + 1) a′
+    module _ (h : i < countAt m k) (b : Bool) (e : b ≡ hasTest c (polygonIn (part m (childAt m k i)))) where
+      pub point-miss : (a′ : Found) → b ≡ false → a′ ≡ a → PointLoop c level m lo k (i + 1) (childAt m k i + 1) a′
       point-miss a′ f q = rw q (record { es = x .es; at = child-miss (hasTest c) (cellTest c) level m lo k i low (a .visits) (x .es) (x .at) h b e f; so-far = x .so-far })
 
-      module _ (f : b ≡ true) (d : Found) (g : d ≡ found (entriesBelow (hasTest c) (cellTest c) (level - 1) m low (getD m (64 + 128 * k + 66 + i) 0)) (visitsBelow (hasTest c) (level - 1) m low (getD m (64 + 128 * k + 66 + i) 0))) where
-        next-at : AtChild (hasTest c) (cellTest c) level m lo k (i + 1) (getD m (64 + 128 * k + 66 + i) 0 + 1) (a .visits + d .visits)
-            (x .es ++ entriesBelow (hasTest c) (cellTest c) (level - 1) m low (getD m (64 + 128 * k + 66 + i) 0))
+      module _ (f : b ≡ true) (d : Found) (g : d ≡ found (heldBelow c (level - 1) m low (childAt m k i)) (visitsBelow (hasTest c) (level - 1) m low (childAt m k i))) where
+        next-at : AtChild (hasTest c) (cellTest c) level m lo k (i + 1) (childAt m k i + 1) (a .visits + d .visits)
+            (x .es ++ heldBelow c (level - 1) m low (childAt m k i))
         next-at =
-            let q : d .visits ≡ visitsBelow (hasTest c) (level - 1) m low (getD m (64 + 128 * k + 66 + i) 0) = ap (λ r. r .visits) g ∙ found-visits _ _ in
+            let q : d .visits ≡ visitsBelow (hasTest c) (level - 1) m low (childAt m k i) = ap (λ r. r .visits) g ∙ found-visits _ _ in
             rw q (child-hit (hasTest c) (cellTest c) level m lo k i low (a .visits) (x .es) (x .at) h b e f)
 
         pub point-room : a .visits + d .visits ≤ 4294967295
         point-room = let q = so-far-few (hasTest c) (cellTest c) level m lo k _ _ _ _ next-at in omega arith
 
-        pub point-hit : (r a′ : Found) → r ≡ joined a d → a′ ≡ r → PointLoop c level m lo k (i + 1) (getD m (64 + 128 * k + 66 + i) 0 + 1) a′
+        pub point-hit : (r a′ : Found) → r ≡ joined a d → a′ ≡ r → PointLoop c level m lo k (i + 1) (childAt m k i + 1) a′
         point-hit r a′ y z =
             let j = z ∙ y in
-            let q : d .visits ≡ visitsBelow (hasTest c) (level - 1) m low (getD m (64 + 128 * k + 66 + i) 0) = ap (λ r. r .visits) g ∙ found-visits _ _ in
-            let p : a′ ≡ found (x .es ++ entriesBelow (hasTest c) (cellTest c) (level - 1) m low (getD m (64 + 128 * k + 66 + i) 0)) (a .visits + d .visits) =
-            j ∙ ap (λ r. joined r d) (x .so-far) ∙ ap (joined (found (x .es) (a .visits))) g ∙ found-append (x .es) (entriesBelow (hasTest c) (cellTest c) (level - 1) m low (getD m (64 + 128 * k + 66 + i) 0)) (a .visits) _
-            ∙ ap (λ w. found (x .es ++ entriesBelow (hasTest c) (cellTest c) (level - 1) m low (getD m (64 + 128 * k + 66 + i) 0)) (a .visits + w)) (sym q) in
+            let q : d .visits ≡ visitsBelow (hasTest c) (level - 1) m low (childAt m k i) = ap (λ r. r .visits) g ∙ found-visits _ _ in
+            let p : a′ ≡ found (x .es ++ heldBelow c (level - 1) m low (childAt m k i)) (a .visits + d .visits) =
+            j ∙ ap (λ r. joined r d) (x .so-far) ∙ ap (joined (found (x .es) (a .visits))) g ∙ found-append (x .es) (heldBelow c (level - 1) m low (childAt m k i)) (a .visits) _
+            ∙ ap (λ w. found (x .es ++ heldBelow c (level - 1) m low (childAt m k i)) (a .visits + w)) (sym q) in
             let w : a′ .visits ≡ a .visits + d .visits = ap (λ r. r .visits) p ∙ found-visits _ _ in
-            record { es = x .es ++ entriesBelow (hasTest c) (cellTest c) (level - 1) m low (getD m (64 + 128 * k + 66 + i) 0); at = rw w next-at; so-far = p ∙ ap (found _) (sym w) }
+            record { es = x .es ++ heldBelow c (level - 1) m low (childAt m k i); at = rw w next-at; so-far = p ∙ ap (found _) (sym w) }

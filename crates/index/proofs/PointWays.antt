@@ -3,15 +3,22 @@ use Prim.Native.Nat.{ℕ}
 use mathlib.Core.Path.{_≡_, refl, sym, _∙_}
 use mathlib.Core.Bool.{Bool, true, false, not, true≢false, false≢true}
 use mathlib.Core.List.{List, [], _∷_, head?}
+use mathlib.Core.Option.{none, some}
 use borrow.Author.Tests.{not-true, not-false}
 use Rattle.geometry.specs.declared.rect.Cell.{Cell}
+use Rattle.geometry.specs.Cells.{onGrid}
+use Rattle.tree.specs.Lists.{keep}
 use Rattle.plane.specs.Lines.{CellEntry}
-use Rattle.memory.specs.Layout.{part, polygonIn}
+use Rattle.memory.specs.Layout.{rightLength, part, polygonIn}
 use Rattle.memory.specs.Reading.{reading}
-use Rattle.index.specs.declared.answer.PointFound.the-variants.{Held, NotHeld}
+use Rattle.index.specs.declared.answer.PointFound.{PointFound}
+use Rattle.index.specs.declared.answer.PointFound.the-variants.{Held, NotHeld, WrongLength, OffGrid, NoTree}
 use Rattle.index.specs.declared.walk.Found.{Found}
-use Rattle.index.specs.Answers.{fanout, pointEnd, pointRead}
-use Rattle.index.specs.Walks.{hasTest, cellTest, visitsBelow, entriesBelow, found, foundOf, TreeIn}
+use Rattle.index.specs.Answers.{fanout, pointEnd, pointRead, pointAnswer}
+use Rattle.index.specs.declared.open.Opened.{Opened}
+use Rattle.index.specs.declared.open.Opened.the-variants as O
+use Rattle.index.specs.Open.{OpenedAs, TreeIn}
+use Rattle.index.specs.Walks.{hasTest, visitsBelow, found, foundOf, heldBelow}
 use Rattle.index.proofs.TreeWalk.{tree-visits, tree-entry}
 
 -- what the walk found, as the answer
@@ -33,8 +40,8 @@ module _ (m : List ℕ) (level root : ℕ) (c : Cell) (v : TreeIn m level root) 
       let g : hasTest c (polygonIn (part m root)) ≡ false = sym e ∙ not-true b f in
       rw (v .reads, ← (tree-entry m level root v c), ← (tree-visits m level root v c), g)
 
-  module _ (f : not b ≡ false) (d : Found) (g : d ≡ found (entriesBelow (hasTest c) (cellTest c) level m 0 root) (visitsBelow (hasTest c) level m 0 root)) where
-    walked : pointEnd (head? (entriesBelow (hasTest c) (cellTest c) level m 0 root)) (visitsBelow (hasTest c) level m 0 root) ≡ pointRead c (reading fanout m)
+  module _ (f : not b ≡ false) (d : Found) (g : d ≡ found (heldBelow c level m 0 root) (visitsBelow (hasTest c) level m 0 root)) where
+    walked : pointEnd (head? (heldBelow c level m 0 root)) (visitsBelow (hasTest c) level m 0 root) ≡ pointRead c (reading fanout m)
     unfolding pointRead
     walked =
         let h : hasTest c (polygonIn (part m root)) ≡ true = sym e ∙ not-false b f in
@@ -45,3 +52,35 @@ module _ (m : List ℕ) (level root : ℕ) (c : Cell) (v : TreeIn m level root) 
 
     pub point-not-held : d .held ≡ false → NotHeld (d .visits) ≡ pointRead c (reading fanout m)
     point-not-held h = rw g (not-held-end _ _ (rw g at h)) ∙ walked
+
+-- the length was tested
+pub length-tested : (m : List ℕ) (b : Bool) → b ≡ rightLength m → not b ≡ false → rightLength m ≡ true
+length-tested m b e f = sym e ∙ not-false b f
+
+-- the memory was opened as a tree
+pub opened-tree : (m : List ℕ) (o : Opened) (level root : ℕ) → OpenedAs m o → o ≡ O.Tree level root → TreeIn m level root
+opened-tree m o level root p q = rw q at p
+
+-- a call on a memory and a cell, test by test
+module _ (m : List ℕ) (c : Cell) (b : Bool) (e : b ≡ rightLength m) where
+  pub point-wrong-length : not b ≡ true → WrongLength ≡ pointAnswer m c
+  unfolding pointAnswer
+  point-wrong-length f = rw (← e, not-true b f)
+
+  module _ (f : not b ≡ false) (g : Bool) (h : g ≡ onGrid c) where
+    pub point-off-grid : not g ≡ true → OffGrid ≡ pointAnswer m c
+    unfolding pointAnswer
+    point-off-grid k = rw (← e, ← h, not-false b f, not-true g k)
+
+    module _ (k : not g ≡ false) where
+      pub point-tested : (r : PointFound) → r ≡ pointRead c (reading fanout m) → r ≡ pointAnswer m c
+      unfolding pointAnswer
+      point-tested r q = rw (← e, ← h, not-false b f, not-false g k) q
+
+      pub point-no-tree : (o : Opened) → OpenedAs m o → o ≡ O.NoTree → NoTree ≡ pointAnswer m c
+      unfolding pointRead
+      point-no-tree o p q = let r : reading fanout m ≡ none = rw q at p in point-tested NoTree (rw r)
+
+      pub point-empty : (o : Opened) → OpenedAs m o → o ≡ O.Empty → NotHeld 0 ≡ pointAnswer m c
+      unfolding pointRead pointEnd keep
+      point-empty o p q = let r : reading fanout m ≡ some none = rw q at p in point-tested (NotHeld 0) (rw r)

@@ -19,7 +19,9 @@ use Rattle.plane.proofs.Windows.{plane-window-laws}
 use Rattle.memory.specs.Layout.{rootIn, part, polygonIn}
 use Rattle.memory.proofs.ReadingLaws.{read-as, read-sound}
 use Rattle.index.specs.Answers.{fanout, matchesIn}
-use Rattle.index.specs.Walks.{hasTest, cellTest, meetsTest, insideTest, visitsFrom, visitsBelow, entriesFrom, entriesBelow, Walkable, PolygonAt, TreeIn}
+use Rattle.index.specs.Open.{TreeIn}
+use Rattle.index.specs.Check.{PolygonPart}
+use Rattle.index.specs.Walks.{hasTest, cellTest, meetsTest, insideTest, visitsFrom, visitsBelow, entriesFrom, entriesBelow, Walkable, heldBelow, matchesBelow}
 use Rattle.index.proofs.WalkRows.{walkable, walk-polygon, polygon-is}
 
 module _ (m : List ℕ) (level root : ℕ) (v : TreeIn m level root) where
@@ -29,7 +31,7 @@ module _ (m : List ℕ) (level root : ℕ) (v : TreeIn m level root) where
       let r = read-as fanout m t (v .reads) in
       rw (← (v .level-is), ← (v .root-is)) (walkable (t .level) m 0 (rootIn m) (top (planeSpace fanout) t) (r .right) (omega arith) (r .root-node))
 
-  pub tree-polygon : PolygonAt m root
+  pub tree-polygon : PolygonPart m root
   tree-polygon = walk-polygon level m 0 root tree-walkable
 
   root-polygon : polygonIn (part m root) ≡ v .tree .root
@@ -53,7 +55,7 @@ module _ (m : List ℕ) (level root : ℕ) (v : TreeIn m level root) where
       walk-visits (hasTest c)
       ∙ point-visits (planeSpace fanout) (plane-space-laws fanout) (planeRoot fanout) (some (v .tree)) (read-sound fanout m (v .tree) (v .reads) .sound) c
 
-  pub tree-entry : (c : Cell) → head? (cond (hasTest c (polygonIn (part m root))) (entriesBelow (hasTest c) (cellTest c) level m 0 root) []) ≡ entryAt (planeSpace fanout) c (some (v .tree))
+  pub tree-entry : (c : Cell) → head? (cond (hasTest c (polygonIn (part m root))) (heldBelow c level m 0 root) []) ≡ entryAt (planeSpace fanout) c (some (v .tree))
   unfolding hasTest cellTest
   tree-entry c =
       ap head? (walk-entries (hasTest c) (cellTest c))
@@ -67,7 +69,7 @@ module _ (m : List ℕ) (level root : ℕ) (v : TreeIn m level root) where
       ∙ window-visits (planeSpace fanout) (plane-space-laws fanout) (planeRoot fanout) (some (v .tree)) (read-sound fanout m (v .tree) (v .reads) .sound)
       (planeWindow fanout) (plane-window-laws fanout) w
 
-  pub tree-matches : (w : Rect) → cond (meetsTest w (polygonIn (part m root))) (entriesBelow (meetsTest w) (insideTest w) level m 0 root) [] ≡ matchesIn w (some (v .tree))
+  pub tree-matches : (w : Rect) → cond (meetsTest w (polygonIn (part m root))) (matchesBelow w level m 0 root) [] ≡ matchesIn w (some (v .tree))
   unfolding meetsTest insideTest
   tree-matches w =
       walk-entries (meetsTest w) (insideTest w)

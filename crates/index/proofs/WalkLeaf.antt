@@ -13,7 +13,8 @@ use Rattle.tree.specs.Lists.{keep}
 use Rattle.plane.specs.Lines.{CellEntry}
 use Rattle.memory.specs.Layout.{itemCount, entryIn, entriesIn}
 use Rattle.memory.proofs.ReadingLaws.{entries-length}
-use Rattle.index.specs.Walks.{leafEntries, LeafPart}
+use Rattle.index.specs.Check.{NodePart}
+use Rattle.index.specs.Walks.{leafEntries}
 
 -- the next entry
 next-entry : (p : List ℕ) (n i : ℕ) → i < n → drop i (entriesIn p n) ≡ entryIn p i ∷ drop (i + 1) (entriesIn p n)
@@ -35,14 +36,14 @@ next-entry p (suc n) i h = go (decLt i n) (next-entry p n i) (entries-length p n
 -- Before the i-th entry of a leaf's part: es passed so far.
 pub record AtEntry (u : CellEntry → Bool) (p : List ℕ) (i : ℕ) (es : List CellEntry) : Type 0 where
   pub i-le : i ≤ itemCount p
-  pub leaf : LeafPart p
+  pub leaf : NodePart p
   pub entries : es ++ keep u (drop i (entriesIn p (itemCount p))) ≡ leafEntries u p
 
-pub leaf-count-fits : (p : List ℕ) → LeafPart p → Fits w64 (getD p 1 0)
-leaf-count-fits p v = let f = v .few in omega arith
+pub leaf-count-fits : (p : List ℕ) → NodePart p → Fits w64 (getD p 1 0)
+leaf-count-fits p v = let f = v .few-items in omega arith
 
 module _ (u : CellEntry → Bool) (p : List ℕ) where
-  pub entry-start : LeafPart p → AtEntry u p 0 []
+  pub entry-start : NodePart p → AtEntry u p 0 []
   unfolding leafEntries
   entry-start v = record { i-le = omega arith; leaf = v; entries = refl }
 
@@ -53,9 +54,6 @@ module _ (u : CellEntry → Bool) (p : List ℕ) where
         let l = entries-length p (itemCount p) in
         let s : length (entriesIn p (itemCount p)) ≤ i = omega arith in
         sym (append-nil es) ∙ (rw (drop-of-length-le (entriesIn p (itemCount p)) s) at (a .entries))
-
-    pub entry-few : i < itemCount p → i < 8
-    entry-few h = let f = a .leaf .few in omega arith
 
     module _ (h : i < itemCount p) (b : Bool) (e : b ≡ u (entryIn p i)) where
       whole : es ++ cond b (entryIn p i ∷ keep u (drop (i + 1) (entriesIn p (itemCount p)))) (keep u (drop (i + 1) (entriesIn p (itemCount p)))) ≡ leafEntries u p

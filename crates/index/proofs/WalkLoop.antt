@@ -14,34 +14,34 @@ use Rattle.plane.specs.Lines.{CellEntry}
 use Rattle.memory.specs.Layout.{part, itemCount, polygonIn, childrenIn}
 use Rattle.memory.proofs.ReadingLaws.{node-below, children-length}
 use Rattle.index.specs.Answers.{fanout}
-use Rattle.index.specs.Walks.{visitsBelow, entriesBelow, Walkable, PolygonAt}
+use Rattle.index.specs.Check.{PolygonPart}
+use Rattle.index.specs.Walks.{visitsBelow, entriesBelow, Walkable, childAt, countAt}
 use Rattle.index.proofs.WalkParts.{part-at}
 use Rattle.index.proofs.WalkRows.{RowWalkable, visitsRow, entriesRow, RowStep, row-step, row-no-visits, row-no-entries, node-row, node-visits, node-entries, walk-polygon, visits-few}
 
 module _ (n : ℕ) (m : List ℕ) (lo k : ℕ) (v : Walkable n m lo k) where
-  count-is : length (childrenIn (part m k)) ≡ getD m (64 + 128 * k + 1) 0
+  count-is : length (childrenIn (part m k)) ≡ countAt m k
   count-is =
       let e = part-at m k 1 (omega arith) in
       let f = v .few in
       children-length fanout m k (node-below fanout m n lo k (v .node) (v .reads)) (omega arith) ∙ e
 
   -- the next child
-  next-child : (i : ℕ) → i < getD m (64 + 128 * k + 1) 0
-      → drop i (childrenIn (part m k)) ≡ getD m (64 + 128 * k + 66 + i) 0 ∷ drop (i + 1) (childrenIn (part m k))
+  next-child : (i : ℕ) → i < countAt m k
+      → drop i (childrenIn (part m k)) ≡ childAt m k i ∷ drop (i + 1) (childrenIn (part m k))
   next-child i h =
       let c = count-is in
       let f = v .few in
       let e = part-at m k 1 (omega arith) in
       let s : i < length (childrenIn (part m k)) = omega arith in
-      let at : getD (childrenIn (part m k)) i 0 ≡ getD m (64 + 128 * k + 66 + i) 0 =
+      let at : getD (childrenIn (part m k)) i 0 ≡ childAt m k i =
       getD-take (itemCount (part m k)) (drop 66 (part m k)) i 0 (omega arith) ∙ getD-drop 66 (part m k) i 0 ∙ part-at m k (66 + i) (omega arith)
       ∙ ap (λ j. getD m j 0) (let q : 64 + 128 * k + (66 + i) ≡ 64 + 128 * k + 66 + i = omega arith in q) in
       drop-cons (childrenIn (part m k)) i 0 s ∙ rw (at, add-one)
 
 -- Before the i-th child of the node at part k: the walk so far made vs visits and found es, and low is the child's lower end.
 pub record AtChild (t : List Rect → Bool) (u : CellEntry → Bool) (level : ℕ) (m : List ℕ) (lo k i low vs : ℕ) (es : List CellEntry) : Type 0 where
-  pub i-le : i ≤ getD m (64 + 128 * k + 1) 0
-  pub low-le : low ≤ k
+  pub i-le : i ≤ countAt m k
   pub walkable : Walkable level m lo k
   pub row : RowWalkable (level - 1) m low k (drop i (childrenIn (part m k)))
   pub visits : vs + visitsRow t (level - 1) m low k (drop i (childrenIn (part m k))) ≡ visitsBelow t level m lo k
@@ -54,7 +54,6 @@ module _ (t : List Rect → Bool) (u : CellEntry → Bool) where
       let e : suc n - 1 ≡ n = omega arith in
       record {
         i-le = omega arith;
-        low-le = v .from;
         walkable = v;
         row = rw e (node-row t u n m lo k v);
         visits = rw e (sym (node-visits t u n m lo k v));
@@ -62,53 +61,51 @@ module _ (t : List Rect → Bool) (u : CellEntry → Bool) where
       }
 
   module _ (level : ℕ) (m : List ℕ) (lo k i low vs : ℕ) (es : List CellEntry) (a : AtChild t u level m lo k i low vs es) where
-    nothing-left : getD m (64 + 128 * k + 1) 0 ≤ i → drop i (childrenIn (part m k)) ≡ []
+    nothing-left : countAt m k ≤ i → drop i (childrenIn (part m k)) ≡ []
     nothing-left h =
         let c = count-is level m lo k (a .walkable) in
         let s : length (childrenIn (part m k)) ≤ i = omega arith in
         drop-of-length-le (childrenIn (part m k)) s
 
-    pub end-visits : getD m (64 + 128 * k + 1) 0 ≤ i → vs ≡ visitsBelow t level m lo k
+    pub end-visits : countAt m k ≤ i → vs ≡ visitsBelow t level m lo k
     end-visits h =
         let e = rw (nothing-left h, row-no-visits t u (level - 1) m low k) at (a .visits) in
         omega arith
 
-    pub end-entries : getD m (64 + 128 * k + 1) 0 ≤ i → es ≡ entriesBelow t u level m lo k
+    pub end-entries : countAt m k ≤ i → es ≡ entriesBelow t u level m lo k
     end-entries h = sym (append-nil es) ∙ (rw (nothing-left h, row-no-entries t u (level - 1) m low k) at (a .entries))
 
-    module _ (h : i < getD m (64 + 128 * k + 1) 0) where
-      step : RowStep t u (level - 1) m low k (getD m (64 + 128 * k + 66 + i) 0) (drop (i + 1) (childrenIn (part m k)))
+    module _ (h : i < countAt m k) where
+      step : RowStep t u (level - 1) m low k (childAt m k i) (drop (i + 1) (childrenIn (part m k)))
       step = row-step t u (level - 1) m low k _ _ (rw (next-child level m lo k (a .walkable) i h) at (a .row))
 
-      pub child-walkable : Walkable (level - 1) m low (getD m (64 + 128 * k + 66 + i) 0)
+      pub child-walkable : Walkable (level - 1) m low (childAt m k i)
       child-walkable = step .child
 
-      pub child-polygon : PolygonAt m (getD m (64 + 128 * k + 66 + i) 0)
+      pub child-polygon : PolygonPart m (childAt m k i)
       child-polygon = walk-polygon (level - 1) m low _ child-walkable
 
-      pub child-below : getD m (64 + 128 * k + 66 + i) 0 < k
+      pub child-below : childAt m k i < k
       child-below = step .below
 
-      pub child-fits : Fits w32 (getD m (64 + 128 * k + 66 + i) 0 + 1)
+      pub child-fits : Fits w32 (childAt m k i + 1)
       child-fits = let b = child-below in let v = a .walkable .below in omega arith
 
-      whole-visits : vs + (cond (t (polygonIn (part m (getD m (64 + 128 * k + 66 + i) 0)))) (visitsBelow t (level - 1) m low (getD m (64 + 128 * k + 66 + i) 0)) 0
-          + visitsRow t (level - 1) m (getD m (64 + 128 * k + 66 + i) 0 + 1) k (drop (i + 1) (childrenIn (part m k)))) ≡ visitsBelow t level m lo k
+      whole-visits : vs + (cond (t (polygonIn (part m (childAt m k i)))) (visitsBelow t (level - 1) m low (childAt m k i)) 0
+          + visitsRow t (level - 1) m (childAt m k i + 1) k (drop (i + 1) (childrenIn (part m k)))) ≡ visitsBelow t level m lo k
       whole-visits = ap (λ w. vs + w) (sym (step .visits)) ∙ (rw (next-child level m lo k (a .walkable) i h) at (a .visits))
 
-      whole-entries : es ++ (cond (t (polygonIn (part m (getD m (64 + 128 * k + 66 + i) 0)))) (entriesBelow t u (level - 1) m low (getD m (64 + 128 * k + 66 + i) 0)) []
-          ++ entriesRow t u (level - 1) m (getD m (64 + 128 * k + 66 + i) 0 + 1) k (drop (i + 1) (childrenIn (part m k)))) ≡ entriesBelow t u level m lo k
+      whole-entries : es ++ (cond (t (polygonIn (part m (childAt m k i)))) (entriesBelow t u (level - 1) m low (childAt m k i)) []
+          ++ entriesRow t u (level - 1) m (childAt m k i + 1) k (drop (i + 1) (childrenIn (part m k)))) ≡ entriesBelow t u level m lo k
       whole-entries = ap (λ w. es ++ w) (sym (step .entries)) ∙ (rw (next-child level m lo k (a .walkable) i h) at (a .entries))
 
-      module _ (b : Bool) (e : b ≡ t (polygonIn (part m (getD m (64 + 128 * k + 66 + i) 0)))) where
+      module _ (b : Bool) (e : b ≡ t (polygonIn (part m (childAt m k i)))) where
         -- a child whose polygon does not pass is passed over
-        pub child-miss : b ≡ false → AtChild t u level m lo k (i + 1) (getD m (64 + 128 * k + 66 + i) 0 + 1) vs es
+        pub child-miss : b ≡ false → AtChild t u level m lo k (i + 1) (childAt m k i + 1) vs es
         child-miss f =
             let z = rw (← e, f) at whole-visits in
-            let l = child-below in
             record {
               i-le = omega arith;
-              low-le = omega arith;
               walkable = a .walkable;
               row = step .others;
               visits = omega arith;
@@ -116,14 +113,12 @@ module _ (t : List Rect → Bool) (u : CellEntry → Bool) where
             }
 
         -- a child whose polygon passes is entered
-        pub child-hit : b ≡ true → AtChild t u level m lo k (i + 1) (getD m (64 + 128 * k + 66 + i) 0 + 1)
-            (vs + visitsBelow t (level - 1) m low (getD m (64 + 128 * k + 66 + i) 0)) (es ++ entriesBelow t u (level - 1) m low (getD m (64 + 128 * k + 66 + i) 0))
+        pub child-hit : b ≡ true → AtChild t u level m lo k (i + 1) (childAt m k i + 1)
+            (vs + visitsBelow t (level - 1) m low (childAt m k i)) (es ++ entriesBelow t u (level - 1) m low (childAt m k i))
         child-hit f =
             let z = rw (← e, f) at whole-visits in
-            let l = child-below in
             record {
               i-le = omega arith;
-              low-le = omega arith;
               walkable = a .walkable;
               row = step .others;
               visits = omega arith;

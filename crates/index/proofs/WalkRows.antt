@@ -7,7 +7,7 @@ use mathlib.Core.Option.{Option, none, some}
 use native.Mathlib.Omega.{arith}
 use mir.Syntax.{w64}
 use mir.Val.{Fits}
-use lib.ListN.{length, take, drop, getD, length-append}
+use lib.ListN.{length, length-append}
 use Rattle.geometry.specs.declared.rect.Rect.{Rect}
 use Rattle.tree.specs.Lists.{keep, total}
 use Rattle.tree.specs.Nodes.{Item}
@@ -19,7 +19,8 @@ use Rattle.memory.specs.Layout.{rightLength, part, rectCount, itemCount, polygo
 use Rattle.memory.specs.Reading.{readRow, readNode}
 use Rattle.memory.proofs.ReadingLaws.{row-parts, fits-as, leaf-parts, node-parts, node-below, entries-length, part-length, length-right}
 use Rattle.index.specs.Answers.{fanout}
-use Rattle.index.specs.Walks.{visitsFrom, visitsBelow, entriesFrom, entriesBelow, leafEntries, Walkable, PolygonAt, LeafPart}
+use Rattle.index.specs.Check.{NodePart, PolygonPart}
+use Rattle.index.specs.Walks.{visitsFrom, visitsBelow, entriesFrom, entriesBelow, leafEntries, Walkable, countAt, partAt}
 use Rattle.index.proofs.WalkParts.{part-at}
 
 -- A row of children in a memory of a right length reads.
@@ -59,26 +60,23 @@ walkable n m lo k b r l e =
     }
 
 module _ (n : ℕ) (m : List ℕ) (lo k : ℕ) (v : Walkable n m lo k) where
-  pub walk-polygon : PolygonAt m k
-  walk-polygon = record {
-    right = v .right;
-    below = node-below fanout m n lo k (v .node) (v .reads);
-    few = polygon-few n m lo k (v .node) (v .reads);
-  }
+  pub walk-polygon : PolygonPart m k
+  walk-polygon = record { below = node-below fanout m n lo k (v .node) (v .reads); few-rects = polygon-few n m lo k (v .node) (v .reads) }
 
-  pub items-fit : Fits w64 (getD m (64 + 128 * k + 1) 0)
+  pub items-fit : Fits w64 (countAt m k)
   items-fit = let f = v .few in omega arith
 
   -- the numbers in place are the part
-  pub part-is : take (64 + 128 * k + 128 - (64 + 128 * k)) (drop (64 + 128 * k) m) ≡ part m k
+  pub part-is : partAt m k ≡ part m k
   unfolding part
   part-is = let e : 64 + 128 * k + 128 - (64 + 128 * k) ≡ 128 = omega arith in rw e
 
   -- a node whose leaves are itself is a leaf
-  pub leaf-part : LeafPart (take (64 + 128 * k + 128 - (64 + 128 * k)) (drop (64 + 128 * k) m))
+  pub leaf-part : NodePart (partAt m k)
   leaf-part = rw part-is (record {
-    size = part-length m k (node-below fanout m n lo k (v .node) (v .reads));
-    few = items-few n m lo k (v .node) (v .reads);
+    length-is = part-length m k (node-below fanout m n lo k (v .node) (v .reads));
+    few-rects = polygon-few n m lo k (v .node) (v .reads);
+    few-items = items-few n m lo k (v .node) (v .reads);
   })
 
 module _ (t : List Rect → Bool) where

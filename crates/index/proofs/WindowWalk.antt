@@ -6,13 +6,14 @@ use mathlib.Core.List.{List, [], _∷_, _++_}
 use native.Mathlib.Omega.{arith}
 use mir.Syntax.{w32}
 use mir.Val.{Fits}
-use lib.ListN.{length, drop, getD, take, length-append}
+use lib.ListN.{length, getD, length-append}
 use Rattle.geometry.specs.declared.rect.Rect.{Rect}
 use Rattle.geometry.specs.Cells.{hasCell}
 use Rattle.plane.specs.Lines.{CellEntry}
 use Rattle.memory.specs.Layout.{part, itemCount, entryIn, polygonIn}
 use Rattle.index.specs.declared.window_query.Matched.{Matched}
-use Rattle.index.specs.Walks.{meetsTest, insideTest, visitsBelow, entriesBelow, leafEntries, Walkable, LeafPart, matched}
+use Rattle.index.specs.Check.{NodePart}
+use Rattle.index.specs.Walks.{meetsTest, insideTest, visitsBelow, leafEntries, Walkable, matched, childAt, countAt, matchesBelow, partAt}
 use Rattle.index.proofs.WalkLeaf.{AtEntry, entry-start, entry-miss, entry-hit, entry-end}
 use Rattle.index.proofs.WalkRows.{leaf-visits, leaf-entries, part-is, entries-few}
 use Rattle.index.proofs.WalkLoop.{AtChild, child-start, child-miss, child-hit, end-visits, end-entries, so-far-few}
@@ -30,7 +31,7 @@ pub record CountLeaf (w : Rect) (p : List ℕ) (i n : ℕ) : Type 0 where
   pub few : n ≤ i
 
 module _ (w : Rect) (p : List ℕ) where
-  pub count-start : LeafPart p → CountLeaf w p 0 0
+  pub count-start : NodePart p → CountLeaf w p 0 0
   count-start v = record { es = []; at = entry-start (insideTest w) p v; so-far = refl; few = omega arith }
 
   module _ (i n : ℕ) (x : CountLeaf w p i n) where
@@ -57,8 +58,8 @@ module _ (w : Rect) (p : List ℕ) where
 
 module _ (w : Rect) (level : ℕ) (m : List ℕ) (lo k : ℕ) where
   -- a node that is a leaf
-  pub matched-leaf : (n : ℕ) → level ≡ 0 → Walkable level m lo k → n ≡ length (leafEntries (insideTest w) (take (64 + 128 * k + 128 - (64 + 128 * k)) (drop (64 + 128 * k) m)))
-      → record { matches = n; visits = 1 } ≡ matched (entriesBelow (meetsTest w) (insideTest w) level m lo k) (visitsBelow (meetsTest w) level m lo k)
+  pub matched-leaf : (n : ℕ) → level ≡ 0 → Walkable level m lo k → n ≡ length (leafEntries (insideTest w) (partAt m k))
+      → record { matches = n; visits = 1 } ≡ matched (matchesBelow w level m lo k) (visitsBelow (meetsTest w) level m lo k)
   unfolding matched
   matched-leaf n z v e =
       let v′ : Walkable 0 m lo k = rw z at v in
@@ -76,30 +77,30 @@ module _ (w : Rect) (level : ℕ) (m : List ℕ) (lo k : ℕ) where
 
   -- the entries found so far are among those below the node
   so-far-entries : (i low vs : ℕ) (es : List CellEntry) → AtChild (meetsTest w) (insideTest w) level m lo k i low vs es
-      → length es ≤ length (entriesBelow (meetsTest w) (insideTest w) level m lo k)
+      → length es ≤ length (matchesBelow w level m lo k)
   so-far-entries i low vs es a = rw (← (a .entries), length-append) (omega arith)
 
   module _ (i low : ℕ) (a : Matched) (x : CountLoop w level m lo k i low a) where
-    pub counting-end : getD m (64 + 128 * k + 1) 0 ≤ i → a ≡ matched (entriesBelow (meetsTest w) (insideTest w) level m lo k) (visitsBelow (meetsTest w) level m lo k)
+    pub counting-end : countAt m k ≤ i → a ≡ matched (matchesBelow w level m lo k) (visitsBelow (meetsTest w) level m lo k)
     unfolding matched
     counting-end h =
         let e = x .so-far ∙ ap length (end-entries (meetsTest w) (insideTest w) level m lo k i low (a .visits) (x .es) (x .at) h) in
         let f = end-visits (meetsTest w) (insideTest w) level m lo k i low (a .visits) (x .es) (x .at) h in
         rw (← e, ← f)
 
-    module _ (h : i < getD m (64 + 128 * k + 1) 0) (b : Bool) (e : b ≡ meetsTest w (polygonIn (part m (getD m (64 + 128 * k + 66 + i) 0)))) where
-      pub counting-miss : (a′ : Matched) → b ≡ false → a′ ≡ a → CountLoop w level m lo k (i + 1) (getD m (64 + 128 * k + 66 + i) 0 + 1) a′
+    module _ (h : i < countAt m k) (b : Bool) (e : b ≡ meetsTest w (polygonIn (part m (childAt m k i)))) where
+      pub counting-miss : (a′ : Matched) → b ≡ false → a′ ≡ a → CountLoop w level m lo k (i + 1) (childAt m k i + 1) a′
       counting-miss a′ f q = rw q (record { es = x .es; at = child-miss (meetsTest w) (insideTest w) level m lo k i low (a .visits) (x .es) (x .at) h b e f; so-far = x .so-far })
 
-      module _ (f : b ≡ true) (d : Matched) (g : d ≡ matched (entriesBelow (meetsTest w) (insideTest w) (level - 1) m low (getD m (64 + 128 * k + 66 + i) 0)) (visitsBelow (meetsTest w) (level - 1) m low (getD m (64 + 128 * k + 66 + i) 0))) where
-        counted-next : CountLoop w level m lo k (i + 1) (getD m (64 + 128 * k + 66 + i) 0 + 1) (record { matches = a .matches + d .matches; visits = a .visits + d .visits })
+      module _ (f : b ≡ true) (d : Matched) (g : d ≡ matched (matchesBelow w (level - 1) m low (childAt m k i)) (visitsBelow (meetsTest w) (level - 1) m low (childAt m k i))) where
+        counted-next : CountLoop w level m lo k (i + 1) (childAt m k i + 1) (record { matches = a .matches + d .matches; visits = a .visits + d .visits })
         unfolding matched
         counted-next =
-            let q : d .visits ≡ visitsBelow (meetsTest w) (level - 1) m low (getD m (64 + 128 * k + 66 + i) 0) = ap (λ r. r .visits) g in
-            let s : d .matches ≡ length (entriesBelow (meetsTest w) (insideTest w) (level - 1) m low (getD m (64 + 128 * k + 66 + i) 0)) = ap (λ r. r .matches) g in
+            let q : d .visits ≡ visitsBelow (meetsTest w) (level - 1) m low (childAt m k i) = ap (λ r. r .visits) g in
+            let s : d .matches ≡ length (matchesBelow w (level - 1) m low (childAt m k i)) = ap (λ r. r .matches) g in
             let z = x .so-far in
             record {
-              es = x .es ++ entriesBelow (meetsTest w) (insideTest w) (level - 1) m low (getD m (64 + 128 * k + 66 + i) 0);
+              es = x .es ++ matchesBelow w (level - 1) m low (childAt m k i);
               at = rw q (child-hit (meetsTest w) (insideTest w) level m lo k i low (a .visits) (x .es) (x .at) h b e f);
               so-far = rw length-append (omega arith);
             }
@@ -116,5 +117,5 @@ module _ (w : Rect) (level : ℕ) (m : List ℕ) (lo k : ℕ) where
         visits-fit = let q = so-far-few (meetsTest w) (insideTest w) level m lo k _ _ _ _ (counted-next .at) in omega arith
 
         pub counting-hit : (a′ : Matched) → a′ ≡ record { matches = a .matches + d .matches; visits = a .visits + d .visits }
-            → CountLoop w level m lo k (i + 1) (getD m (64 + 128 * k + 66 + i) 0 + 1) a′
+            → CountLoop w level m lo k (i + 1) (childAt m k i + 1) a′
         counting-hit a′ q = rw q counted-next

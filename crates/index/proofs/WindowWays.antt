@@ -3,23 +3,30 @@ use Prim.Native.Nat.{ℕ, suc, _+_, _*_, _≤_, _<_}
 use mathlib.Core.Path.{_≡_, sym, ap, _∙_}
 use mathlib.Core.Bool.{Bool, true, false, not}
 use mathlib.Core.List.{List, [], _∷_, _++_, flatMap, append-assoc}
-use mathlib.Core.Option.{some}
+use mathlib.Core.Option.{none, some}
 use native.Mathlib.Omega.{arith}
 use borrow.Author.Tests.{not-true, not-false, le-leb, lt-leb}
 use lib.Dec.{leb}
 use lib.ListN.{length, take, drop, length-append, take-append-drop}
 use lib.Seq.{sets-eq, take-at, drop-set-lt, length-take-le}
 use Rattle.geometry.specs.declared.rect.Rect.{Rect}
+use Rattle.geometry.specs.Cells.{valid}
+use Rattle.tree.specs.Lists.{keep}
 use Rattle.tree.specs.Query.{windowVisits}
 use Rattle.plane.specs.Lines.{CellEntry}
 use Rattle.plane.specs.Plane.{planeSpace}
 use Rattle.plane.specs.Windows.{planeWindow}
-use Rattle.memory.specs.Layout.{part, polygonIn}
+use Rattle.memory.specs.Layout.{rightLength, part, polygonIn}
+use Rattle.memory.specs.Reading.{reading}
 use Rattle.memory.specs.Image.{entryNumbers}
-use Rattle.index.specs.declared.answer.WindowFound.the-variants.{Found, ShortList}
+use Rattle.index.specs.declared.answer.WindowFound.{WindowFound}
+use Rattle.index.specs.declared.answer.WindowFound.the-variants.{Found, ShortList, WrongLength, BadWindow, NoTree}
 use Rattle.index.specs.declared.window_query.Matched.{Matched}
-use Rattle.index.specs.Answers.{fanout, matchesIn, windowRead, windowWritten}
-use Rattle.index.specs.Walks.{meetsTest, insideTest, visitsBelow, entriesBelow, matched, putEntry, putEntries, Listed, WalkRoom, TreeIn, WindowDone}
+use Rattle.index.specs.Answers.{fanout, matchesIn, windowRead, windowWritten, windowAnswer, windowList}
+use Rattle.index.specs.declared.open.Opened.{Opened}
+use Rattle.index.specs.declared.open.Opened.the-variants as O
+use Rattle.index.specs.Open.{OpenedAs, TreeIn}
+use Rattle.index.specs.Walks.{WindowCall, meetsTest, visitsBelow, matched, putEntry, putEntries, Listed, WalkRoom, WindowDone, matchesBelow}
 use Rattle.index.proofs.TreeWalk.{tree-walkable, tree-window-visits, tree-matches}
 use Rattle.index.proofs.WindowWrite.{length-put}
 
@@ -72,8 +79,8 @@ module _ (m : List ℕ) (level root : ℕ) (w : Rect) (l : List ℕ) (v : TreeIn
       let z : leb 0 (length l) ≡ true = le-leb 0 (length l) (omega arith) in
       record { answer = rw (v .reads, x, y, z); list = rw (v .reads, x, z) }
 
-  module _ (f : not b ≡ false) (d : Matched) (g : d ≡ matched (entriesBelow (meetsTest w) (insideTest w) level m 0 root) (visitsBelow (meetsTest w) level m 0 root)) where
-    matches-are : matchesIn w (some (v .tree)) ≡ entriesBelow (meetsTest w) (insideTest w) level m 0 root
+  module _ (f : not b ≡ false) (d : Matched) (g : d ≡ matched (matchesBelow w level m 0 root) (visitsBelow (meetsTest w) level m 0 root)) where
+    matches-are : matchesIn w (some (v .tree)) ≡ matchesBelow w level m 0 root
     matches-are =
         let h : meetsTest w (polygonIn (part m root)) ≡ true = sym e ∙ not-false b f in
         sym (tree-matches m level root v w) ∙ rw h
@@ -83,7 +90,7 @@ module _ (m : List ℕ) (level root : ℕ) (w : Rect) (l : List ℕ) (v : TreeIn
         let h : meetsTest w (polygonIn (part m root)) ≡ true = sym e ∙ not-false b f in
         sym (tree-window-visits m level root v w) ∙ rw h
 
-    count-is : d .matches ≡ length (entriesBelow (meetsTest w) (insideTest w) level m 0 root)
+    count-is : d .matches ≡ length (matchesBelow w level m 0 root)
     unfolding matched
     count-is = ap (λ r. r .matches) g
 
@@ -96,7 +103,7 @@ module _ (m : List ℕ) (level root : ℕ) (w : Rect) (l : List ℕ) (v : TreeIn
     unfolding windowRead windowWritten
     window-short h =
         let c = count-is in
-        let z : leb (3 * length (entriesBelow (meetsTest w) (insideTest w) level m 0 root)) (length l) ≡ false = lt-leb _ _ (rw c at h) in
+        let z : leb (3 * length (matchesBelow w level m 0 root)) (length l) ≡ false = lt-leb _ _ (rw c at h) in
         record { answer = rw (v .reads, matches-are, z, c); list = rw (v .reads, matches-are, z) }
 
     pub window-room : 3 * d .matches ≤ length l → WalkRoom level m 0 root w l 0
@@ -104,15 +111,45 @@ module _ (m : List ℕ) (level root : ℕ) (w : Rect) (l : List ℕ) (v : TreeIn
         let c = count-is in
         record { walk = tree-walkable m level root v; room = omega arith }
 
-    pub window-written : (l′ : List ℕ) (next : ℕ) → 3 * d .matches ≤ length l → Listed l 0 (entriesBelow (meetsTest w) (insideTest w) level m 0 root) l′ next
+    pub window-written : (l′ : List ℕ) (next : ℕ) → 3 * d .matches ≤ length l → Listed l 0 (matchesBelow w level m 0 root) l′ next
         → WindowDone m w l l′ (Found (d .matches) (d .visits))
     unfolding windowRead windowWritten
     window-written l′ next h q =
         let c = count-is in
         let s = visits-is in
-        let k : 3 * length (entriesBelow (meetsTest w) (insideTest w) level m 0 root) ≤ length l = rw c at h in
-        let z : leb (3 * length (entriesBelow (meetsTest w) (insideTest w) level m 0 root)) (length l) ≡ true = le-leb _ _ k in
+        let k : 3 * length (matchesBelow w level m 0 root) ≤ length l = rw c at h in
+        let z : leb (3 * length (matchesBelow w level m 0 root)) (length l) ≡ true = le-leb _ _ k in
         record {
           answer = rw (v .reads, matches-are, visits-are, z, c, s);
           list = q .list ∙ puts-first l _ k ∙ rw (v .reads, matches-are, z);
         }
+
+-- a call on a memory, a window and a list, test by test
+module _ (m : List ℕ) (w : Rect) (l : List ℕ) (b : Bool) (e : b ≡ rightLength m) where
+  pub window-wrong-length : not b ≡ true → WindowCall m w l l WrongLength
+  unfolding windowAnswer windowList
+  window-wrong-length f = record { answer = rw (← e, not-true b f); list = rw (← e, not-true b f) }
+
+  module _ (f : not b ≡ false) (g : Bool) (h : g ≡ valid w) where
+    pub window-bad : not g ≡ true → WindowCall m w l l BadWindow
+    unfolding windowAnswer windowList
+    window-bad k = record { answer = rw (← e, ← h, not-false b f, not-true g k); list = rw (← e, ← h, not-false b f, not-true g k) }
+
+    module _ (k : not g ≡ false) where
+      pub window-tested : (l′ : List ℕ) (r : WindowFound) → WindowDone m w l l′ r → WindowCall m w l l′ r
+      unfolding windowAnswer windowList
+      window-tested l′ r q = record {
+        answer = rw (← e, ← h, not-false b f, not-false g k) (q .answer);
+        list = rw (← e, ← h, not-false b f, not-false g k) (q .list);
+      }
+
+      pub window-no-tree : (o : Opened) → OpenedAs m o → o ≡ O.NoTree → WindowCall m w l l NoTree
+      unfolding windowRead windowWritten
+      window-no-tree o p r = let q : reading fanout m ≡ none = rw r at p in window-tested l NoTree (record { answer = rw q; list = rw q })
+
+      pub window-empty : (o : Opened) → OpenedAs m o → o ≡ O.Empty → WindowCall m w l l (Found 0 0)
+      unfolding windowRead windowWritten keep flatMap
+      window-empty o p r =
+          let q : reading fanout m ≡ some none = rw r at p in
+          let z : leb 0 (length l) ≡ true = le-leb 0 (length l) (omega arith) in
+          window-tested l (Found 0 0) (record { answer = rw (q, z); list = rw (q, z) })

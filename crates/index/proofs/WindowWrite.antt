@@ -6,11 +6,11 @@ use mathlib.Core.List.{List, [], _∷_, _++_}
 use native.Mathlib.Omega.{arith}
 use mir.Syntax.{w64}
 use mir.Val.{Fits}
-use lib.ListN.{length, drop, getD, take, length-append, length-set}
+use lib.ListN.{length, getD, length-append, length-set}
 use Rattle.geometry.specs.declared.rect.Rect.{Rect}
 use Rattle.plane.specs.Lines.{CellEntry}
 use Rattle.memory.specs.Layout.{part, itemCount, entryIn, polygonIn}
-use Rattle.index.specs.Walks.{meetsTest, insideTest, entriesBelow, leafEntries, Walkable, putEntry, putEntries, Listed, LeafRoom, WalkRoom}
+use Rattle.index.specs.Walks.{meetsTest, insideTest, leafEntries, Walkable, putEntry, putEntries, Listed, LeafRoom, WalkRoom, childAt, countAt, matchesBelow, partAt}
 use Rattle.index.proofs.WalkLeaf.{AtEntry, entry-start, entry-miss, entry-hit, entry-end}
 use Rattle.index.proofs.WalkRows.{leaf-entries, part-is, leaf-part}
 use Rattle.index.proofs.WalkLoop.{AtChild, child-start, child-miss, child-hit, end-entries, child-walkable}
@@ -59,7 +59,7 @@ pub record WriteLeaf (w : Rect) (p l₀ : List ℕ) (at₀ i : ℕ) (l : List �
 
 module _ (w : Rect) (p l₀ : List ℕ) (at₀ : ℕ) where
   pub leaf-room-fits : LeafRoom p w l₀ at₀ → Fits w64 (getD p 1 0)
-  leaf-room-fits v = let f = v .leaf .few in omega arith
+  leaf-room-fits v = let f = v .leaf .few-items in omega arith
 
   pub write-start : LeafRoom p w l₀ at₀ → WriteLeaf w p l₀ at₀ 0 l₀ at₀
   write-start v = record { es = []; at = entry-start (insideTest w) p (v .leaf); room = v .room; fits = (let r = v .room in omega arith); so-far = put-none l₀ at₀ }
@@ -94,22 +94,22 @@ module _ (w : Rect) (p l₀ : List ℕ) (at₀ : ℕ) where
       })
 
 module _ (w : Rect) (level : ℕ) (m : List ℕ) (lo k : ℕ) (l : List ℕ) (at : ℕ) where
-  pub room-items-fit : WalkRoom level m lo k w l at → Fits w64 (getD m (64 + 128 * k + 1) 0)
+  pub room-items-fit : WalkRoom level m lo k w l at → Fits w64 (countAt m k)
   room-items-fit v = let f = v .walk .few in omega arith
 
   -- a node that is a leaf
-  pub written-leaf-room : level ≡ 0 → WalkRoom level m lo k w l at → LeafRoom (take (64 + 128 * k + 128 - (64 + 128 * k)) (drop (64 + 128 * k) m)) w l at
+  pub written-leaf-room : level ≡ 0 → WalkRoom level m lo k w l at → LeafRoom (partAt m k) w l at
   written-leaf-room z v =
       let v′ : Walkable 0 m lo k = rw z at (v .walk) in
-      let r : 3 * (at + length (entriesBelow (meetsTest w) (insideTest w) 0 m lo k)) ≤ length l = rw z at (v .room) in
+      let r : 3 * (at + length (matchesBelow w 0 m lo k)) ≤ length l = rw z at (v .room) in
       record {
         leaf = leaf-part 0 m lo k v′;
         room = rw (part-is 0 m lo k v′, ← (leaf-entries (meetsTest w) (insideTest w) m lo k v′)) r;
       }
 
   pub written-leaf : (l′ : List ℕ) (next : ℕ) → level ≡ 0 → WalkRoom level m lo k w l at
-      → Listed l at (leafEntries (insideTest w) (take (64 + 128 * k + 128 - (64 + 128 * k)) (drop (64 + 128 * k) m))) l′ next
-      → Listed l at (entriesBelow (meetsTest w) (insideTest w) level m lo k) l′ next
+      → Listed l at (leafEntries (insideTest w) (partAt m k)) l′ next
+      → Listed l at (matchesBelow w level m lo k) l′ next
   written-leaf l′ next z v e =
       let v′ : Walkable 0 m lo k = rw z at (v .walk) in
       rw (z, leaf-entries (meetsTest w) (insideTest w) m lo k v′, ← (part-is 0 m lo k v′)) e
@@ -119,7 +119,7 @@ pub record WriteLoop (w : Rect) (level : ℕ) (m : List ℕ) (lo k : ℕ) (l₀ 
   pub vs : ℕ
   pub es : List CellEntry
   pub at : AtChild (meetsTest w) (insideTest w) level m lo k i low vs es
-  pub room : 3 * (at₀ + length (entriesBelow (meetsTest w) (insideTest w) level m lo k)) ≤ length l₀
+  pub room : 3 * (at₀ + length (matchesBelow w level m lo k)) ≤ length l₀
   pub so-far : Listed l₀ at₀ es l next
 
 module _ (w : Rect) (level : ℕ) (m : List ℕ) (lo k : ℕ) (l₀ : List ℕ) (at₀ : ℕ) where
@@ -127,11 +127,11 @@ module _ (w : Rect) (level : ℕ) (m : List ℕ) (lo k : ℕ) (l₀ : List ℕ) 
   writing-start ne v = record { vs = 1; es = []; at = child-start (meetsTest w) (insideTest w) level m lo k ne (v .walk); room = v .room; so-far = put-none l₀ at₀ }
 
   module _ (i low : ℕ) (l : List ℕ) (next : ℕ) (x : WriteLoop w level m lo k l₀ at₀ i low l next) where
-    pub writing-end : getD m (64 + 128 * k + 1) 0 ≤ i → Listed l₀ at₀ (entriesBelow (meetsTest w) (insideTest w) level m lo k) l next
+    pub writing-end : countAt m k ≤ i → Listed l₀ at₀ (matchesBelow w level m lo k) l next
     writing-end h = rw (end-entries (meetsTest w) (insideTest w) level m lo k i low (x .vs) (x .es) (x .at) h) at (x .so-far)
 
-    module _ (h : i < getD m (64 + 128 * k + 1) 0) (b : Bool) (e : b ≡ meetsTest w (polygonIn (part m (getD m (64 + 128 * k + 66 + i) 0)))) where
-      pub writing-room : b ≡ true → WalkRoom (level - 1) m low (getD m (64 + 128 * k + 66 + i) 0) w l next
+    module _ (h : i < countAt m k) (b : Bool) (e : b ≡ meetsTest w (polygonIn (part m (childAt m k i)))) where
+      pub writing-room : b ≡ true → WalkRoom (level - 1) m low (childAt m k i) w l next
       writing-room f =
           let a = child-hit (meetsTest w) (insideTest w) level m lo k i low (x .vs) (x .es) (x .at) h b e f .entries in
           let q = simp length-append at (ap length a) in
@@ -144,7 +144,7 @@ module _ (w : Rect) (level : ℕ) (m : List ℕ) (lo k : ℕ) (l₀ : List ℕ) 
           }
 
       pub writing-miss : (l′ : List ℕ) (next′ : ℕ) → b ≡ false → l′ ≡ l → next′ ≡ next
-          → WriteLoop w level m lo k l₀ at₀ (i + 1) (getD m (64 + 128 * k + 66 + i) 0 + 1) l′ next′
+          → WriteLoop w level m lo k l₀ at₀ (i + 1) (childAt m k i + 1) l′ next′
       writing-miss l′ next′ f q r = rw (q, r) (record {
         vs = x .vs;
         es = x .es;
@@ -154,8 +154,8 @@ module _ (w : Rect) (level : ℕ) (m : List ℕ) (lo k : ℕ) (l₀ : List ℕ) 
       })
 
       pub writing-hit : (l″ l′ : List ℕ) (next′ next″ : ℕ) → b ≡ true
-          → Listed l next (entriesBelow (meetsTest w) (insideTest w) (level - 1) m low (getD m (64 + 128 * k + 66 + i) 0)) l″ next′ → l′ ≡ l″ → next″ ≡ next′
-          → WriteLoop w level m lo k l₀ at₀ (i + 1) (getD m (64 + 128 * k + 66 + i) 0 + 1) l′ next″
+          → Listed l next (matchesBelow w (level - 1) m low (childAt m k i)) l″ next′ → l′ ≡ l″ → next″ ≡ next′
+          → WriteLoop w level m lo k l₀ at₀ (i + 1) (childAt m k i + 1) l′ next″
       writing-hit l″ l′ next′ next″ f q s r = rw (s, r) (record {
         vs = _;
         es = _;

@@ -4,11 +4,13 @@ use mathlib.Core.Bool.{Bool, _&&_, cond}
 use mathlib.Core.List.{List}
 use mathlib.Core.Path.{_≡_}
 use mathlib.Core.Option.{Option, none, some}
-use lib.ListN.{length, getD}
+use lib.ListN.{length, drop, getD}
+use Rattle.geometry.specs.declared.rect.Rect.{Rect}
+use Rattle.geometry.specs.Numbers.{rectsIn}
 use Rattle.tree.specs.Nodes.{Item, nodes}
 use Rattle.plane.specs.Plane.{planeSpace}
 use Rattle.memory.specs.Layout.{partsOf, part, rectCount, itemCount, polygonIn}
-use Rattle.memory.specs.SoundTest.{allPass, pairsPass, apart, polygonFits, countTest, apartTest, itemTest}
+use Rattle.memory.specs.SoundTest.{allPass, pairsPass, coveredBy, apart, polygonFits, countTest, apartTest, itemTest}
 use Rattle.memory.specs.Reading.{readNode}
 use Rattle.index.specs.Answers.{fanout}
 
@@ -45,3 +47,9 @@ pub record PolygonPart (m : List ℕ) (k : ℕ) : Type 0 where
 -- so is each of some parts
 pub record PolygonParts (m : List ℕ) (ks : List ℕ) : Type 0 where
   pub each : (i : ℕ) → i < length ks → PolygonPart m (getD ks i 0)
+
+-- the rectangles from the i-th to before the j-th of n cut nothing of r
+pub record Skipped (m : List ℕ) (n : ℕ) (r : Rect) (i j : ℕ) : Type 0 where
+  pub from : i ≤ j
+  pub to : j ≤ n
+  pub same : coveredBy (drop i (rectsIn m n)) r ≡ coveredBy (drop j (rectsIn m n)) r

@@ -1,27 +1,26 @@
 -- The walks that the queries make in a memory, below the node at a part: what they enter and what they find there.
-use Prim.Native.Nat.{ℕ, suc, _+_, _*_, _≤_, _<_}
+use Prim.Native.Nat.{ℕ, suc, _+_, _*_, _-_, _≤_, _<_}
 use mathlib.Core.Bool.{Bool, true, false, _||_, cond}
 use mathlib.Core.List.{List, [], _∷_, head?}
 use mathlib.Core.Option.{Option, none, some}
 use mathlib.Core.Path.{_≡_}
-use lib.ListN.{length, getD, set}
+use lib.ListN.{length, getD, take, drop, set}
 use Rattle.geometry.specs.declared.rect.Cell.{Cell}
 use Rattle.geometry.specs.declared.rect.Rect.{Rect}
-use Rattle.geometry.specs.Cells.{hasCell}
 use Rattle.tree.specs.Lists.{keep}
 use Rattle.tree.specs.Nodes.{Item}
 use Rattle.tree.specs.Query.{ofCell, matching}
-use Rattle.tree.specs.Tree.{Tree}
 use Rattle.tree.specs.Walk.{nodeWalkVisits, nodeWalkEntries}
 use Rattle.plane.specs.Lines.{CellEntry}
 use Rattle.plane.specs.Plane.{planeSpace}
 use Rattle.plane.specs.Windows.{planeWindow}
-use Rattle.memory.specs.Layout.{partsOf, rightLength, rootIn, part, rectCount, itemCount, entriesIn}
+use Rattle.memory.specs.Layout.{rightLength, itemCount, entriesIn}
 use Rattle.memory.specs.Reading.{readNode, reading}
 use Rattle.index.specs.declared.walk.Found.{Found}
 use Rattle.index.specs.declared.window_query.Matched.{Matched}
 use Rattle.index.specs.declared.answer.WindowFound.{WindowFound}
-use Rattle.index.specs.Answers.{fanout, windowRead, windowWritten}
+use Rattle.index.specs.Check.{NodePart}
+use Rattle.index.specs.Answers.{fanout, windowRead, windowWritten, windowAnswer, windowList}
 
 -- the point query's tests: a polygon has the cell, an entry is of the cell
 unfoldable pub hasTest : Cell → List Rect → Bool
@@ -29,10 +28,6 @@ hasTest c p = planeSpace fanout .has p c
 
 unfoldable pub cellTest : Cell → CellEntry → Bool
 cellTest c e = ofCell (planeSpace fanout) c e
-
--- a rectangle has the cell
-unfoldable pub hasRect : Cell → Rect → Bool
-hasRect c r = hasCell r c
 
 -- the window query's tests: a polygon shares a cell with the window, an entry's cell is in it
 unfoldable pub meetsTest : Rect → List Rect → Bool
@@ -59,6 +54,27 @@ module _ (t : List Rect → Bool) where
     unfoldable pub entriesBelow : ℕ → List ℕ → ℕ → ℕ → List CellEntry
     entriesBelow n m lo k = entriesFrom n (readNode fanout n m lo k)
 
+-- the entries of a cell that its walk finds
+abbrev pub heldBelow : Cell → ℕ → List ℕ → ℕ → ℕ → List CellEntry
+heldBelow c n m lo k = entriesBelow (hasTest c) (cellTest c) n m lo k
+
+-- the entries in a window that its walk finds
+abbrev pub matchesBelow : Rect → ℕ → List ℕ → ℕ → ℕ → List CellEntry
+matchesBelow w n m lo k = entriesBelow (meetsTest w) (insideTest w) n m lo k
+
+-- What the code reads in place of the part k: the part itself, its rectangles, the count of its items, the i-th child.
+abbrev pub partAt : List ℕ → ℕ → List ℕ
+partAt m k = take (64 + 128 * k + 128 - (64 + 128 * k)) (drop (64 + 128 * k) m)
+
+abbrev pub rectsAt : List ℕ → ℕ → List ℕ
+rectsAt m k = take (64 + 128 * k + 128 - (64 + 128 * k + 2)) (drop (64 + 128 * k + 2) m)
+
+abbrev pub countAt : List ℕ → ℕ → ℕ
+countAt m k = getD m (64 + 128 * k + 1) 0
+
+abbrev pub childAt : List ℕ → ℕ → ℕ → ℕ
+childAt m k i = getD m (64 + 128 * k + 66 + i) 0
+
 -- the entries of a leaf's part that pass
 unfoldable pub leafEntries : (CellEntry → Bool) → List ℕ → List CellEntry
 leafEntries u p = keep u (entriesIn p (itemCount p))
@@ -70,20 +86,9 @@ pub record Walkable (n : ℕ) (m : List ℕ) (lo k : ℕ) : Type 0 where
   pub from : lo ≤ k
   pub below : k < 256
   pub ends : 64 + 128 * k + 128 ≤ length m
-  pub few : getD m (64 + 128 * k + 1) 0 ≤ 8
+  pub few : countAt m k ≤ 8
   pub node : Item (planeSpace fanout) (suc n)
   pub reads : readNode fanout n m lo k ≡ some node
-
--- The part k is one of the memory's, and has the rectangles of a polygon.
-pub record PolygonAt (m : List ℕ) (k : ℕ) : Type 0 where
-  pub right : rightLength m ≡ true
-  pub below : k < partsOf m
-  pub few : rectCount (part m k) ≤ 16
-
--- The numbers are the part of a leaf.
-pub record LeafPart (p : List ℕ) : Type 0 where
-  pub size : length p ≡ 128
-  pub few : itemCount p ≤ 8
 
 -- what a walk for a cell found: the first entry, and the visits
 unfoldable pub foundOf : Option CellEntry → ℕ → Found
@@ -118,22 +123,20 @@ pub record Listed (l : List ℕ) (at : ℕ) (es : List CellEntry) (l′ : List �
 
 -- A leaf's part can be walked, and its entries in the window fit into the list from the at-th place on.
 pub record LeafRoom (p : List ℕ) (w : Rect) (l : List ℕ) (at : ℕ) : Type 0 where
-  pub leaf : LeafPart p
+  pub leaf : NodePart p
   pub room : 3 * (at + length (leafEntries (insideTest w) p)) ≤ length l
 
 -- The node at part k can be walked, and the entries below it in the window fit into the list from the at-th place on.
 pub record WalkRoom (n : ℕ) (m : List ℕ) (lo k : ℕ) (w : Rect) (l : List ℕ) (at : ℕ) : Type 0 where
   pub walk : Walkable n m lo k
-  pub room : 3 * (at + length (entriesBelow (meetsTest w) (insideTest w) n m lo k)) ≤ length l
-
--- The memory reads as a tree whose leaves lie that many steps below its root, which is at that part.
-pub record TreeIn (m : List ℕ) (level root : ℕ) : Type 0 where
-  pub tree : Tree (planeSpace fanout)
-  pub reads : reading fanout m ≡ some (some tree)
-  pub level-is : tree .level ≡ level
-  pub root-is : rootIn m ≡ root
+  pub room : 3 * (at + length (matchesBelow w n m lo k)) ≤ length l
 
 -- A window query of the index that the memory reads as ended with that answer, and left the list l′.
 pub record WindowDone (m : List ℕ) (w : Rect) (l l′ : List ℕ) (r : WindowFound) : Type 0 where
   pub answer : r ≡ windowRead w (length l) (reading fanout m)
   pub list : l′ ≡ windowWritten w (reading fanout m) l
+
+-- A call of the window query ended with that answer, and left the list l′.
+pub record WindowCall (m : List ℕ) (w : Rect) (l l′ : List ℕ) (r : WindowFound) : Type 0 where
+  pub answer : r ≡ windowAnswer m w (length l)
+  pub list : l′ ≡ windowList m w l

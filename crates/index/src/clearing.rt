@@ -3,7 +3,7 @@ ghost use mathlib.Core.Path.{_≡_};
 ghost use lib.ListN.{length, replicate};
 ghost use Rattle.index.specs.Answers.{clearAnswer, cleared};
 use crate::answer::Cleared;
-use crate::length::right_length;
+use crate::open::right_length;
 
 // Zeros the whole list.
 fn fill_zeros(m: &mut [u32])

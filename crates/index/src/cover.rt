@@ -6,9 +6,26 @@ ghost use Rattle.geometry.specs.Common.{unlessEmpty, sharesWith};
 ghost use Rattle.geometry.specs.Numbers.{rectsIn};
 ghost use Rattle.geometry.specs.Refine.{anyOf};
 ghost use Rattle.memory.specs.SoundTest.{allPass, coveredBy, insideOf, apart};
+ghost use Rattle.index.specs.Check.{Skipped};
 use geometry::Common;
 use geometry::Rect;
 use geometry::rect_at;
+
+// The first of n rectangles from the i-th on that shares a cell with r; n where none does. Those before it cut nothing.
+fn first_shared(rects: &[u32], n: usize, i: usize, r: Rect) -> usize
+    requires { ⌜ (i ≤ n) × (4 * n ≤ length (now rects)) ⌝ }
+    ensures { λ j. ⌜ Skipped (now (rects .entry)) n r i j ⌝ }
+{
+    let mut j = i;
+    while j < n {
+        let s = rect_at(rects, j);
+        if r.shares(s) {
+            return j;
+        }
+        j += 1;
+    }
+    j
+}
 
 // Whether nothing of r, which may be empty, is left when the rectangles from the i-th on are cut out.
 fn none_left(rects: &[u32], n: usize, i: usize, r: Rect) -> bool
@@ -21,32 +38,33 @@ fn none_left(rects: &[u32], n: usize, i: usize, r: Rect) -> bool
     if r.ury <= r.lly {
         return true;
     }
-    if n <= i {
+    let j = first_shared(rects, n, i, r);
+    if n <= j {
         return false;
     }
-    let s = rect_at(rects, i);
+    let s = rect_at(rects, j);
     let Common::Part(u) = r.common(s) else {
-        return none_left(rects, n, i + 1, r);
+        return none_left(rects, n, j + 1, r);
     };
     let mut piece = r;
     piece.llx = s.urx;
-    if !none_left(rects, n, i + 1, piece) {
+    if !none_left(rects, n, j + 1, piece) {
         return false;
     }
     piece.llx = r.llx;
     piece.urx = s.llx;
-    if !none_left(rects, n, i + 1, piece) {
+    if !none_left(rects, n, j + 1, piece) {
         return false;
     }
     piece.llx = u.llx;
     piece.urx = u.urx;
     piece.lly = s.ury;
-    if !none_left(rects, n, i + 1, piece) {
+    if !none_left(rects, n, j + 1, piece) {
         return false;
     }
     piece.lly = r.lly;
     piece.ury = s.lly;
-    none_left(rects, n, i + 1, piece)
+    none_left(rects, n, j + 1, piece)
 }
 
 // Whether the cells of r are among those of the first n rectangles; an empty r is refused.
@@ -80,7 +98,7 @@ pub fn inside(p: &[u32], n: usize, q: &[u32], k: usize) -> bool
 }
 
 // Whether one of the first n rectangles shares a cell with s.
-fn any_shares(rects: &[u32], n: usize, s: Rect) -> bool
+pub fn any_shares(rects: &[u32], n: usize, s: Rect) -> bool
     requires { ⌜ 4 * n ≤ length (now rects) ⌝ }
     ensures { λ b. ⌜ b ≡ anyOf (sharesWith s) (rectsIn (now (rects .entry)) n) ⌝ }
 {

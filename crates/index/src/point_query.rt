@@ -1,12 +1,17 @@
 // The point query: the walk into the nodes whose polygon has the cell.
 ghost use mathlib.Core.Path.{_≡_};
-ghost use Prim.Native.Nat.{_+_, _*_, _<_};
+ghost use Prim.Native.Nat.{_<_};
 ghost use lib.ListN.{length};
 ghost use Rattle.memory.specs.Layout.{entryIn};
 ghost use Rattle.memory.specs.Reading.{reading};
-ghost use Rattle.index.specs.Answers.{fanout, pointRead};
-ghost use Rattle.index.specs.Walks.{hasTest, cellTest, visitsBelow, entriesBelow, leafEntries, Walkable, LeafPart, found, TreeIn};
+ghost use Rattle.index.specs.Answers.{fanout, pointRead, pointAnswer};
+ghost use Rattle.index.specs.Check.{NodePart};
+ghost use Rattle.index.specs.Open.{TreeIn};
+ghost use Rattle.index.specs.Walks.{hasTest, cellTest, visitsBelow, heldBelow, leafEntries, Walkable, found};
 use crate::answer::PointFound;
+use crate::open::Opened;
+use crate::open::open;
+use crate::open::right_length;
 use crate::walk::Found;
 use crate::walk::polygon_has;
 use geometry::Cell;
@@ -25,7 +30,7 @@ fn is_of_cell(p: &[u32], i: usize, c: Cell) -> bool
 
 // The entry of the cell in a leaf's part.
 fn point_in_leaf(p: &[u32], c: Cell) -> Found
-    requires { ⌜ LeafPart (now p) ⌝ }
+    requires { ⌜ NodePart (now p) ⌝ }
     ensures { λ r. ⌜ r ≡ found (leafEntries (cellTest c) (now (p .entry))) 1 ⌝ }
 {
     let n = p[1] as usize;
@@ -52,7 +57,7 @@ fn point_in_leaf(p: &[u32], c: Cell) -> Found
 // whose polygon has the cell.
 pub fn point_below(m: &[u32], level: u32, lo: u32, k: u32, c: Cell) -> Found
     requires { ⌜ Walkable level (now m) lo k ⌝ }
-    ensures { λ r. ⌜ r ≡ found (entriesBelow (hasTest c) (cellTest c) level (now (m .entry)) lo k) (visitsBelow (hasTest c) level (now (m .entry)) lo k) ⌝ }
+    ensures { λ r. ⌜ r ≡ found (heldBelow c level (now (m .entry)) lo k) (visitsBelow (hasTest c) level (now (m .entry)) lo k) ⌝ }
 {
     let a = 64 + 128 * (k as usize);
     let e = a + 128;
@@ -96,5 +101,29 @@ fn point_in_tree(m: &[u32], level: u32, root: u32, c: Cell) -> PointFound
     }
     PointFound::NotHeld {
         visits: found.visits,
+    }
+}
+
+// Whether an entry of the cell is held, with its tag, and the nodes whose polygon has the cell.
+pub fn point(m: &[u32], c: Cell) -> PointFound
+    ensures { λ r. ⌜ r ≡ pointAnswer (now (m .entry)) c ⌝ }
+{
+    if !right_length(m) {
+        return PointFound::WrongLength;
+    }
+    if !c.on_grid() {
+        return PointFound::OffGrid;
+    }
+    let opened = open(m);
+    match opened {
+        Opened::NoTree => {
+            return PointFound::NoTree;
+        }
+        Opened::Empty => {
+            return PointFound::NotHeld { visits: 0 };
+        }
+        Opened::Tree { level, root } => {
+            return point_in_tree(m, level, root, c);
+        }
     }
 }

@@ -1,15 +1,13 @@
 // The walks of the queries: what both of them read of a node's part.
 ghost use mathlib.Core.Path.{_≡_};
-ghost use Prim.Native.Nat.{_+_, _*_, _≤_, _<_};
-ghost use lib.ListN.{length};
-ghost use Rattle.geometry.specs.Common.{sharesWith};
-ghost use Rattle.geometry.specs.Numbers.{rectsIn};
-ghost use Rattle.geometry.specs.Refine.{anyOf};
+ghost use Prim.Native.Nat.{_+_, _≤_};
 ghost use Rattle.memory.specs.Layout.{part, polygonIn};
-ghost use Rattle.index.specs.Walks.{hasTest, hasRect, meetsTest, PolygonAt, joined};
+ghost use Rattle.index.specs.Check.{PolygonPart};
+ghost use Rattle.index.specs.Walks.{hasTest, meetsTest, joined};
+use crate::cover::any_shares;
+use crate::leaf::any_has;
 use geometry::Cell;
 use geometry::Rect;
-use geometry::rect_at;
 
 // What the walk of a point query found: whether an entry of the cell is held, its tag (0 where none is),
 // and the nodes visited.
@@ -41,25 +39,9 @@ impl Found {
     }
 }
 
-// Whether one of the first n rectangles has the cell.
-fn any_has(list: &[u32], n: usize, c: Cell) -> bool
-    requires { ⌜ 4 * n ≤ length (now list) ⌝ }
-    ensures { λ b. ⌜ b ≡ anyOf (hasRect c) (rectsIn (now (list .entry)) n) ⌝ }
-{
-    let mut i = 0;
-    while i < n {
-        let r = rect_at(list, i);
-        if r.has_cell(c) {
-            return true;
-        }
-        i += 1;
-    }
-    false
-}
-
 // Whether the polygon of the node at part k has the cell.
 pub fn polygon_has(m: &[u32], k: u32, c: Cell) -> bool
-    requires { ⌜ PolygonAt (now m) k ⌝ }
+    requires { ⌜ PolygonPart (now m) k ⌝ }
     ensures { λ b. ⌜ b ≡ hasTest c (polygonIn (part (now (m .entry)) k)) ⌝ }
 {
     let a = 64 + 128 * (k as usize);
@@ -69,25 +51,9 @@ pub fn polygon_has(m: &[u32], k: u32, c: Cell) -> bool
     any_has(&m[from..to], n, c)
 }
 
-// Whether one of the first n rectangles shares a cell with w.
-fn any_shares(list: &[u32], n: usize, w: Rect) -> bool
-    requires { ⌜ 4 * n ≤ length (now list) ⌝ }
-    ensures { λ b. ⌜ b ≡ anyOf (sharesWith w) (rectsIn (now (list .entry)) n) ⌝ }
-{
-    let mut i = 0;
-    while i < n {
-        let r = rect_at(list, i);
-        if r.shares(w) {
-            return true;
-        }
-        i += 1;
-    }
-    false
-}
-
 // Whether the polygon of the node at part k shares a cell with w.
 pub fn polygon_meets(m: &[u32], k: u32, w: Rect) -> bool
-    requires { ⌜ PolygonAt (now m) k ⌝ }
+    requires { ⌜ PolygonPart (now m) k ⌝ }
     ensures { λ b. ⌜ b ≡ meetsTest w (polygonIn (part (now (m .entry)) k)) ⌝ }
 {
     let a = 64 + 128 * (k as usize);

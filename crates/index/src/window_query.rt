@@ -4,8 +4,13 @@ ghost use mathlib.Core.Path.{_≡_};
 ghost use Prim.Native.Nat.{_+_, _*_, _≤_, _<_};
 ghost use lib.ListN.{length};
 ghost use Rattle.memory.specs.Layout.{entryIn};
-ghost use Rattle.index.specs.Walks.{meetsTest, insideTest, visitsBelow, entriesBelow, leafEntries, Walkable, LeafPart, matched, putEntry, Listed, LeafRoom, WalkRoom, TreeIn, WindowDone};
+ghost use Rattle.index.specs.Check.{NodePart};
+ghost use Rattle.index.specs.Open.{TreeIn};
+ghost use Rattle.index.specs.Walks.{meetsTest, insideTest, visitsBelow, matchesBelow, leafEntries, Walkable, matched, putEntry, Listed, LeafRoom, WalkRoom, WindowDone, WindowCall};
 use crate::answer::WindowFound;
+use crate::open::Opened;
+use crate::open::open;
+use crate::open::right_length;
 use crate::walk::polygon_meets;
 use geometry::Cell;
 use geometry::Rect;
@@ -31,7 +36,7 @@ fn is_inside(p: &[u32], i: usize, w: Rect) -> bool
 
 // How many entries of a leaf's part are in the window.
 fn count_leaf(p: &[u32], w: Rect) -> u32
-    requires { ⌜ LeafPart (now p) ⌝ }
+    requires { ⌜ NodePart (now p) ⌝ }
     ensures { λ r. ⌜ r ≡ length (leafEntries (insideTest w) (now (p .entry))) ⌝ }
 {
     let n = p[1] as usize;
@@ -50,7 +55,7 @@ fn count_leaf(p: &[u32], w: Rect) -> u32
 // walk enters only children whose polygon shares a cell with the window.
 pub fn count_below(m: &[u32], level: u32, lo: u32, k: u32, w: Rect) -> Matched
     requires { ⌜ Walkable level (now m) lo k ⌝ }
-    ensures { λ r. ⌜ r ≡ matched (entriesBelow (meetsTest w) (insideTest w) level (now (m .entry)) lo k) (visitsBelow (meetsTest w) level (now (m .entry)) lo k) ⌝ }
+    ensures { λ r. ⌜ r ≡ matched (matchesBelow w level (now (m .entry)) lo k) (visitsBelow (meetsTest w) level (now (m .entry)) lo k) ⌝ }
 {
     let a = 64 + 128 * (k as usize);
     let e = a + 128;
@@ -121,7 +126,7 @@ pub fn write_below(
     at: usize,
 ) -> usize
     requires { ⌜ WalkRoom level (now m) lo k w (now list) at ⌝ }
-    ensures { λ r. ⌜ Listed (now (list .entry)) at (entriesBelow (meetsTest w) (insideTest w) level (now (m .entry)) lo k) (now (list .exit)) r ⌝ }
+    ensures { λ r. ⌜ Listed (now (list .entry)) at (matchesBelow w level (now (m .entry)) lo k) (now (list .exit)) r ⌝ }
 {
     let a = 64 + 128 * (k as usize);
     let e = a + 128;
@@ -164,5 +169,33 @@ fn window_in_tree(m: &[u32], level: u32, root: u32, w: Rect, list: &mut [u32]) -
     WindowFound::Found {
         matches,
         visits: found.visits,
+    }
+}
+
+// Writes x, y and tag of each entry in the window to the list, in depth-first order, and leaves the rest
+// of it; answers the matches and the nodes whose polygon shares a cell with the window.
+pub fn window(m: &[u32], w: Rect, list: &mut [u32]) -> WindowFound
+    ensures { λ r. ⌜ WindowCall (now (m .entry)) w (now (list .entry)) (now (list .exit)) r ⌝ }
+{
+    if !right_length(m) {
+        return WindowFound::WrongLength;
+    }
+    if !w.is_valid() {
+        return WindowFound::BadWindow;
+    }
+    let opened = open(m);
+    match opened {
+        Opened::NoTree => {
+            return WindowFound::NoTree;
+        }
+        Opened::Empty => {
+            return WindowFound::Found {
+                matches: 0,
+                visits: 0,
+            };
+        }
+        Opened::Tree { level, root } => {
+            return window_in_tree(m, level, root, w, list);
+        }
     }
 }

@@ -1,5 +1,6 @@
 use Prim.Native.Nat.{ℕ, _<_, _-_}
 use borrow.Author.Needs.{needs}
+use native.Mathlib.Omega.{arith}
 use borrow.Author.Tests.{not-true, not-false}
 use Rattle.index.proofs.CoverLaws.{left-flat, left-low, left-end, left-apart, left-stop-1, left-stop-2, left-stop-3, left-last}
 use borrow.Fn.Kinds.{In}
@@ -9,6 +10,7 @@ use Rattle.index.proofs.cover.none_left.Kinds as none-left-kinds
 use Rattle.index.proofs.cover.+none_left.Lts-none_left as none-left-lts
 use Rattle.geometry.proofs.rect_at.Reads as rect-at-reads
 use Rattle.geometry.proofs.rect.Rect.common.Reads as common-reads
+use Rattle.index.proofs.cover.first_shared.Reads as first-shared-reads
 use Rattle.index.proofs.cover.+none_left.{statement}
 use Rattle.index.proofs.cover.+none_left.Tie.{close}
 
@@ -23,6 +25,8 @@ none-left-below t =
     and 1 none-left-kinds.ps (falls 1 none-left-kinds.ps _<_ μ-none-left t) none-left.Pre
 
 none-left-returns : (t : ℕ) → none-left-lts.Need-returns (
+  first-shared-reads.Asked,
+  first-shared-reads.Learnt,
   rect-at-reads.Asked,
   rect-at-reads.Learnt,
   common-reads.Asked,
@@ -33,6 +37,8 @@ none-left-returns : (t : ℕ) → none-left-lts.Need-returns (
 none-left-returns t c = search left-flat
 
 none-left-returns-2 : (t : ℕ) → none-left-lts.Need-returns-2 (
+  first-shared-reads.Asked,
+  first-shared-reads.Learnt,
   rect-at-reads.Asked,
   rect-at-reads.Learnt,
   common-reads.Asked,
@@ -42,7 +48,21 @@ none-left-returns-2 : (t : ℕ) → none-left-lts.Need-returns-2 (
 ) (none-left-at t) none-left.Post
 none-left-returns-2 t c = search left-low
 
+none-left-first-shared-requires : (t : ℕ) → none-left-lts.Need-first-shared-requires (
+  first-shared-reads.Asked,
+  first-shared-reads.Learnt,
+  rect-at-reads.Asked,
+  rect-at-reads.Learnt,
+  common-reads.Asked,
+  common-reads.Learnt,
+  none-left-below t,
+  none-left.Post,
+) (none-left-at t) none-left.Post
+none-left-first-shared-requires t c κs = search needs
+
 none-left-returns-3 : (t : ℕ) → none-left-lts.Need-returns-3 (
+  first-shared-reads.Asked,
+  first-shared-reads.Learnt,
   rect-at-reads.Asked,
   rect-at-reads.Learnt,
   common-reads.Asked,
@@ -53,6 +73,8 @@ none-left-returns-3 : (t : ℕ) → none-left-lts.Need-returns-3 (
 none-left-returns-3 t c = search left-end
 
 none-left-rect-at-requires : (t : ℕ) → none-left-lts.Need-rect-at-requires (
+  first-shared-reads.Asked,
+  first-shared-reads.Learnt,
   rect-at-reads.Asked,
   rect-at-reads.Learnt,
   common-reads.Asked,
@@ -63,6 +85,8 @@ none-left-rect-at-requires : (t : ℕ) → none-left-lts.Need-rect-at-requires (
 none-left-rect-at-requires t c κs = search needs
 
 none-left-common-requires : (t : ℕ) → none-left-lts.Need-common-requires (
+  first-shared-reads.Asked,
+  first-shared-reads.Learnt,
   rect-at-reads.Asked,
   rect-at-reads.Learnt,
   common-reads.Asked,
@@ -73,6 +97,8 @@ none-left-common-requires : (t : ℕ) → none-left-lts.Need-common-requires (
 none-left-common-requires t c κs = search needs
 
 none-left-enum-known-u : (t : ℕ) → none-left-lts.Need-enum-known-u (
+  first-shared-reads.Asked,
+  first-shared-reads.Learnt,
   rect-at-reads.Asked,
   rect-at-reads.Learnt,
   common-reads.Asked,
@@ -83,6 +109,8 @@ none-left-enum-known-u : (t : ℕ) → none-left-lts.Need-enum-known-u (
 none-left-enum-known-u t c = search needs
 
 none-left-enum-told : (t : ℕ) → none-left-lts.Need-enum-told (
+  first-shared-reads.Asked,
+  first-shared-reads.Learnt,
   rect-at-reads.Asked,
   rect-at-reads.Learnt,
   common-reads.Asked,
@@ -93,6 +121,8 @@ none-left-enum-told : (t : ℕ) → none-left-lts.Need-enum-told (
 none-left-enum-told t c = search needs
 
 none-left-add-none-left : (t : ℕ) → none-left-lts.Need-add-none-left (
+  first-shared-reads.Asked,
+  first-shared-reads.Learnt,
   rect-at-reads.Asked,
   rect-at-reads.Learnt,
   common-reads.Asked,
@@ -103,6 +133,8 @@ none-left-add-none-left : (t : ℕ) → none-left-lts.Need-add-none-left (
 none-left-add-none-left t c = search needs
 
 none-left-none-left-requires : (t : ℕ) → none-left-lts.Need-none-left-requires (
+  first-shared-reads.Asked,
+  first-shared-reads.Learnt,
   rect-at-reads.Asked,
   rect-at-reads.Learnt,
   common-reads.Asked,
@@ -113,6 +145,8 @@ none-left-none-left-requires : (t : ℕ) → none-left-lts.Need-none-left-requir
 none-left-none-left-requires t c κs = search needs
 
 none-left-returns-4 : (t : ℕ) → none-left-lts.Need-returns-4 (
+  first-shared-reads.Asked,
+  first-shared-reads.Learnt,
   rect-at-reads.Asked,
   rect-at-reads.Learnt,
   common-reads.Asked,
@@ -123,6 +157,8 @@ none-left-returns-4 : (t : ℕ) → none-left-lts.Need-returns-4 (
 none-left-returns-4 t c = search left-apart
 
 none-left-add-none-left-2 : (t : ℕ) → none-left-lts.Need-add-none-left-2 (
+  first-shared-reads.Asked,
+  first-shared-reads.Learnt,
   rect-at-reads.Asked,
   rect-at-reads.Learnt,
   common-reads.Asked,
@@ -133,6 +169,8 @@ none-left-add-none-left-2 : (t : ℕ) → none-left-lts.Need-add-none-left-2 (
 none-left-add-none-left-2 t c = search needs
 
 none-left-none-left-requires-2 : (t : ℕ) → none-left-lts.Need-none-left-requires-2 (
+  first-shared-reads.Asked,
+  first-shared-reads.Learnt,
   rect-at-reads.Asked,
   rect-at-reads.Learnt,
   common-reads.Asked,
@@ -143,6 +181,8 @@ none-left-none-left-requires-2 : (t : ℕ) → none-left-lts.Need-none-left-requ
 none-left-none-left-requires-2 t c κs = search needs
 
 none-left-returns-5 : (t : ℕ) → none-left-lts.Need-returns-5 (
+  first-shared-reads.Asked,
+  first-shared-reads.Learnt,
   rect-at-reads.Asked,
   rect-at-reads.Learnt,
   common-reads.Asked,
@@ -153,6 +193,8 @@ none-left-returns-5 : (t : ℕ) → none-left-lts.Need-returns-5 (
 none-left-returns-5 t c = search (left-stop-1, not-true)
 
 none-left-add-none-left-3 : (t : ℕ) → none-left-lts.Need-add-none-left-3 (
+  first-shared-reads.Asked,
+  first-shared-reads.Learnt,
   rect-at-reads.Asked,
   rect-at-reads.Learnt,
   common-reads.Asked,
@@ -163,6 +205,8 @@ none-left-add-none-left-3 : (t : ℕ) → none-left-lts.Need-add-none-left-3 (
 none-left-add-none-left-3 t c = search needs
 
 none-left-none-left-requires-3 : (t : ℕ) → none-left-lts.Need-none-left-requires-3 (
+  first-shared-reads.Asked,
+  first-shared-reads.Learnt,
   rect-at-reads.Asked,
   rect-at-reads.Learnt,
   common-reads.Asked,
@@ -173,6 +217,8 @@ none-left-none-left-requires-3 : (t : ℕ) → none-left-lts.Need-none-left-requ
 none-left-none-left-requires-3 t c κs = search needs
 
 none-left-returns-6 : (t : ℕ) → none-left-lts.Need-returns-6 (
+  first-shared-reads.Asked,
+  first-shared-reads.Learnt,
   rect-at-reads.Asked,
   rect-at-reads.Learnt,
   common-reads.Asked,
@@ -183,6 +229,8 @@ none-left-returns-6 : (t : ℕ) → none-left-lts.Need-returns-6 (
 none-left-returns-6 t c = search (left-stop-2, not-true, not-false)
 
 none-left-add-none-left-4 : (t : ℕ) → none-left-lts.Need-add-none-left-4 (
+  first-shared-reads.Asked,
+  first-shared-reads.Learnt,
   rect-at-reads.Asked,
   rect-at-reads.Learnt,
   common-reads.Asked,
@@ -193,6 +241,8 @@ none-left-add-none-left-4 : (t : ℕ) → none-left-lts.Need-add-none-left-4 (
 none-left-add-none-left-4 t c = search needs
 
 none-left-none-left-requires-4 : (t : ℕ) → none-left-lts.Need-none-left-requires-4 (
+  first-shared-reads.Asked,
+  first-shared-reads.Learnt,
   rect-at-reads.Asked,
   rect-at-reads.Learnt,
   common-reads.Asked,
@@ -203,6 +253,8 @@ none-left-none-left-requires-4 : (t : ℕ) → none-left-lts.Need-none-left-requ
 none-left-none-left-requires-4 t c κs = search needs
 
 none-left-returns-7 : (t : ℕ) → none-left-lts.Need-returns-7 (
+  first-shared-reads.Asked,
+  first-shared-reads.Learnt,
   rect-at-reads.Asked,
   rect-at-reads.Learnt,
   common-reads.Asked,
@@ -213,6 +265,8 @@ none-left-returns-7 : (t : ℕ) → none-left-lts.Need-returns-7 (
 none-left-returns-7 t c = search (left-stop-3, not-true, not-false)
 
 none-left-add-none-left-5 : (t : ℕ) → none-left-lts.Need-add-none-left-5 (
+  first-shared-reads.Asked,
+  first-shared-reads.Learnt,
   rect-at-reads.Asked,
   rect-at-reads.Learnt,
   common-reads.Asked,
@@ -220,9 +274,16 @@ none-left-add-none-left-5 : (t : ℕ) → none-left-lts.Need-add-none-left-5 (
   none-left-below t,
   none-left.Post,
 ) (none-left-at t) none-left.Post
-none-left-add-none-left-5 t c = search needs
+none-left-add-none-left-5 t c =
+    let s = c .before .before .before .before .before .before .before .before .before .before .before .before .before .before .before .before .before .before in
+    let p = s .pre in
+    let f = s .fits in
+    let g = s .good in
+    search needs
 
 none-left-none-left-requires-5 : (t : ℕ) → none-left-lts.Need-none-left-requires-5 (
+  first-shared-reads.Asked,
+  first-shared-reads.Learnt,
   rect-at-reads.Asked,
   rect-at-reads.Learnt,
   common-reads.Asked,
@@ -231,10 +292,14 @@ none-left-none-left-requires-5 : (t : ℕ) → none-left-lts.Need-none-left-requ
   none-left.Post,
 ) (none-left-at t) none-left.Post
 none-left-none-left-requires-5 t c κs =
-    let p = c .before .before .before .before .before .before .before .before .before .before .before .before .before .before .before .before .before .pre .1 in
-    search needs
+    let p = c .before .before .before .before .before .before .before .before .before .before .before .before .before .before .before .before .before .before .pre in
+    let e = p .0 in
+    let d = c .before .before .before .before .before .before .before .before .before .before .before .before .first-shared .ensures in
+    (omega arith, (omega arith, p .1 .1))
 
 none-left-returns-8 : (t : ℕ) → none-left-lts.Need-returns-8 (
+  first-shared-reads.Asked,
+  first-shared-reads.Learnt,
   rect-at-reads.Asked,
   rect-at-reads.Learnt,
   common-reads.Asked,
@@ -246,6 +311,8 @@ none-left-returns-8 t c = search (left-last, not-false)
 
 pub +none-left-spec : {M : Type 1} → statement M
 +none-left-spec = close μ-none-left λ t. none-left-lts.spec (
+  first-shared-reads.Asked,
+  first-shared-reads.Learnt,
   rect-at-reads.Asked,
   rect-at-reads.Learnt,
   common-reads.Asked,
@@ -257,6 +324,7 @@ pub +none-left-spec : {M : Type 1} → statement M
     none-left.Post
     (none-left-returns t)
     (none-left-returns-2 t)
+    (none-left-first-shared-requires t)
     (none-left-returns-3 t)
     (none-left-rect-at-requires t)
     (none-left-common-requires t)

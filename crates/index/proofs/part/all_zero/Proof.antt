@@ -2,27 +2,24 @@ use borrow.Author.Needs.{needs}
 use Prim.Native.Nat.{_-_}
 use lib.ListN.{length}
 use Rattle.memory.specs.Layout.{allZero}
-use Rattle.index.proofs.PartLaws.{Zeros, zeros-start, zeros-hit, zeros-miss, zeros-end}
+use Rattle.index.proofs.PartLaws.{Zeros, zeros-start, zeros-on, zeros-end}
 use Rattle.index.proofs.part.all_zero.Statement.{statement}
 use Rattle.index.proofs.part.all_zero.Tie as tie
 
 abbrev Inv-loop : tie.InvT-loop
-Inv-loop s i₀ i = Zeros s i (allZero s)
+Inv-loop s seen₀ i₀ seen i = Zeros s seen i (allZero s)
 
 abbrev μ-loop : tie.MeasureT-loop
-μ-loop s i₀ i = length s - i
+μ-loop s seen₀ i₀ seen i = length s - i
 
 loop-holds : tie.Need-loop-holds Inv-loop μ-loop
 loop-holds c = search zeros-start
 
-mul-if1 : tie.Need-mul-if1 Inv-loop μ-loop
-mul-if1 c = search needs
+mul-seen : tie.Need-mul-seen Inv-loop μ-loop
+mul-seen c = search needs
 
-shared-slice-read-if1 : tie.Need-shared-slice-read-if1 Inv-loop μ-loop
-shared-slice-read-if1 c = search needs
-
-returns : tie.Need-returns Inv-loop μ-loop
-returns c = search zeros-hit
+shared-slice-read-seen : tie.Need-shared-slice-read-seen Inv-loop μ-loop
+shared-slice-read-seen c = search needs
 
 add-i : tie.Need-add-i Inv-loop μ-loop
 add-i c = search needs
@@ -31,10 +28,10 @@ loop-less : tie.Need-loop-less Inv-loop μ-loop
 loop-less c = search needs
 
 loop-again : tie.Need-loop-again Inv-loop μ-loop
-loop-again c = search zeros-miss
+loop-again c = search zeros-on
 
-returns-2 : tie.Need-returns-2 Inv-loop μ-loop
-returns-2 c = search zeros-end
+returns : tie.Need-returns Inv-loop μ-loop
+returns c = search zeros-end
 
 pub all-zero-spec : {M : Type 1} → statement M
 all-zero-spec =
@@ -43,10 +40,9 @@ all-zero-spec =
     Inv-loop
     μ-loop
     loop-holds
-    mul-if1
-    shared-slice-read-if1
-    returns
+    mul-seen
+    shared-slice-read-seen
     add-i
     loop-less
     loop-again
-    returns-2)
+    returns)

@@ -1,0 +1,15 @@
+//! The index in memory, plainly: docs/LAYOUT.md read number by number, images of trees, and the
+//! calls on lent numbers with document 01's refusals.
+
+mod calls;
+mod image;
+pub mod layout;
+mod read;
+mod refusal;
+mod sound;
+
+pub use calls::{clear, point, window, Reading};
+pub use image::image;
+pub use read::read;
+pub use refusal::Refusal;
+pub use sound::{is_covered, is_sound};

@@ -1,0 +1,69 @@
+//! The proved library of the index, as include/index.h declares it.
+//!
+//! Each function has the parameters of its namesake in `memory` and returns the number as the
+//! library gave it: 0 where the call accepts, else the number of the refusal.
+
+extern "C" {
+    fn lintzoger_clear(index: *mut u32, index_len: usize, held: *mut u32) -> u32;
+    fn lintzoger_point(
+        index: *const u32,
+        index_len: usize,
+        x: u32,
+        y: u32,
+        held: *mut u32,
+        visits: *mut u32,
+        tag: *mut u32,
+    ) -> u32;
+    fn lintzoger_window(
+        index: *const u32,
+        index_len: usize,
+        llx: u32,
+        lly: u32,
+        urx: u32,
+        ury: u32,
+        list: *mut u32,
+        list_len: usize,
+        matches: *mut u32,
+        visits: *mut u32,
+    ) -> u32;
+}
+
+// In each wrapper the pointers come from slices and references that live through the call, and the
+// lengths are those of the slices. The library's functions have no other condition.
+
+pub fn clear(index: &mut [u32], held: &mut u32) -> u32 {
+    unsafe { lintzoger_clear(index.as_mut_ptr(), index.len(), held) }
+}
+
+pub fn point(
+    index: &[u32],
+    [x, y]: [u32; 2],
+    held: &mut u32,
+    visits: &mut u32,
+    tag: &mut u32,
+) -> u32 {
+    unsafe { lintzoger_point(index.as_ptr(), index.len(), x, y, held, visits, tag) }
+}
+
+pub fn window(
+    index: &[u32],
+    [llx, lly, urx, ury]: [u32; 4],
+    list: &mut [u32],
+    matches: &mut u32,
+    visits: &mut u32,
+) -> u32 {
+    unsafe {
+        lintzoger_window(
+            index.as_ptr(),
+            index.len(),
+            llx,
+            lly,
+            urx,
+            ury,
+            list.as_mut_ptr(),
+            list.len(),
+            matches,
+            visits,
+        )
+    }
+}

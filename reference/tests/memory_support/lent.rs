@@ -1,0 +1,148 @@
+//! Calls on a lent index, made to both implementations and compared.
+
+use super::outcome::{ClearOutput, PointOutput, WindowOutput};
+use reference::geometry::Cell;
+use reference::memory::{self, Reading, Refusal};
+use reference::proved_index;
+use std::fmt::{Arguments, Debug};
+
+/// Numbers before and after each lent list, where no call may write.
+const GUARD: usize = 16;
+
+/// What stands in a lent list before the call, and next to it.
+fn fill(place: usize) -> u32 {
+    0x8765_4321 ^ (place as u32).wrapping_mul(0x9e37_79b9)
+}
+
+/// A list with guard numbers around it.
+fn guarded(list: impl Iterator<Item = u32>) -> Vec<u32> {
+    let before = (0..GUARD).map(fill);
+    before.chain(list).chain((0..GUARD).map(fill)).collect()
+}
+
+/// The number of the answer.
+fn number(answer: Result<(), Refusal>) -> u32 {
+    answer.map_or_else(Refusal::number, |()| 0)
+}
+
+/// A lent index. The guarded list is there twice, so that a change is seen.
+pub struct Lent {
+    numbers: Vec<u32>,
+    copy: Vec<u32>,
+}
+
+impl Lent {
+    pub fn new(index: &[u32]) -> Lent {
+        let numbers = guarded(index.iter().copied());
+        let copy = numbers.clone();
+        Lent { numbers, copy }
+    }
+
+    pub fn index(&self) -> &[u32] {
+        &self.numbers[GUARD..self.numbers.len() - GUARD]
+    }
+
+    pub fn set(&mut self, place: usize, number: u32) {
+        self.numbers[GUARD + place] = number;
+        self.copy[GUARD + place] = number;
+    }
+
+    /// The second implementation's reading, for several queries.
+    pub fn reading(&self) -> Reading {
+        Reading::of(self.index())
+    }
+
+    /// Fails where the outputs differ or the lent index was changed.
+    fn check<T: Debug + PartialEq>(&self, second: &T, proved: &T, call: Arguments) {
+        if second != proved || self.numbers != self.copy {
+            let index = &self.copy[GUARD..self.copy.len() - GUARD];
+            panic!(
+                "{call}\nsecond: {second:?}\nproved: {proved:?}\n{}{}",
+                changes(&self.copy, &self.numbers),
+                described(index)
+            );
+        }
+    }
+
+    pub fn point(&self, reading: &Reading, cell: Cell, place: Arguments) -> PointOutput {
+        let (mut second, mut proved) = (PointOutput::before(), PointOutput::before());
+        let PointOutput {
+            held, visits, tag, ..
+        } = &mut second;
+        second.answer = number(reading.point(cell, held, visits, tag));
+        let PointOutput {
+            held, visits, tag, ..
+        } = &mut proved;
+        proved.answer = proved_index::point(self.index(), cell, held, visits, tag);
+        self.check(&second, &proved, format_args!("{place}: point {cell:?}"));
+        second.check_untouched(place);
+        second
+    }
+
+    /// The list has the given length.
+    pub fn window(
+        &self,
+        reading: &Reading,
+        window: [u32; 4],
+        length: usize,
+        place: Arguments,
+    ) -> WindowOutput {
+        let before = WindowOutput::before(guarded((0..length).map(fill)));
+        let (mut second, mut proved) = (before.clone(), before.clone());
+        let WindowOutput {
+            matches,
+            visits,
+            list,
+            ..
+        } = &mut second;
+        let list = &mut list[GUARD..GUARD + length];
+        second.answer = number(reading.window(window, list, matches, visits));
+        let WindowOutput {
+            matches,
+            visits,
+            list,
+            ..
+        } = &mut proved;
+        let list = &mut list[GUARD..GUARD + length];
+        proved.answer = proved_index::window(self.index(), window, list, matches, visits);
+        self.check(
+            &second,
+            &proved,
+            format_args!("{place}: window {window:?}, list of {length}"),
+        );
+        second.check_untouched(&before, GUARD, place);
+        second
+    }
+
+    /// Clears the index, which stays cleared where the call accepts.
+    pub fn clear(&mut self, place: Arguments) -> ClearOutput {
+        let (mut second, mut proved) = (ClearOutput::before(), ClearOutput::before());
+        let range = GUARD..self.numbers.len() - GUARD;
+        let copy = &mut self.copy[range.clone()];
+        second.answer = number(memory::clear(copy, &mut second.held));
+        proved.answer = proved_index::clear(&mut self.numbers[range], &mut proved.held);
+        self.check(&second, &proved, format_args!("{place}: clear"));
+        second
+    }
+}
+
+/// The numbers that a call changed, those before the index with a negative place.
+fn changes(before: &[u32], after: &[u32]) -> String {
+    let mut text = String::new();
+    for (i, (a, b)) in before.iter().zip(after).enumerate() {
+        if a != b {
+            let at = i as i64 - GUARD as i64;
+            text += &format!("lent index, number {at}: expected {a}, is {b}\n");
+        }
+    }
+    text
+}
+
+/// The numbers of an index that are not zero.
+fn described(index: &[u32]) -> String {
+    let mut text = format!("index of {} numbers, not zero:", index.len());
+    for (i, number) in index.iter().enumerate().filter(|(_, &n)| n != 0) {
+        text += &format!(" [{i}]={number}");
+    }
+    text
+}

@@ -1,0 +1,154 @@
+//! Many queries of one sound index.
+
+use super::lent::Lent;
+use crate::support::tally::Tally;
+use reference::geometry::{Cell, Rectangle};
+use reference::memory::Reading;
+use reference::random::Random;
+use reference::tree::Tree;
+use std::fmt::Arguments;
+
+/// A result list for all entries of any index.
+pub const LONG: usize = 3 * 2048;
+
+/// A lent index with the second implementation's reading of it, and the counts.
+pub struct Queried<'a> {
+    pub lent: Lent,
+    pub reading: Reading,
+    pub tally: &'a mut Tally,
+}
+
+impl<'a> Queried<'a> {
+    pub fn new(image: &[u32], tally: &'a mut Tally) -> Queried<'a> {
+        let lent = Lent::new(image);
+        let reading = lent.reading();
+        Queried {
+            lent,
+            reading,
+            tally,
+        }
+    }
+
+    pub fn tree(&self) -> Option<Tree> {
+        let index = self.reading.index().expect("the image reads as an index");
+        index.tree().cloned()
+    }
+
+    pub fn point(&mut self, cell: Cell, place: Arguments) {
+        let output = self.lent.point(&self.reading, cell, place);
+        self.tally.count(output.kind());
+    }
+
+    /// Returns the matches.
+    pub fn window(&mut self, window: [u32; 4], length: usize, place: Arguments) -> usize {
+        let output = self.lent.window(&self.reading, window, length, place);
+        self.tally.count(output.kind());
+        output.matches as usize
+    }
+
+    /// The window with lists of every length from 0 to enough plus one, or, where that is long, at
+    /// the ends of that range.
+    pub fn window_with_lists(&mut self, window: [u32; 4], place: Arguments) {
+        let enough = 3 * self.window(window, LONG, place);
+        for length in 0..=enough + 1 {
+            if enough <= 200 || length < 4 || length + 4 > enough {
+                self.window(window, length, place);
+            }
+        }
+    }
+
+    /// Every cell of the square.
+    pub fn all_cells(&mut self, square: Rectangle, place: Arguments) {
+        for x in square.ll[0]..square.ur[0] {
+            for y in square.ll[1]..square.ur[1] {
+                self.point([x, y], place);
+            }
+        }
+    }
+}
+
+/// The rectangle with a margin of one, on the grid.
+pub fn with_margin(r: Rectangle) -> Rectangle {
+    Rectangle {
+        ll: r.ll.map(|v| v.saturating_sub(1)),
+        ur: r.ur.map(|v| (v + 1).min(65536)),
+    }
+}
+
+/// The rectangle, and strips of one cell's width along each side, inside and outside.
+pub fn edge_windows(r: Rectangle) -> Vec<[u32; 4]> {
+    let mut windows = vec![r];
+    for d in 0..2 {
+        let (from, to) = (r.ll[d], r.ur[d]);
+        windows.push(r.with_range(d, from, from + 1));
+        windows.push(r.with_range(d, to - 1, to));
+        if from > 0 {
+            windows.push(r.with_range(d, from - 1, from));
+        }
+        if to < 65536 {
+            windows.push(r.with_range(d, to, to + 1));
+        }
+    }
+    let numbers = |r: Rectangle| [r.ll[0], r.ll[1], r.ur[0], r.ur[1]];
+    windows.into_iter().map(numbers).collect()
+}
+
+/// The cells at the corners of a rectangle, inside and outside.
+pub fn corner_cells(r: Rectangle) -> Vec<Cell> {
+    let out = with_margin(r);
+    let mut cells = Vec::new();
+    for x in [out.ll[0], r.ll[0], r.ur[0] - 1, out.ur[0] - 1] {
+        for y in [out.ll[1], r.ll[1], r.ur[1] - 1, out.ur[1] - 1] {
+            cells.push([x, y]);
+        }
+    }
+    cells
+}
+
+/// A random window, sometimes the whole grid or up to its end.
+pub fn any_window(near: Rectangle, random: &mut Random) -> [u32; 4] {
+    let near = with_margin(near);
+    let [(llx, urx), (lly, ury)] = [0, 1].map(|d| {
+        let from = random.between(near.ll[d], near.ur[d] - 1);
+        let to = random.between(from + 1, near.ur[d]);
+        (from, random.pick(&[to, to, to, 65536]))
+    });
+    random.pick(&[
+        [llx, lly, urx, ury],
+        [llx, lly, urx, ury],
+        [0, 0, 65536, 65536],
+    ])
+}
+
+/// Windows that are refused with 3.
+pub fn invalid_windows(r: Rectangle) -> Vec<[u32; 4]> {
+    let [llx, lly, urx, ury] = [r.ll[0], r.ll[1], r.ur[0], r.ur[1]];
+    let mut windows = vec![
+        [llx, lly, llx, ury],
+        [llx, lly, urx, lly],
+        [urx, lly, llx, ury],
+        [llx, ury, urx, lly],
+        [65536, 0, 65536, 65536],
+        [0, 65536, 65536, 65536],
+        [65536, 65536, 65537, 65537],
+        [u32::MAX, 0, 0, 1],
+    ];
+    for over in [65537, 1 << 31, u32::MAX] {
+        windows.push([llx, lly, over, ury]);
+        windows.push([llx, lly, urx, over]);
+        windows.push([over - 1, over - 1, over, over]);
+    }
+    windows
+}
+
+/// Cells that are refused with 3.
+pub const INVALID_CELLS: [Cell; 8] = [
+    [65536, 0],
+    [0, 65536],
+    [65536, 65536],
+    [65537, 3],
+    [3, 65537],
+    [1 << 31, 0],
+    [u32::MAX, 0],
+    [0, u32::MAX],
+];
