@@ -15,8 +15,8 @@ use Rattle.index.specs.declared.answer.PointFound.{PointFound}
 use Rattle.index.specs.declared.answer.PointFound.the-variants.{Held, NotHeld, WrongLength, OffGrid, NoTree}
 use Rattle.index.specs.declared.walk.Found.{Found}
 use Rattle.index.specs.Answers.{fanout, pointEnd, pointRead, pointAnswer}
-use Rattle.index.specs.declared.open.Opened.{Opened}
-use Rattle.index.specs.declared.open.Opened.the-variants as O
+use Rattle.index.specs.declared.opening.Opened.{Opened}
+use Rattle.index.specs.declared.opening.Opened.the-variants as O
 use Rattle.index.specs.Open.{OpenedAs, TreeIn}
 use Rattle.index.specs.Walks.{hasTest, visitsBelow, found, foundOf, heldBelow}
 use Rattle.index.proofs.TreeWalk.{tree-visits, tree-entry}

@@ -23,8 +23,8 @@ use Rattle.index.specs.declared.answer.WindowFound.{WindowFound}
 use Rattle.index.specs.declared.answer.WindowFound.the-variants.{Found, ShortList, WrongLength, BadWindow, NoTree}
 use Rattle.index.specs.declared.window_query.Matched.{Matched}
 use Rattle.index.specs.Answers.{fanout, matchesIn, windowRead, windowWritten, windowAnswer, windowList}
-use Rattle.index.specs.declared.open.Opened.{Opened}
-use Rattle.index.specs.declared.open.Opened.the-variants as O
+use Rattle.index.specs.declared.opening.Opened.{Opened}
+use Rattle.index.specs.declared.opening.Opened.the-variants as O
 use Rattle.index.specs.Open.{OpenedAs, TreeIn}
 use Rattle.index.specs.Walks.{WindowCall, meetsTest, visitsBelow, matched, putEntry, putEntries, Listed, WalkRoom, WindowDone, matchesBelow}
 use Rattle.index.proofs.TreeWalk.{tree-walkable, tree-window-visits, tree-matches}

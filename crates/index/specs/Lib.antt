@@ -4,3 +4,4 @@ pub mod Check
 pub mod Open
 pub mod Walks
 pub mod Exports
+pub mod Changes

@@ -8,8 +8,8 @@ use Rattle.plane.specs.Plane.{planeSpace}
 use Rattle.memory.specs.Layout.{rootIn}
 use Rattle.memory.specs.Reading.{reading}
 use Rattle.index.specs.Answers.{fanout}
-use Rattle.index.specs.declared.open.Opened.{Opened}
-use Rattle.index.specs.declared.open.Opened.the-variants as O
+use Rattle.index.specs.declared.opening.Opened.{Opened}
+use Rattle.index.specs.declared.opening.Opened.the-variants as O
 
 -- the memory reads as a tree with its root at this part and its leaves so many steps below it
 pub record TreeIn (m : List ℕ) (level root : ℕ) : Type 0 where

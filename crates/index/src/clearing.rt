@@ -3,10 +3,10 @@ ghost use mathlib.Core.Path.{_≡_};
 ghost use lib.ListN.{length, replicate};
 ghost use Rattle.index.specs.Answers.{clearAnswer, cleared};
 use crate::answer::Cleared;
-use crate::open::right_length;
+use crate::opening::right_length;
 
 // Zeros the whole list.
-fn fill_zeros(m: &mut [u32])
+pub fn fill_zeros(m: &mut [u32])
     ensures { λ _. ⌜ now (m .exit) ≡ replicate (length (now (m .entry))) 0 ⌝ }
 {
     let n = m.len();

@@ -1,7 +1,7 @@
 use Rattle.index.proofs.OpenLaws.{used-one, zero-one}
 use borrow.Author.Needs.{needs}
-use Rattle.index.proofs.open.used_or_zero.Statement.{statement}
-use Rattle.index.proofs.open.used_or_zero.Tie as tie
+use Rattle.index.proofs.opening.used_or_zero.Statement.{statement}
+use Rattle.index.proofs.opening.used_or_zero.Tie as tie
 
 in-use-requires : tie.Need-in-use-requires
 in-use-requires c κs = search needs

@@ -3,8 +3,8 @@ use Prim.Native.Nat.{_-_}
 use borrow.Author.Tests.{not-true, not-false}
 use Rattle.memory.specs.Layout.{partsOf}
 use Rattle.index.proofs.OpenLaws.{Unused, unused-start, unused-stop, unused-on, unused-end}
-use Rattle.index.proofs.open.others_zero.Statement.{statement}
-use Rattle.index.proofs.open.others_zero.Tie as tie
+use Rattle.index.proofs.opening.others_zero.Statement.{statement}
+use Rattle.index.proofs.opening.others_zero.Tie as tie
 
 abbrev Inv-loop : tie.InvT-loop
 Inv-loop m n k₀ k = Unused m k

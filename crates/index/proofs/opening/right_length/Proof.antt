@@ -1,7 +1,7 @@
 use Rattle.index.proofs.OpenLaws.{length-stop-1, length-stop-2, length-stop-3, length-last}
 use borrow.Author.Needs.{needs}
-use Rattle.index.proofs.open.right_length.Statement.{statement}
-use Rattle.index.proofs.open.right_length.Tie as tie
+use Rattle.index.proofs.opening.right_length.Statement.{statement}
+use Rattle.index.proofs.opening.right_length.Tie as tie
 
 returns : tie.Need-returns
 returns c = search length-stop-1

@@ -5,8 +5,8 @@ use Rattle.memory.specs.Layout.{partsOf, rootIn}
 use Rattle.memory.proofs.ReadingLaws.{length-right}
 use Rattle.index.proofs.OpenLaws.{open-empty, open-zero, open-deep, open-head, open-unsound, open-bits, open-wide, open-unused, open-below, open-tree}
 use borrow.Author.Needs.{needs}
-use Rattle.index.proofs.open.open.Statement.{statement}
-use Rattle.index.proofs.open.open.Tie as tie
+use Rattle.index.proofs.opening.open.Statement.{statement}
+use Rattle.index.proofs.opening.open.Tie as tie
 
 shared-slice-read-height : tie.Need-shared-slice-read-height
 shared-slice-read-height c = let r = length-right (c .before .before .args .m .now) (c .before .before .pre) in omega arith
