@@ -1,5 +1,5 @@
-//! Links the proved libraries of the repository's target/staticlib: libdrawing.a, and libindex.a
-//! where it is there. Without libindex.a the tests and programs of the index are not compiled.
+//! Links the proved libraries of the repository's target/staticlib, libdrawing.a and
+//! liblintzoger.a.
 //!
 //! LINTZOGER_LIB_DIR names another folder that holds them, to try the tests against a library of
 //! one's own (for instance one with a fault that the tests should find).
@@ -12,32 +12,22 @@ fn main() {
     let folder = library_folder();
     println!("cargo:rerun-if-env-changed=LINTZOGER_LIB_DIR");
     println!("cargo:rustc-link-search=native={}", folder.display());
-    println!("cargo:rustc-check-cfg=cfg(lintzoger_index)");
-    if !link(&folder, "drawing", "LINTZOGER_ARCHIVE") {
-        eprintln!(
-            "{} is missing: run rt staticlib drawing first",
-            folder.join("libdrawing.a").display()
-        );
-        exit(1);
-    }
-    if link(&folder, "index", "LINTZOGER_INDEX_ARCHIVE") {
-        println!("cargo:rustc-cfg=lintzoger_index");
-    }
+    link(&folder, "drawing", "DRAWING_ARCHIVE");
+    link(&folder, "lintzoger", "LINTZOGER_ARCHIVE");
 }
 
-/// Links the folder's library of that name, if it is there. The tests of the C examples link the
-/// same archive, by the variable.
-fn link(folder: &Path, name: &str, variable: &str) -> bool {
+/// Links the folder's library of that name. The tests of the C examples link the same archive, by
+/// the variable.
+fn link(folder: &Path, name: &str, variable: &str) {
     let archive = folder.join(format!("lib{name}.a"));
     if !archive.is_file() {
-        // The folder changes when the file appears.
-        println!("cargo:rerun-if-changed={}", folder.display());
-        return false;
+        let archive = archive.display();
+        eprintln!("{archive} is missing: run rt staticlib {name} first");
+        exit(1);
     }
     println!("cargo:rerun-if-changed={}", archive.display());
     println!("cargo:rustc-link-lib=static={name}");
     println!("cargo:rustc-env={variable}={}", archive.display());
-    true
 }
 
 fn library_folder() -> PathBuf {

@@ -1,6 +1,6 @@
 /* The queries and clearing on a small index that is written out here. */
 
-#include "index.h"
+#include "lintzoger.h"
 
 #include <inttypes.h>
 #include <stdio.h>

@@ -6,7 +6,7 @@ pub mod geometry;
 pub mod lines;
 pub mod memory;
 pub mod proved;
-#[cfg(lintzoger_index)]
+pub mod proved_bench;
 pub mod proved_index;
 pub mod random;
 pub mod tree;

@@ -1,9 +1,20 @@
-//! The proved library of the index, as include/index.h declares it.
+//! The proved library of the index, as include/lintzoger.h declares it.
 //!
 //! Each function has the parameters of its namesake in `memory` and returns the number as the
 //! library gave it: 0 where the call accepts, else the number of the refusal.
 
 extern "C" {
+    fn lintzoger_insert(
+        index: *mut u32,
+        index_len: usize,
+        work: *mut u32,
+        work_len: usize,
+        x: u32,
+        y: u32,
+        tag: u32,
+        held: *mut u32,
+    ) -> u32;
+    fn lintzoger_remove(index: *mut u32, index_len: usize, x: u32, y: u32, held: *mut u32) -> u32;
     fn lintzoger_clear(index: *mut u32, index_len: usize, held: *mut u32) -> u32;
     fn lintzoger_point(
         index: *const u32,
@@ -30,6 +41,22 @@ extern "C" {
 
 // In each wrapper the pointers come from slices and references that live through the call, and the
 // lengths are those of the slices. The library's functions have no other condition.
+
+pub fn insert(
+    index: &mut [u32],
+    work: &mut [u32],
+    [x, y]: [u32; 2],
+    tag: u32,
+    held: &mut u32,
+) -> u32 {
+    let (index_len, work_len) = (index.len(), work.len());
+    let (index, work) = (index.as_mut_ptr(), work.as_mut_ptr());
+    unsafe { lintzoger_insert(index, index_len, work, work_len, x, y, tag, held) }
+}
+
+pub fn remove(index: &mut [u32], [x, y]: [u32; 2], held: &mut u32) -> u32 {
+    unsafe { lintzoger_remove(index.as_mut_ptr(), index.len(), x, y, held) }
+}
 
 pub fn clear(index: &mut [u32], held: &mut u32) -> u32 {
     unsafe { lintzoger_clear(index.as_mut_ptr(), index.len(), held) }

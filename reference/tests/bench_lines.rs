@@ -1,46 +1,15 @@
-//! The lines of `bench`: the paper's sample, other lines of every shape, and streaming.
+//! The lines of `bench` in the second implementation: the paper's sample, other lines of every
+//! shape, and streaming.
 
 mod support;
 
 use reference::lines::{read_command, run, Command};
 use std::cell::RefCell;
-use std::io::{self, BufRead, BufReader, ErrorKind, Read, Write};
-use std::process::{Child, ChildStdout, Command as Process, Stdio};
+use std::io::{self, ErrorKind, Read, Write};
+use std::path::Path;
 use std::rc::Rc;
-use std::sync::mpsc::{channel, Receiver};
-use std::thread;
-use std::time::Duration;
-
-const SAMPLE_INPUT: &str = "\
-I 10 10 7
-I 20 12 9
-P 20 12
-P 15 11
-I 10 10 8
-S 10 10 20 13
-R 10 10
-C
-P 20 12
-";
-
-const SAMPLE_OUTPUT: &str = "\
-I 0 1
-I 0 2
-P 1 1 9
-P 0 1
-I ! 5
-S 1 1
-E 10 10 7
-R 0 1
-C 0 0
-P 0 0
-";
-
-fn answers(input: &[u8]) -> String {
-    let mut output = Vec::new();
-    run(&mut &input[..], &mut output).expect("no error in memory");
-    String::from_utf8(output).expect("answers are text")
-}
+use support::lines::{answers, OTHER_LINES, SAMPLE_INPUT, SAMPLE_OUTPUT};
+use support::program::check_answers_at_once;
 
 /// Gives the input in parts of the given size, with an interruption before each.
 struct Parts<'a> {
@@ -83,71 +52,6 @@ fn sample() {
         assert_eq!(output, SAMPLE_OUTPUT, "parts of {size}");
     }
 }
-
-/// Lines that are no commands.
-const OTHER_LINES: [&[u8]; 61] = [
-    b"",
-    b" ",
-    b"?",
-    b"I",
-    b"R",
-    b"P",
-    b"S",
-    b"E",
-    b"X",
-    b"c",
-    b"CC",
-    b"C ",
-    b"C 1",
-    b"C\r",
-    b"C\0",
-    b"C\t",
-    b" C",
-    b"\0C",
-    b"\xef\xbb\xbfC",
-    b"I 1 2",
-    b"I 1 2 ",
-    b"I 1 2 3 ",
-    b"I 1 2 3 4",
-    b"I  1 2 3",
-    b"I 1  2 3",
-    b"I 1 2  3",
-    b" I 1 2 3",
-    b"I\t1 2 3",
-    b"I 1\t2 3",
-    b"I 1 2 3\r",
-    b"I 1 2 3\t",
-    b"I 1 2 3\0",
-    b"I 1 2\x003",
-    b"i 1 2 3",
-    b"I1 2 3",
-    b"I,1,2,3",
-    b"I 1 2 x",
-    b"I 1 2 0x3",
-    b"I -1 2 3",
-    b"I +1 2 3",
-    b"I 1.0 2 3",
-    b"I 1e1 2 3",
-    b"I 1_0 2 3",
-    b"I 12345678901 2 3",
-    b"I 00000000001 2 3",
-    b"I 4294967296 2 3",
-    b"I 1 9999999999 3",
-    b"I 1 2 4294967296",
-    b"I 1 2 \xd9\xa3",
-    b"I 1 2 \xff",
-    b"R 1",
-    b"R 1 ",
-    b"R 1 2 3",
-    b"P 1",
-    b"P 1 2 ",
-    b"P 1 2 3",
-    b"S 1 2 3",
-    b"S 1 2 3 4 5",
-    b"S 1 2 3 ",
-    b"E 1 2 3",
-    b"I 1 2 3 I 1 2 3",
-];
 
 #[test]
 fn other_lines() {
@@ -313,48 +217,9 @@ fn answers_before_the_next_read() {
     assert_eq!(seen.flushed, seen.written.len());
 }
 
-fn start() -> Child {
-    Process::new(env!("CARGO_BIN_EXE_bench_reference"))
-        .stdin(Stdio::piped())
-        .stdout(Stdio::piped())
-        .spawn()
-        .expect("the program starts")
-}
-
-/// The lines of the program's standard output, as they come.
-fn lines_of(output: ChildStdout) -> Receiver<String> {
-    let (sender, receiver) = channel();
-    thread::spawn(move || {
-        for line in BufReader::new(output).lines() {
-            let line = line.expect("answers are text");
-            if sender.send(line).is_err() {
-                break;
-            }
-        }
-    });
-    receiver
-}
-
 /// The program answers each line while its standard input stays open.
 #[test]
 fn program_answers_at_once() {
-    let mut program = start();
-    let mut input = program.stdin.take().expect("a pipe");
-    let answers = lines_of(program.stdout.take().expect("a pipe"));
-    let mut expected = SAMPLE_OUTPUT.lines();
-    for line in SAMPLE_INPUT.lines() {
-        input.write_all(line.as_bytes()).expect("written");
-        input.write_all(b"\n").expect("written");
-        let count = if line.starts_with('S') { 2 } else { 1 };
-        for _ in 0..count {
-            let answer = answers.recv_timeout(Duration::from_secs(20));
-            let answer = answer.expect("an answer while the input is open");
-            assert_eq!(Some(answer.as_str()), expected.next());
-        }
-    }
-    input.write_all(b"P 1 1").expect("written");
-    drop(input);
-    let rest: Vec<String> = answers.iter().collect();
-    assert_eq!(rest, ["P 0 0"]);
-    assert!(program.wait().expect("ended").success());
+    let program = Path::new(env!("CARGO_BIN_EXE_bench_reference"));
+    check_answers_at_once(program);
 }

@@ -1,5 +1,4 @@
 //! Damaged images: each is accepted or refused with 4, as the second implementation reads it.
-#![cfg(lintzoger_index)]
 
 mod memory_support;
 mod support;

@@ -1,5 +1,4 @@
 //! Cases with answers that are written out: document 01's own, and an image number by number.
-#![cfg(lintzoger_index)]
 
 use reference::proved_index::{clear, point, window};
 

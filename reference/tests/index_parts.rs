@@ -1,5 +1,4 @@
 //! The order of parts: shared, cyclic, orphaned, missing and out of order; heights; bits.
-#![cfg(lintzoger_index)]
 
 mod memory_support;
 mod support;

@@ -1,5 +1,4 @@
 //! Queries of sound images.
-#![cfg(lintzoger_index)]
 
 mod memory_support;
 mod support;

@@ -1,5 +1,4 @@
 //! Refusals in number order, lengths, and clearing.
-#![cfg(lintzoger_index)]
 
 mod memory_support;
 mod support;

@@ -1,5 +1,4 @@
 //! Trees that are nearly sound, written as images: each clause of soundness at each place.
-#![cfg(lintzoger_index)]
 
 mod memory_support;
 mod support;

@@ -15,6 +15,7 @@ pub mod PointWalk
 pub mod WindowWalk
 pub mod WindowWrite
 pub mod TreeWalk
+pub mod CountWalk
 pub mod PointWays
 pub mod WindowWays
-pub mod ExportWays
+pub mod HeldWays

@@ -3,5 +3,6 @@ pub mod Answers
 pub mod Check
 pub mod Open
 pub mod Walks
-pub mod Exports
+pub mod Count
 pub mod Changes
+pub mod Held

@@ -17,7 +17,7 @@ use crate::walk::polygon_has;
 use geometry::Cell;
 
 // Whether the i-th entry of a leaf's part is of the cell.
-fn is_of_cell(p: &[u32], i: usize, c: Cell) -> bool
+pub fn is_of_cell(p: &[u32], i: usize, c: Cell) -> bool
     requires { ⌜ (length (now p) ≡ 128) × (i < 8) ⌝ }
     ensures { λ b. ⌜ b ≡ cellTest c (entryIn (now (p .entry)) i) ⌝ }
 {

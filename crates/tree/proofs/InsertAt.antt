@@ -47,7 +47,7 @@ module _ (S : Space) where
         split-good S W T zero p (es ++ (e ∷ [])) fine row (omega arith) (λ (o : S .most < length (es ++ (e ∷ []))). leaf-line-fits S T (es ++ (e ∷ [])) (omega arith) (row .apart))
 
     -- entries lie in the polygon, so in the grid
-    held-in : (n : ℕ) (p : S .Poly) (x : Item S n) → SoundItem S n p x → All (λ e. S .has p (e .cell) ≡ true) (held S n x)
+    pub held-in : (n : ℕ) (p : S .Poly) (x : Item S n) → SoundItem S n p x → All (λ e. S .has p (e .cell) ≡ true) (held S n x)
     unfolding held SoundItem itemHas All
     held-in zero p e h = (h (e .cell) (W .same-self (e .cell)), tt)
     held-in (suc n) p b h =
@@ -55,7 +55,7 @@ module _ (S : Space) where
         (all-map (SoundItem S n (b .poly)) (λ x. All (λ e. S .has p (e .cell) ≡ true) (held S n x)) (b .child)
         (λ x o. all-map (λ e. S .has (b .poly) (e .cell) ≡ true) (λ e. S .has p (e .cell) ≡ true) (held S n x) (λ e. h .within (e .cell)) (held-in n (b .poly) x o)) (h .each))
 
-    all-real : (n : ℕ) (p : S .Poly) (l : List (Item S n)) → S .Fine p → All (SoundItem S n p) l → All (λ g. All (λ e. S .Real (e .cell)) g) (map (held S n) l)
+    pub all-real : (n : ℕ) (p : S .Poly) (l : List (Item S n)) → S .Fine p → All (SoundItem S n p) l → All (λ g. All (λ e. S .Real (e .cell)) g) (map (held S n) l)
     all-real n p l f h =
         all-of-map (λ g. All (λ e. S .Real (e .cell)) g) (held S n) l
         (all-map (SoundItem S n p) (λ x. All (λ e. S .Real (e .cell)) (held S n x)) l (λ x o. all-map (λ e. S .has p (e .cell) ≡ true) (λ e. S .Real (e .cell)) (held S n x) (λ e. W .fine-real p (e .cell) f) (held-in n p x o)) h)

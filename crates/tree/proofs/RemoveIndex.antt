@@ -25,7 +25,7 @@ use Rattle.tree.proofs.Depth.{top-sound}
 
 module _ (S : Space) where
   -- A sound item holds an entry.
-  held-some : (n : ℕ) (p : S .Poly) (x : Item S n) → SoundItem S n p x → 1 ≤ length (held S n x)
+  pub held-some : (n : ℕ) (p : S .Poly) (x : Item S n) → SoundItem S n p x → 1 ≤ length (held S n x)
   unfolding held SoundItem
   held-some zero p e h = omega arith
   held-some (suc n) p b h = go (b .child) (h .count .0) (all-map (SoundItem S n (b .poly)) (λ x. 1 ≤ length (held S n x)) (b .child) (held-some n (b .poly)) (h .each))

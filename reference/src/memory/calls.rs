@@ -38,12 +38,17 @@ pub fn window(
     Reading::of(index).window(window, list, matches, visits)
 }
 
-/// A lent index that was read, for several queries of it: the index or refusal 1 or 4.
+/// A lent index that was read, for several calls on it: the index or refusal 1 or 4.
 pub struct Reading(Result<Index, Refusal>);
 
 impl Reading {
     pub fn of(index: &[u32]) -> Reading {
         Reading(read(index))
+    }
+
+    /// The reading of a memory that holds the index.
+    pub fn of_index(index: Index) -> Reading {
+        Reading(Ok(index))
     }
 
     /// The index, if the length is right and the memory reads as a sound tree.
@@ -93,6 +98,38 @@ impl Reading {
         }
     }
 
+    /// As the call `insert`, with a work area as long as the index or not; it becomes the reading of
+    /// the index after.
+    pub fn insert(
+        &mut self,
+        work_fits: bool,
+        cell: Cell,
+        tag: u32,
+        held: &mut u32,
+    ) -> Result<(), Refusal> {
+        if !work_fits && !matches!(self.0, Err(Refusal::WrongLength)) {
+            return Err(Refusal::WorkLength);
+        }
+        let index = self.after_test_mut(is_cell(cell))?;
+        *held = index.insert(cell, tag)? as u32;
+        Ok(())
+    }
+
+    /// As the call `remove`; it becomes the reading of the index after.
+    pub fn remove(&mut self, cell: Cell, held: &mut u32) -> Result<(), Refusal> {
+        let index = self.after_test_mut(is_cell(cell))?;
+        *held = index.remove(cell)? as u32;
+        Ok(())
+    }
+
+    /// As the call `clear`; it becomes the reading of a fresh index, if the length is right.
+    pub fn clear(&mut self, index_len: usize, held: &mut u32) -> Result<(), Refusal> {
+        let n = parts_of(index_len).ok_or(Refusal::WrongLength)?;
+        self.0 = Ok(Index::new(n));
+        *held = 0;
+        Ok(())
+    }
+
     /// The index. 'Tests run in number order': 1, then 3 where the argument is not valid, then 4.
     fn after_test(&self, is_valid: bool) -> Result<&Index, Refusal> {
         match &self.0 {
@@ -101,5 +138,10 @@ impl Reading {
             Err(refusal) => Err(*refusal),
             Ok(index) => Ok(index),
         }
+    }
+
+    fn after_test_mut(&mut self, is_valid: bool) -> Result<&mut Index, Refusal> {
+        self.after_test(is_valid)?;
+        self.0.as_mut().map_err(|refusal| *refusal)
     }
 }

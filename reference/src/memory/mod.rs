@@ -2,6 +2,7 @@
 //! calls on lent numbers with document 01's refusals.
 
 mod calls;
+mod changes;
 mod image;
 pub mod layout;
 mod read;
@@ -9,7 +10,8 @@ mod refusal;
 mod sound;
 
 pub use calls::{clear, point, window, Reading};
+pub use changes::{insert, remove};
 pub use image::image;
-pub use read::read;
+pub use read::{read, read_back};
 pub use refusal::Refusal;
 pub use sound::{is_covered, is_sound};

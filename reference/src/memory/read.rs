@@ -12,15 +12,21 @@ use crate::tree::{Branch, Entry, Index, Node, Tree, F, MOST_NODES};
 /// The index that a memory holds. Refusals 1 and 4.
 pub fn read(memory: &[u32]) -> Result<Index, Refusal> {
     let n = parts_of(memory.len()).ok_or(Refusal::WrongLength)?;
-    let tree = if memory[HEIGHT] != 0 {
-        let tree = read_tree(memory, n).filter(is_sound);
-        Some(tree.ok_or(Refusal::NoSoundTree)?)
-    } else if are_zero(memory) {
-        None
-    } else {
+    let tree = read_back(memory).ok_or(Refusal::NoSoundTree)?;
+    if !tree.as_ref().is_none_or(is_sound) {
         return Err(Refusal::NoSoundTree);
-    };
+    }
     Ok(Index::with_tree(n, tree))
+}
+
+/// The tree of a memory that keeps to the layout, sound or not; `Some(None)` where it is empty.
+pub fn read_back(memory: &[u32]) -> Option<Option<Tree>> {
+    let n = parts_of(memory.len())?;
+    if memory[HEIGHT] != 0 {
+        read_tree(memory, n).map(Some)
+    } else {
+        are_zero(memory).then_some(None)
+    }
 }
 
 fn are_zero(numbers: &[u32]) -> bool {

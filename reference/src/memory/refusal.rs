@@ -1,14 +1,26 @@
-//! Document 01, 'Causes for saying no', as far as clearing and the queries have them.
+//! Document 01, 'Causes for saying no'.
+
+use crate::tree;
 
 /// Why a call on memory refuses.
 #[derive(Clone, Copy, Debug, PartialEq, Eq)]
 pub enum Refusal {
     /// 'Index length isn't 64 + 128 x N for an N from 1 to 256.'
     WrongLength,
+    /// 'Work area length differs from the index (insertion).'
+    WorkLength,
     /// 'Coordinate over 65535; window with ll >= ur in a dimension or ur over 65536.'
     Invalid,
     /// 'Memory reads as no sound tree.'
     NoSoundTree,
+    /// 'Cell already held (insertion).'
+    Held,
+    /// 'Cell not held (removal).'
+    NotHeld,
+    /// In step 2 a list passed its limit.
+    Polygon,
+    /// 'Tree after would exceed N nodes.'
+    Nodes,
     /// 'List shorter than 3 x matches.'
     ShortList,
 }
@@ -18,9 +30,32 @@ impl Refusal {
     pub fn number(self) -> u32 {
         match self {
             Refusal::WrongLength => 1,
+            Refusal::WorkLength => 2,
             Refusal::Invalid => 3,
             Refusal::NoSoundTree => 4,
+            Refusal::Held => 5,
+            Refusal::NotHeld => 6,
+            Refusal::Polygon => 7,
+            Refusal::Nodes => 8,
             Refusal::ShortList => 9,
+        }
+    }
+
+    /// 'Index; work area zeroed': refusals 7 and 8. Others leave everything as it was.
+    pub fn zeroes_work(self) -> bool {
+        matches!(self, Refusal::Polygon | Refusal::Nodes)
+    }
+}
+
+impl From<tree::Refusal> for Refusal {
+    fn from(refusal: tree::Refusal) -> Refusal {
+        match refusal {
+            tree::Refusal::Invalid => Refusal::Invalid,
+            tree::Refusal::Held => Refusal::Held,
+            tree::Refusal::NotHeld => Refusal::NotHeld,
+            tree::Refusal::Polygon(_) => Refusal::Polygon,
+            tree::Refusal::Nodes => Refusal::Nodes,
+            tree::Refusal::ShortList { .. } => Refusal::ShortList,
         }
     }
 }

@@ -1,24 +1,13 @@
 //! Calls on a lent index, made to both implementations and compared.
 
-use super::outcome::{ClearOutput, PointOutput, WindowOutput};
+use super::guard::{fill, guarded, GUARD};
+use super::outcome::{ClearOutput, HeldOutput, PointOutput, WindowOutput};
+use super::work::Work;
 use reference::geometry::Cell;
-use reference::memory::{self, Reading, Refusal};
+use reference::memory::{self, read_back, Reading, Refusal};
 use reference::proved_index;
 use std::fmt::{Arguments, Debug};
-
-/// Numbers before and after each lent list, where no call may write.
-const GUARD: usize = 16;
-
-/// What stands in a lent list before the call, and next to it.
-fn fill(place: usize) -> u32 {
-    0x8765_4321 ^ (place as u32).wrapping_mul(0x9e37_79b9)
-}
-
-/// A list with guard numbers around it.
-fn guarded(list: impl Iterator<Item = u32>) -> Vec<u32> {
-    let before = (0..GUARD).map(fill);
-    before.chain(list).chain((0..GUARD).map(fill)).collect()
-}
+use std::ops::Range;
 
 /// The number of the answer.
 fn number(answer: Result<(), Refusal>) -> u32 {
@@ -39,7 +28,12 @@ impl Lent {
     }
 
     pub fn index(&self) -> &[u32] {
-        &self.numbers[GUARD..self.numbers.len() - GUARD]
+        &self.numbers[self.range()]
+    }
+
+    /// The places of the index in the guarded list.
+    fn range(&self) -> Range<usize> {
+        GUARD..self.numbers.len() - GUARD
     }
 
     pub fn set(&mut self, place: usize, number: u32) {
@@ -55,7 +49,7 @@ impl Lent {
     /// Fails where the outputs differ or the lent index was changed.
     fn check<T: Debug + PartialEq>(&self, second: &T, proved: &T, call: Arguments) {
         if second != proved || self.numbers != self.copy {
-            let index = &self.copy[GUARD..self.copy.len() - GUARD];
+            let index = &self.copy[self.range()];
             panic!(
                 "{call}\nsecond: {second:?}\nproved: {proved:?}\n{}{}",
                 changes(&self.copy, &self.numbers),
@@ -117,12 +111,75 @@ impl Lent {
     /// Clears the index, which stays cleared where the call accepts.
     pub fn clear(&mut self, place: Arguments) -> ClearOutput {
         let (mut second, mut proved) = (ClearOutput::before(), ClearOutput::before());
-        let range = GUARD..self.numbers.len() - GUARD;
+        let range = self.range();
         let copy = &mut self.copy[range.clone()];
         second.answer = number(memory::clear(copy, &mut second.held));
         proved.answer = proved_index::clear(&mut self.numbers[range], &mut proved.held);
         self.check(&second, &proved, format_args!("{place}: clear"));
         second
+    }
+
+    /// Puts the entry in where the call accepts; the reading follows.
+    pub fn insert(
+        &mut self,
+        reading: &mut Reading,
+        work: &mut Work,
+        cell: Cell,
+        tag: u32,
+        place: Arguments,
+    ) -> HeldOutput {
+        let (mut second, mut proved) = (HeldOutput::before(), HeldOutput::before());
+        let fits = work.length() == self.index().len();
+        second.answer = number(reading.insert(fits, cell, tag, &mut second.held));
+        let range = self.range();
+        let (index, held) = (&mut self.numbers[range], &mut proved.held);
+        proved.answer = proved_index::insert(index, work.lend(), cell, tag, held);
+        let call = format_args!(
+            "{place}: insert {cell:?} {tag}, work area of {}",
+            work.length()
+        );
+        self.check_change(reading, &second, &proved, call);
+        work.check(proved.answer, call);
+        proved
+    }
+
+    /// Takes the entry out where the call accepts; the reading follows.
+    pub fn remove(&mut self, reading: &mut Reading, cell: Cell, place: Arguments) -> HeldOutput {
+        let (mut second, mut proved) = (HeldOutput::before(), HeldOutput::before());
+        second.answer = number(reading.remove(cell, &mut second.held));
+        let range = self.range();
+        proved.answer = proved_index::remove(&mut self.numbers[range], cell, &mut proved.held);
+        let call = format_args!("{place}: remove {cell:?}");
+        self.check_change(reading, &second, &proved, call);
+        proved
+    }
+
+    /// After acceptance the index reads back as the second implementation's tree, and nothing next
+    /// to it was changed; else all is as it was. `reading` is the second implementation's after.
+    fn check_change(
+        &mut self,
+        reading: &Reading,
+        second: &HeldOutput,
+        proved: &HeldOutput,
+        call: Arguments,
+    ) {
+        second.check_untouched(call);
+        if second.answer != 0 || second != proved {
+            self.check(second, proved, call);
+            return;
+        }
+        let expected = reading.index().expect("the call was accepted").tree();
+        let tree = read_back(self.index());
+        if tree.as_ref().map(Option::as_ref) != Some(expected) {
+            panic!(
+                "{call}\nsecond: {expected:?}\nread back: {tree:?}\nbefore: {}\nafter: {}",
+                described(&self.copy[self.range()]),
+                described(self.index())
+            );
+        }
+        let range = self.range();
+        self.copy[range.clone()].copy_from_slice(&self.numbers[range]);
+        self.check(second, proved, call);
     }
 }
 

@@ -6,19 +6,19 @@
 
 pub mod built;
 pub mod damage;
+pub mod damaged;
+pub mod guard;
 pub mod histories;
 pub mod images;
-pub mod loose;
-pub mod trees;
-
-#[cfg(lintzoger_index)]
-pub mod damaged;
-#[cfg(lintzoger_index)]
 pub mod lent;
-#[cfg(lintzoger_index)]
+pub mod loose;
 pub mod outcome;
-#[cfg(lintzoger_index)]
 pub mod queries;
+pub mod ragged;
+pub mod session;
+pub mod steep;
+pub mod trees;
+pub mod work;
 
 // Document 01's numbers, written out here so that the tests do not follow a change of the second
 // implementation's own.

@@ -32,6 +32,28 @@ impl ClearOutput {
     }
 }
 
+/// What an insertion or a removal returns and stores.
+#[derive(Clone, Copy, Debug, PartialEq, Eq)]
+pub struct HeldOutput {
+    pub answer: u32,
+    pub held: u32,
+}
+
+impl HeldOutput {
+    pub fn before() -> HeldOutput {
+        HeldOutput {
+            answer: 0,
+            held: BEFORE[0],
+        }
+    }
+
+    /// A refusal stores nothing.
+    pub fn check_untouched(&self, call: Arguments) {
+        let is_stored = self.held != BEFORE[0];
+        assert_eq!(is_stored, self.answer == 0, "{call}: {self:?}");
+    }
+}
+
 #[derive(Clone, Debug, PartialEq, Eq)]
 pub struct PointOutput {
     pub answer: u32,

@@ -82,11 +82,17 @@ pub fn cell_of(polygon: &[Rectangle], random: &mut Random) -> Cell {
     })
 }
 
-/// One to `most` polygons that share no cell, of the polygon's cells: its common parts with the
-/// pieces of its bounding rectangle, which is cut at lines again and again.
+/// One to `most` polygons that share no cell, of the polygon's cells.
 fn divide(polygon: &[Rectangle], most: usize, random: &mut Random) -> Vec<Vec<Rectangle>> {
+    let count = random.between(1, most as u32);
+    divide_in(polygon, count, random)
+}
+
+/// Up to `count` polygons: the common parts with the pieces of the bounding rectangle, which is cut
+/// at lines again and again.
+pub fn divide_in(polygon: &[Rectangle], count: u32, random: &mut Random) -> Vec<Vec<Rectangle>> {
     let mut regions = vec![bounds(polygon)];
-    for _ in 1..random.between(1, most as u32) {
+    for _ in 1..count {
         let place = random.between(0, regions.len() as u32 - 1) as usize;
         let (region, d) = (regions[place], random.between(0, 1) as usize);
         if region.ur[d] - region.ll[d] > 1 {
@@ -111,7 +117,7 @@ fn bounds(polygon: &[Rectangle]) -> Rectangle {
 }
 
 /// A polygon of the same cells or some of them, with other rectangles.
-fn varied(mut polygon: Vec<Rectangle>, random: &mut Random) -> Vec<Rectangle> {
+pub fn varied(mut polygon: Vec<Rectangle>, random: &mut Random) -> Vec<Rectangle> {
     for _ in 0..random.pick(&[0, 1, 1, 2, 4, 16]) {
         let place = random.between(0, polygon.len() as u32 - 1) as usize;
         let is_full = polygon.len() == POLYGON;

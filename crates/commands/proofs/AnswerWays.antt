@@ -1,0 +1,218 @@
+-- The ways out of the functions that write an answer.
+use Prim.Native.Nat.{ℕ, suc, _+_, _*_, _≤_, _<_}
+use mathlib.Core.Path.{_≡_, refl, sym, ap, _∙_}
+use mathlib.Core.Bool.{Bool, true, false, cond}
+use mathlib.Core.List.{List, [], _∷_, _++_, append-nil}
+use native.Mathlib.Numerals.{add-one}
+use native.Mathlib.Omega.{arith}
+use borrow.Author.Tests.{eq-eqb, ne-eqb}
+use lib.ListN.{length, getD}
+use Rattle.index.specs.declared.answer.Inserted.{Inserted}
+use Rattle.index.specs.declared.answer.Inserted.the-variants as I
+use Rattle.index.specs.declared.answer.Removed.{Removed}
+use Rattle.index.specs.declared.answer.Removed.the-variants as R
+use Rattle.index.specs.declared.answer.Cleared.{Cleared}
+use Rattle.index.specs.declared.answer.Cleared.the-variants as C
+use Rattle.index.specs.declared.answer.PointFound.{PointFound}
+use Rattle.index.specs.declared.answer.PointFound.the-variants as P
+use Rattle.index.specs.declared.answer.WindowFound.{WindowFound}
+use Rattle.index.specs.declared.answer.WindowFound.the-variants as W
+use Rattle.index.specs.Numbers.{Told, accepts, refusal, insertTold, removeTold, clearTold, pointTold, windowTold}
+use Rattle.commands.specs.declared.answers.Change.{Change}
+use Rattle.commands.specs.Text.{lineText, refusalText, Appended}
+use Rattle.commands.specs.AnswerText.{heldText, foundText, insertText, removeText, clearText, pointText, entriesText, listed, windowText, otherText, changeTold}
+use Rattle.commands.proofs.TextLaws.{append-more, append-wider}
+
+abbrev change : ℕ → ℕ → Change
+change n h = record { number = n; held = h }
+
+-- a change's numbers
+module _ (r : Inserted) where
+  pub inserted-accepted : (n : ℕ) → r ≡ I.Accepted n → changeTold (change 0 n) ≡ insertTold r
+  unfolding changeTold
+  inserted-accepted n e = rw e
+
+  pub inserted-wrong-length : r ≡ I.WrongLength → changeTold (change 1 0) ≡ insertTold r
+  unfolding changeTold
+  inserted-wrong-length e = rw e
+
+  pub inserted-wrong-work : r ≡ I.WrongWorkLength → changeTold (change 2 0) ≡ insertTold r
+  unfolding changeTold
+  inserted-wrong-work e = rw e
+
+  pub inserted-off-grid : r ≡ I.OffGrid → changeTold (change 3 0) ≡ insertTold r
+  unfolding changeTold
+  inserted-off-grid e = rw e
+
+  pub inserted-no-tree : r ≡ I.NoTree → changeTold (change 4 0) ≡ insertTold r
+  unfolding changeTold
+  inserted-no-tree e = rw e
+
+  pub inserted-held : r ≡ I.CellHeld → changeTold (change 5 0) ≡ insertTold r
+  unfolding changeTold
+  inserted-held e = rw e
+
+  pub inserted-polygon : r ≡ I.PolygonLimit → changeTold (change 7 0) ≡ insertTold r
+  unfolding changeTold
+  inserted-polygon e = rw e
+
+  pub inserted-nodes : r ≡ I.NodeLimit → changeTold (change 8 0) ≡ insertTold r
+  unfolding changeTold
+  inserted-nodes e = rw e
+
+module _ (r : Removed) where
+  pub removed-accepted : (n : ℕ) → r ≡ R.Accepted n → changeTold (change 0 n) ≡ removeTold r
+  unfolding changeTold
+  removed-accepted n e = rw e
+
+  pub removed-wrong-length : r ≡ R.WrongLength → changeTold (change 1 0) ≡ removeTold r
+  unfolding changeTold
+  removed-wrong-length e = rw e
+
+  pub removed-off-grid : r ≡ R.OffGrid → changeTold (change 3 0) ≡ removeTold r
+  unfolding changeTold
+  removed-off-grid e = rw e
+
+  pub removed-no-tree : r ≡ R.NoTree → changeTold (change 4 0) ≡ removeTold r
+  unfolding changeTold
+  removed-no-tree e = rw e
+
+  pub removed-not-held : r ≡ R.CellNotHeld → changeTold (change 6 0) ≡ removeTold r
+  unfolding changeTold
+  removed-not-held e = rw e
+
+module _ (r : Cleared) where
+  pub cleared-accepted : (n : ℕ) → r ≡ C.Accepted n → changeTold (change 0 n) ≡ clearTold r
+  unfolding changeTold
+  cleared-accepted n e = rw e
+
+  pub cleared-wrong-length : r ≡ C.WrongLength → changeTold (change 1 0) ≡ clearTold r
+  unfolding changeTold
+  cleared-wrong-length e = rw e
+
+-- the room for the lines of a window query's entries
+module _ (r : WindowFound) (list : List ℕ) (n visits : ℕ) (e : r ≡ W.Found n visits) (h : 3 * listed r ≤ length list) where
+  pub window-fits : 3 * n ≤ length list
+  unfolding listed
+  window-fits = rw e at h
+
+  pub window-room : (out : List ℕ) (at : ℕ) (out₁ : List ℕ) (n₁ : ℕ) → at + (24 + 12 * length list) ≤ length out
+      → Appended 24 out at (lineText 83 (n ∷ visits ∷ [])) out₁ n₁ → n₁ + 35 * n ≤ length out₁
+  window-room out at out₁ n₁ g v = let k = window-fits in omega (arith, v .next-is, v .few, v .same-length)
+
+module _ (out : List ℕ) (at : ℕ) (out′ : List ℕ) (next : ℕ) where
+  -- a change's line
+  module _ (letter : ℕ) (c : Change) where
+    pub change-held : c .number ≡ 0 → Appended 24 out at (lineText letter (0 ∷ c .held ∷ [])) out′ next → Appended 24 out at (heldText letter (changeTold c)) out′ next
+    unfolding heldText changeTold
+    change-held e v = simp e v
+
+    pub change-refused : (c .number ≡ 0 → ⊥) → Appended 24 out at (refusalText letter (c .number)) out′ next → Appended 24 out at (heldText letter (changeTold c)) out′ next
+    unfolding heldText changeTold
+    change-refused e v = simp (ne-eqb (c .number) 0 e) v
+
+  pub line-inserted : (r : Inserted) (c : Change) → changeTold c ≡ insertTold r → Appended 24 out at (heldText 73 (changeTold c)) out′ next → Appended 24 out at (insertText r) out′ next
+  unfolding insertText
+  line-inserted r c e v = rw e at v
+
+  pub line-removed : (r : Removed) (c : Change) → changeTold c ≡ removeTold r → Appended 24 out at (heldText 82 (changeTold c)) out′ next → Appended 24 out at (removeText r) out′ next
+  unfolding removeText
+  line-removed r c e v = rw e at v
+
+  pub line-cleared : (r : Cleared) (c : Change) → changeTold c ≡ clearTold r → Appended 24 out at (heldText 67 (changeTold c)) out′ next → Appended 24 out at (clearText r) out′ next
+  unfolding clearText
+  line-cleared r c e v = rw e at v
+
+  -- the line of a point query
+  module _ (r : PointFound) where
+    pub point-held : (tag visits : ℕ) → r ≡ P.Held tag visits → Appended 35 out at (lineText 80 (1 ∷ visits ∷ tag ∷ [])) out′ next → Appended 35 out at (pointText r) out′ next
+    unfolding pointText foundText
+    point-held tag visits e v = rw e v
+
+    pub point-not-held : (visits : ℕ) → r ≡ P.NotHeld visits → Appended 24 out at (lineText 80 (0 ∷ visits ∷ [])) out′ next → Appended 35 out at (pointText r) out′ next
+    unfolding pointText foundText
+    point-not-held visits e v = rw e (append-wider out at 24 35 _ out′ next (omega arith) v)
+
+    pub point-wrong-length : r ≡ P.WrongLength → Appended 24 out at (refusalText 80 1) out′ next → Appended 35 out at (pointText r) out′ next
+    unfolding pointText foundText
+    point-wrong-length e v = rw e (append-wider out at 24 35 _ out′ next (omega arith) v)
+
+    pub point-off-grid : r ≡ P.OffGrid → Appended 24 out at (refusalText 80 3) out′ next → Appended 35 out at (pointText r) out′ next
+    unfolding pointText foundText
+    point-off-grid e v = rw e (append-wider out at 24 35 _ out′ next (omega arith) v)
+
+    pub point-no-tree : r ≡ P.NoTree → Appended 24 out at (refusalText 80 4) out′ next → Appended 35 out at (pointText r) out′ next
+    unfolding pointText foundText
+    point-no-tree e v = rw e (append-wider out at 24 35 _ out′ next (omega arith) v)
+
+  -- the lines of a window query
+  module _ (r : WindowFound) (list : List ℕ) where
+    refused : (n : ℕ) → foundText 83 (windowTold r) ≡ refusalText 83 n → listed r ≡ 0 → Appended 24 out at (refusalText 83 n) out′ next
+        → Appended (24 + 12 * length list) out at (windowText r list) out′ next
+    unfolding windowText entriesText
+    refused n e z v = rw (e, z, append-nil) (append-wider out at 24 (24 + 12 * length list) _ out′ next (omega arith) v)
+
+    pub window-wrong-length : r ≡ W.WrongLength → Appended 24 out at (refusalText 83 1) out′ next → Appended (24 + 12 * length list) out at (windowText r list) out′ next
+    unfolding foundText listed
+    window-wrong-length e v = refused 1 (rw e) (rw e) v
+
+    pub window-bad : r ≡ W.BadWindow → Appended 24 out at (refusalText 83 3) out′ next → Appended (24 + 12 * length list) out at (windowText r list) out′ next
+    unfolding foundText listed
+    window-bad e v = refused 3 (rw e) (rw e) v
+
+    pub window-no-tree : r ≡ W.NoTree → Appended 24 out at (refusalText 83 4) out′ next → Appended (24 + 12 * length list) out at (windowText r list) out′ next
+    unfolding foundText listed
+    window-no-tree e v = refused 4 (rw e) (rw e) v
+
+    pub window-short : (n : ℕ) → r ≡ W.ShortList n → Appended 24 out at (refusalText 83 9) out′ next → Appended (24 + 12 * length list) out at (windowText r list) out′ next
+    unfolding foundText listed
+    window-short n e v = refused 9 (rw e) (rw e) v
+
+    module _ (n visits : ℕ) (e : r ≡ W.Found n visits) (h : 3 * listed r ≤ length list) where
+      pub window-found : (out₁ : List ℕ) (n₁ : ℕ) → Appended 24 out at (lineText 83 (n ∷ visits ∷ [])) out₁ n₁ → Appended (35 * n) out₁ n₁ (entriesText list n) out′ next
+          → Appended (24 + 12 * length list) out at (windowText r list) out′ next
+      unfolding windowText foundText listed
+      window-found out₁ n₁ v w =
+          let k = window-fits r list n visits e h in
+          rw e (append-wider out at (24 + 35 * n) (24 + 12 * length list) _ out′ next (omega arith) (append-more out at 24 (35 * n) _ _ out₁ out′ n₁ next v w))
+
+  pub line-other : (out₁ : List ℕ) (n₁ : ℕ) → Appended 1 out at (63 ∷ []) out₁ n₁ → Appended 1 out₁ n₁ (10 ∷ []) out′ next → Appended 2 out at otherText out′ next
+  unfolding otherText
+  line-other out₁ n₁ v w = append-more out at 1 1 _ _ out₁ out′ n₁ next v w
+
+-- The lines of the first i of n entries are written.
+pub record EntryLines (out₀ : List ℕ) (at : ℕ) (list : List ℕ) (n : ℕ) (out : List ℕ) (next i : ℕ) : Type 0 where
+  pub i-le : i ≤ n
+  pub fits : 3 * n ≤ length list
+  pub room : at + 35 * n ≤ length out
+  pub within : next ≤ at + 35 * i
+  pub lines : Appended (35 * i) out₀ at (entriesText list i) out next
+
+module _ (out₀ : List ℕ) (at : ℕ) (list : List ℕ) (n : ℕ) where
+  pub entries-start : 3 * n ≤ length list → at + 35 * n ≤ length out₀ → EntryLines out₀ at list n out₀ at 0
+  unfolding entriesText
+  entries-start h g = record {
+    i-le = omega arith;
+    fits = h;
+    room = g;
+    within = omega arith;
+    lines = record { bytes = sym (append-nil _); next-is = omega arith; few = omega arith; same-length = refl };
+  }
+
+  module _ (out : List ℕ) (next i : ℕ) (v : EntryLines out₀ at list n out next i) where
+    pub entries-again : (out′ : List ℕ) (next′ : ℕ) → i < n
+        → Appended 35 out next (lineText 69 (getD list (3 * i) 0 ∷ getD list (3 * i + 1) 0 ∷ getD list (3 * i + 2) 0 ∷ [])) out′ next′
+        → EntryLines out₀ at list n out′ next′ (i + 1)
+    unfolding entriesText
+    entries-again out′ next′ h w =
+        let k : 35 * (i + 1) ≡ 35 * i + 35 = omega arith in
+        record {
+          i-le = omega arith;
+          fits = v .fits;
+          room = rw (w .same-length) (v .room);
+          within = omega (arith, v .within, w .next-is, w .few);
+          lines = rw (k, add-one) (append-more out₀ at (35 * i) 35 _ _ out out′ next next′ (v .lines) w);
+        }
+
+    pub entries-end : n ≤ i → Appended (35 * n) out₀ at (entriesText list n) out next
+    entries-end h = let e : i ≡ n = omega (arith, v .i-le) in rw e at (v .lines)

@@ -1,0 +1,63 @@
+-- Document 01, the line program: what each answer prints.
+use Prim.Native.Nat.{ℕ, zero, suc, _+_, _*_, _≤_}
+use mathlib.Core.Bool.{cond}
+use mathlib.Core.List.{List, [], _∷_, _++_}
+use lib.Dec.{eqb}
+use lib.ListN.{length, getD}
+use Rattle.index.specs.declared.answer.Inserted.{Inserted}
+use Rattle.index.specs.declared.answer.Removed.{Removed}
+use Rattle.index.specs.declared.answer.Cleared.{Cleared}
+use Rattle.index.specs.declared.answer.PointFound.{PointFound}
+use Rattle.index.specs.declared.answer.WindowFound.{WindowFound}
+use Rattle.index.specs.declared.answer.WindowFound.the-variants as W
+use Rattle.index.specs.Numbers.{Told, accepts, refusal, insertTold, removeTold, clearTold, pointTold, windowTold}
+use Rattle.commands.specs.declared.answers.Change.{Change}
+use Rattle.commands.specs.Bytes.{lineFeed, questionMark, letterC, letterE, letterI, letterP, letterR, letterS}
+use Rattle.commands.specs.Text.{lineText, refusalText}
+
+-- 'I, R and C print 0 and entries held.'
+unfoldable pub heldText : ℕ → Told → List ℕ
+heldText letter t = cond (eqb (t .number) 0) (lineText letter (0 ∷ t .values)) (refusalText letter (t .number))
+
+-- the values that a query tells, or its refusal
+unfoldable pub foundText : ℕ → Told → List ℕ
+foundText letter t = cond (eqb (t .number) 0) (lineText letter (t .values)) (refusalText letter (t .number))
+
+unfoldable pub insertText : Inserted → List ℕ
+insertText r = heldText letterI (insertTold r)
+
+unfoldable pub removeText : Removed → List ℕ
+removeText r = heldText letterR (removeTold r)
+
+unfoldable pub clearText : Cleared → List ℕ
+clearText r = heldText letterC (clearTold r)
+
+-- 'P prints 1 or 0, visits, then the tag if held.'
+unfoldable pub pointText : PointFound → List ℕ
+pointText r = foundText letterP (pointTold r)
+
+-- 'an E line per entry: x, y, tag', for the first n entries of a list, three numbers an entry
+unfoldable pub entriesText : List ℕ → ℕ → List ℕ
+entriesText list zero = []
+entriesText list (suc n) =
+    entriesText list n ++ lineText letterE (getD list (3 * n) 0 ∷ getD list (3 * n + 1) 0 ∷ getD list (3 * n + 2) 0 ∷ [])
+
+-- how many entries a window query wrote to its list
+unfoldable pub listed : WindowFound → ℕ
+listed (W.Found n v) = n
+listed W.WrongLength = 0
+listed W.BadWindow = 0
+listed W.NoTree = 0
+listed (W.ShortList n) = 0
+
+-- 'S prints matches and visits, then an E line per entry'
+unfoldable pub windowText : WindowFound → List ℕ → List ℕ
+windowText r list = foundText letterS (windowTold r) ++ entriesText list (listed r)
+
+-- 'Other lines, or lines over 80 bytes, print `?`.'
+unfoldable pub otherText : List ℕ
+otherText = questionMark ∷ lineFeed ∷ []
+
+-- what a change stands for: its refusal, or the entries held
+unfoldable pub changeTold : Change → Told
+changeTold c = cond (eqb (c .number) 0) (accepts (c .held ∷ [])) (refusal (c .number))

@@ -1,0 +1,164 @@
+-- What is left of a subtree under sides, written: no sides, the leaf, the loop over the children, the node itself.
+use Prim.Native.Nat.{ℕ, suc, _+_, _*_, _-_, _≤_, _<_}
+use mathlib.Core.Path.{_≡_, refl, sym, ap, _∙_}
+use mathlib.Core.List.{List, [], _∷_, flatMap}
+use native.Mathlib.Omega.{arith}
+use lib.ListN.{length, take, set}
+use lib.Seq.{length-take-le}
+use Rattle.tree.specs.Lists.{total}
+use Rattle.tree.specs.Nodes.{Item, nodes}
+use Rattle.tree.specs.Plan.{clips}
+use Rattle.plane.specs.Plane.{planeSpace}
+use Rattle.memory.specs.Layout.{part, polygonIn}
+use Rattle.memory.specs.Image.{nodePart, entryNumbers, emitRow}
+use Rattle.memory.proofs.PartImage.{length-entries}
+use Rattle.index.specs.Answers.{fanout}
+use Rattle.index.specs.Walks.{Walkable, countAt, childAt, partAt}
+use Rattle.index.proofs.WalkRows.{part-is}
+use Rattle.sides.specs.Sides.{sidesOf}
+use Rattle.emission.specs.Emits.{Emits, Room, deepAt}
+use Rattle.emission.specs.Parts.{PartRoom, PartPut, leftPart}
+use Rattle.emission.specs.Leaves.{leafLeft, leafUnder, LeafGathered}
+use Rattle.emission.proofs.EmitLaws.{topsFrom, emits-none, emits-leaf, emits-node}
+use Rattle.emission.proofs.DeepRows.{under-some, under-none, length-sides, deep-leaf, deep-node, childrenLeft}
+use Rattle.emission.proofs.EmitLoop.{EmitLoop, again-one, again-nothing, all-written, own-room}
+
+-- no sides
+no-side : (ss : List ℕ) → length ss ≡ 0 → ss ≡ []
+no-side [] h = refl
+no-side (s ∷ ss) h = absurd (omega arith)
+
+module _ (level : ℕ) (m : List ℕ) (lo k : ℕ) (ss w : List ℕ) (next : ℕ) (z : length ss ≡ 0) where
+  pub plain-room : Room level w next (deepAt level m lo k ss) → Room level w next (deepAt level m lo k [])
+  plain-room r = rw (no-side ss z) at r
+
+  pub plain-emits : (w′ : List ℕ) (next′ : ℕ) → Emits level w next (deepAt level m lo k []) w′ next′ → Emits level w next (deepAt level m lo k ss) w′ next′
+  plain-emits w′ next′ e = rw (no-side ss z) e
+
+-- nothing is left, at whatever level
+nothing-left : (n n′ : ℕ) (w : List ℕ) (next : ℕ) (w′ : List ℕ) (next′ : ℕ) → Emits n w next [] w′ next′ → Emits n′ w next [] w′ next′
+unfolding emitRow flatMap total
+nothing-left n n′ w next w′ next′ e = record { written = e .written; next-is = e .next-is; same-length = e .same-length }
+
+empty : {A : Type 0} (l : List A) → length l ≡ 0 → l ≡ []
+empty [] h = refl
+empty (x ∷ l) h = absurd (omega arith)
+
+-- a leaf
+module _ (ss p l w : List ℕ) (next count : ℕ) (g : LeafGathered ss p l count) where
+  items-length : length (take (3 * count) l) ≡ 3 * count
+  items-length =
+      let e = ap length (g .gathered .numbers) ∙ length-entries (leafLeft ss p) in
+      let c = g .gathered .count-is in
+      omega arith
+
+  pub items-count : 3 * count ≡ length (take (3 * count) l)
+  items-count = sym items-length
+
+  pub items-few : length (take (3 * count) l) ≤ 62
+  items-few = let e = items-length in let f = g .few in omega arith
+
+  pub leaf-gone : 1 ≤ length ss → count ≡ 0 → Emits 0 w next (leafUnder ss p) w next
+  unfolding leafUnder
+  leaf-gone h z =
+      let s = length-sides ss in
+      let c = g .gathered .count-is in
+      let e : leafLeft ss p ≡ [] = empty (leafLeft ss p) (omega arith) in
+      rw (under-none (polygonIn p) (leafLeft ss p) (sidesOf ss) (omega arith) e) (emits-none 0 w next)
+
+  module _ (ne : count ≡ 0 → ⊥) where
+    leaf-branch : leafUnder ss p ≡ record { poly = clips (planeSpace fanout) (sidesOf ss) (polygonIn p); child = leafLeft ss p } ∷ []
+    unfolding leafUnder
+    leaf-branch =
+        let c = g .gathered .count-is in
+        let h : 1 ≤ length (leafLeft ss p) = some-left c in
+        under-some (polygonIn p) (leafLeft ss p) (sidesOf ss) h
+      where
+        some-left : count ≡ length (leafLeft ss p) → 1 ≤ length (leafLeft ss p)
+        some-left c = omega arith
+
+    pub leaf-room : Room 0 w next (leafUnder ss p) → PartRoom w next
+    unfolding total nodes
+    leaf-room r =
+        let f = rw leaf-branch at (r .fits) in
+        record { fits = omega arith; small = r .small }
+
+    pub leaf-emits : (w′ : List ℕ) → PartPut w next (leftPart ss p count (take (3 * count) l)) w′
+        → Emits 0 w next (leafUnder ss p) w′ (next + 1)
+    leaf-emits w′ x =
+        let q = clips (planeSpace fanout) (sidesOf ss) (polygonIn p) in
+        let e : nodePart q count (take (3 * count) l) ≡ nodePart q (length (leafLeft ss p)) (flatMap entryNumbers (leafLeft ss p)) =
+        ap (λ (c : ℕ). nodePart q c (take (3 * count) l)) (g .gathered .count-is)
+        ∙ ap (nodePart q (length (leafLeft ss p))) (g .gathered .numbers) in
+        rw leaf-branch (emits-leaf w next q (leafLeft ss p) w′ (rw e at x))
+
+-- a node that is a leaf
+module _ (level : ℕ) (m : List ℕ) (lo k : ℕ) (ss w : List ℕ) (next : ℕ) (z : level ≡ 0) (v : Walkable level m lo k) where
+  pub at-leaf-room : Room level w next (deepAt level m lo k ss) → Room 0 w next (leafUnder ss (partAt m k))
+  at-leaf-room r =
+      let v′ : Walkable 0 m lo k = rw z at v in
+      let r′ : Room 0 w next (deepAt 0 m lo k ss) = rw z at r in
+      rw (part-is 0 m lo k v′) (rw (deep-leaf m lo k ss v′) at r′)
+
+  pub at-leaf-emits : (w′ : List ℕ) (next′ : ℕ) → Emits 0 w next (leafUnder ss (partAt m k)) w′ next′ → Emits level w next (deepAt level m lo k ss) w′ next′
+  at-leaf-emits w′ next′ e =
+      let v′ : Walkable 0 m lo k = rw z at v in
+      rw (z, deep-leaf m lo k ss v′, ← (part-is 0 m lo k v′)) e
+
+-- the loop over the children
+module _ (level : ℕ) (m : List ℕ) (lo k : ℕ) (ss w₀ : List ℕ) (next₀ i low : ℕ) (w : List ℕ) (next : ℕ) (tops : List ℕ) (count : ℕ)
+    (a : EmitLoop level m lo k ss w₀ next₀ i low w next tops count) where
+  module _ (w′ : List ℕ) (next′ : ℕ) (h : i < countAt m k)
+      (e : Emits (level - 1) w next (deepAt (level - 1) m low (childAt m k i) ss) w′ next′) where
+    pub emit-one : (tops′ : List ℕ) (count′ : ℕ) → (next′ ≡ next → ⊥) → tops′ ≡ set tops count (next′ - 1) → count′ ≡ count + 1
+        → EmitLoop level m lo k ss w₀ next₀ (i + 1) (childAt m k i + 1) w′ next′ tops′ count′
+    emit-one tops′ count′ ne q r = rw (q, r) (again-one level m lo k ss w₀ next₀ i low w next tops count a h w′ next′ e ne)
+
+    pub emit-nothing : (tops′ : List ℕ) (count′ : ℕ) → next′ ≡ next → tops′ ≡ tops → count′ ≡ count
+        → EmitLoop level m lo k ss w₀ next₀ (i + 1) (childAt m k i + 1) w′ next′ tops′ count′
+    emit-nothing tops′ count′ z q r = rw (q, r) (again-nothing level m lo k ss w₀ next₀ i low w next tops count a h w′ next′ e z)
+
+    pub emit-moved : (next′ ≡ next → ⊥) → 1 ≤ next′
+    emit-moved ne = let q = e .next-is in omega arith
+
+  -- the children's parts, as they are lent
+  tops-long : count ≤ 8
+  tops-long = let f = a .few in let g = a .at .i-le in let b = a .at .walk .few in omega arith
+
+  pub left-count : count ≡ length (take count tops)
+  left-count = let f = tops-long in let l = a .long in sym (length-take-le count tops (omega arith))
+
+  pub left-few : length (take count tops) ≤ 62
+  left-few = let f = tops-long in let c = left-count in omega arith
+
+  module _ (h : countAt m k ≤ i) where
+    pub node-gone : (length ss ≡ 0 → ⊥) → count ≡ 0 → Emits level w₀ next₀ (deepAt level m lo k ss) w next
+    node-gone ne z =
+        let r = all-written level m lo k ss w₀ next₀ i low w next tops count a h in
+        let bs = childrenLeft (level - 1) m lo k ss in
+        let c = r .count-is in
+        let e : bs ≡ [] = empty bs (omega arith) in
+        let s = length-sides ss in
+        let x : Emits (level - 1) w₀ next₀ [] w next = rw e at (r .emitted) in
+        rw (a .level-is, deep-node (level - 1) m lo k ss (a .at .walk), under-none (polygonIn (part m k)) bs (sidesOf ss) (omega arith) e)
+        (nothing-left (level - 1) (suc (level - 1)) w₀ next₀ w next x)
+
+    module _ (ne : count ≡ 0 → ⊥) where
+      pub node-own-room : PartRoom w next
+      node-own-room = own-room level m lo k ss w₀ next₀ i low w next tops count a h (omega arith)
+
+      pub node-emits : (w′ : List ℕ)
+          → PartPut w next (leftPart ss (partAt m k) count (take count tops)) w′
+          → Emits level w₀ next₀ (deepAt level m lo k ss) w′ (next + 1)
+      node-emits w′ x =
+          let r = all-written level m lo k ss w₀ next₀ i low w next tops count a h in
+          let n : ℕ = level - 1 in
+          let bs : List (Item (planeSpace fanout) (suc n)) = childrenLeft n m lo k ss in
+          let v = a .at .walk in
+          let c = r .count-is in
+          let q = clips (planeSpace fanout) (sidesOf ss) (polygonIn (part m k)) in
+          let image : leftPart ss (partAt m k) count (take count tops) ≡ nodePart q (length bs) (topsFrom n next₀ bs) =
+          ap (λ (y : List ℕ). leftPart ss y count (take count tops)) (part-is (suc n) m lo k v)
+          ∙ ap (λ (j : ℕ). nodePart q j (take count tops)) c ∙ ap (nodePart q (length bs)) (r .tops-are) in
+          rw (a .level-is, deep-node n m lo k ss v, under-some (polygonIn (part m k)) bs (sidesOf ss) (omega arith))
+          (emits-node n w₀ next₀ q bs w next w′ (r .emitted) (rw image at x))

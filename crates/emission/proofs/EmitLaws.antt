@@ -1,0 +1,203 @@
+-- Writing nodes in several goes: nothing, rows one after another, a part, a node on top of its children; and the loop over a node's items that
+-- keeps the parts of their top nodes.
+use Prim.Native.Nat.{ℕ, suc, _+_, _*_, _-_, _≤_, _<_}
+use mathlib.Core.Path.{_≡_, refl, sym, ap, _∙_}
+use mathlib.Core.List.{List, [], _∷_, _++_, append-assoc, append-nil, flatMap}
+use native.Mathlib.Omega.{arith}
+use native.Mathlib.Numerals.{add-one}
+use borrow.Rule.Slice.PartMut.{putMid, same-len-mid, mid-len}
+use lib.ListN.{length, take, drop, set, length-append}
+use lib.Seq.{take-at, length-take-le, take-suc-set}
+use Rattle.geometry.specs.declared.rect.Rect.{Rect}
+use Rattle.tree.specs.Lists.{total}
+use Rattle.tree.specs.Nodes.{Item, nodes}
+use Rattle.tree.proofs.Lists.{flatMap-append, flatMap-one}
+use Rattle.tree.proofs.Counts.{total-append}
+use Rattle.plane.specs.Lines.{CellEntry}
+use Rattle.plane.specs.Plane.{planeSpace}
+use Rattle.memory.specs.Image.{nodePart, entryNumbers, emitRow, emitNode}
+use Rattle.memory.proofs.NodeImage.{length-row, length-node}
+use Rattle.index.specs.Answers.{fanout}
+use Rattle.emission.specs.Emits.{Emits}
+use Rattle.emission.specs.Parts.{PartPut}
+
+-- the numbers of some parts, one after another
+abbrev pub numbers : List (List ℕ) → List ℕ
+numbers ps = flatMap (λ p. p) ps
+
+-- the parts of some branches and the parts of their top nodes
+abbrev pub partsFrom : (n next : ℕ) → List (Item (planeSpace fanout) (suc n)) → List (List ℕ)
+partsFrom n next bs = emitRow (emitNode fanout n) next bs .parts
+
+abbrev pub topsFrom : (n next : ℕ) → List (Item (planeSpace fanout) (suc n)) → List ℕ
+topsFrom n next bs = emitRow (emitNode fanout n) next bs .tops
+
+-- how many nodes some branches have
+abbrev pub nodesOf : (n : ℕ) → List (Item (planeSpace fanout) (suc n)) → ℕ
+nodesOf n bs = total (nodes (planeSpace fanout) (suc n)) bs
+
+-- rows that follow one another
+module _ {B : Type 0} (emit : ℕ → B → List (List ℕ)) where
+  pub row-parts-append : (next : ℕ) (bs cs : List B) →
+      emitRow emit next (bs ++ cs) .parts ≡ emitRow emit next bs .parts ++ emitRow emit (next + length (emitRow emit next bs .parts)) cs .parts
+  unfolding emitRow
+  row-parts-append next [] cs = let e : next + 0 ≡ next = omega arith in rw e
+  row-parts-append next (b ∷ bs) cs =
+      let own = emit next b in
+      let after = emitRow emit (next + length own) bs .parts in
+      let e : next + length own + length after ≡ next + length (own ++ after) = rw length-append (omega arith) in
+      ap (λ (l : List (List ℕ)). own ++ l) (row-parts-append (next + length own) bs cs)
+      ∙ sym (append-assoc own after _) ∙ ap (λ (k : ℕ). (own ++ after) ++ emitRow emit k cs .parts) e
+
+  pub row-tops-append : (next : ℕ) (bs cs : List B) →
+      emitRow emit next (bs ++ cs) .tops ≡ emitRow emit next bs .tops ++ emitRow emit (next + length (emitRow emit next bs .parts)) cs .tops
+  unfolding emitRow
+  row-tops-append next [] cs = let e : next + 0 ≡ next = omega arith in rw e
+  row-tops-append next (b ∷ bs) cs =
+      let own = emit next b in
+      let after = emitRow emit (next + length own) bs .parts in
+      let e : next + length own + length after ≡ next + length (own ++ after) = rw length-append (omega arith) in
+      ap (λ (l : List ℕ). (next + length own - 1) ∷ l)
+      (row-tops-append (next + length own) bs cs ∙ ap (λ (k : ℕ). emitRow emit (next + length own) bs .tops ++ emitRow emit k cs .tops) e)
+
+-- there are as many parts as nodes
+pub length-parts : (n next : ℕ) (bs : List (Item (planeSpace fanout) (suc n))) → length (partsFrom n next bs) ≡ nodesOf n bs
+length-parts n next bs = length-row (emitNode fanout n) (nodes (planeSpace fanout) (suc n)) (length-node fanout n) next bs
+
+-- nothing is written for no branch
+pub emits-none : (n : ℕ) (w : List ℕ) (next : ℕ) → Emits n w next [] w next
+unfolding emitRow flatMap total
+emits-none n w next = record { written = sym (append-nil _); next-is = omega arith; same-length = refl }
+
+-- some branches, and then some more
+pub emits-more : (n : ℕ) (w : List ℕ) (next : ℕ) (bs : List (Item (planeSpace fanout) (suc n))) (w₁ : List ℕ) (next₁ : ℕ)
+    (cs : List (Item (planeSpace fanout) (suc n))) (w₂ : List ℕ) (next₂ : ℕ)
+    → Emits n w next bs w₁ next₁ → Emits n w₁ next₁ cs w₂ next₂ → Emits n w next (bs ++ cs) w₂ next₂
+emits-more n w next bs w₁ next₁ cs w₂ next₂ x y =
+    let a = x .next-is in
+    let b = y .next-is in
+    let l = length-parts n next bs in
+    let t = total-append (nodes (planeSpace fanout) (suc n)) bs cs in
+    let e : next₁ ≡ next + length (partsFrom n next bs) = omega arith in
+    let all : partsFrom n next (bs ++ cs) ≡ partsFrom n next bs ++ partsFrom n next₁ cs =
+    row-parts-append (emitNode fanout n) next bs cs ∙ ap (λ (k : ℕ). partsFrom n next bs ++ partsFrom n k cs) (sym e) in
+    record {
+      written =
+          y .written ∙ ap (λ (z : List ℕ). z ++ numbers (partsFrom n next₁ cs)) (x .written)
+          ∙ append-assoc (take (64 + 128 * next) w) (numbers (partsFrom n next bs)) (numbers (partsFrom n next₁ cs))
+          ∙ ap (λ (z : List ℕ). take (64 + 128 * next) w ++ z)
+          (sym (flatMap-append (λ p. p) (partsFrom n next bs) (partsFrom n next₁ cs)) ∙ ap numbers (sym all));
+      next-is = omega arith;
+      same-length = y .same-length ∙ x .same-length;
+    }
+
+-- a part of the work area that was lent and came back with 128 other numbers
+pub part-put : (w : List ℕ) (next : ℕ) (p w₁ : List ℕ) → 64 + 128 * (next + 1) ≤ length w → length p ≡ 128
+    → w₁ ≡ putMid (64 + 128 * next) (64 + 128 * next + 128 - (64 + 128 * next)) w p → PartPut w next p w₁
+part-put w next p w₁ fits l e =
+    let a : ℕ = 64 + 128 * next in
+    let rest : List ℕ = drop (a + 128 - a) (drop a w) in
+    let s : 64 + 128 * (next + 1) ≡ a + 128 = omega arith in
+    let t : length (take a w ++ p) ≡ a + 128 = rw (length-append, length-take-le a w (omega arith), l) in
+    let k : a + 128 ≤ length w = omega arith in
+    let q : a + 128 - a ≡ 128 = omega arith in
+    record {
+      written = ap (λ (z : List ℕ). take (64 + 128 * (next + 1)) z) e ∙ ap (λ (i : ℕ). take i (take a w ++ (p ++ rest))) s
+          ∙ ap (take (a + 128)) (sym (append-assoc (take a w) p rest)) ∙ take-at (take a w ++ p) rest (a + 128) t;
+      same-length = ap length e ∙ same-len-mid a (a + 128 - a) w p (l ∙ sym q ∙ sym (mid-len a (a + 128) w k));
+    }
+
+-- A leaf written to the part next.
+pub emits-leaf : (w : List ℕ) (next : ℕ) (p : List Rect) (es : List CellEntry) (w₁ : List ℕ)
+    → PartPut w next (nodePart p (length es) (flatMap entryNumbers es)) w₁ → Emits 0 w next (record { poly = p; child = es } ∷ []) w₁ (next + 1)
+unfolding emitRow emitNode
+emits-leaf w next p es w₁ x =
+    let b : Item (planeSpace fanout) 1 = record { poly = p; child = es } in
+    let l : 1 ≡ nodesOf 0 (b ∷ []) = length-parts 0 next (b ∷ []) in
+    record {
+      written = x .written ∙ ap (λ (z : List ℕ). take (64 + 128 * next) w ++ z) (sym (flatMap-one (λ q. q) (nodePart p (length es) (flatMap entryNumbers es))));
+      next-is = omega arith;
+      same-length = x .same-length;
+    }
+
+-- A routing node written behind its children.
+pub emits-node : (n : ℕ) (w : List ℕ) (next : ℕ) (p : List Rect) (bs : List (Item (planeSpace fanout) (suc n))) (w₁ : List ℕ) (next₁ : ℕ) (w₂ : List ℕ)
+    → Emits n w next bs w₁ next₁ → PartPut w₁ next₁ (nodePart p (length bs) (topsFrom n next bs)) w₂
+    → Emits (suc n) w next (record { poly = p; child = bs } ∷ []) w₂ (next₁ + 1)
+unfolding emitRow emitNode
+emits-node n w next p bs w₁ next₁ w₂ x y =
+    let own : List ℕ = nodePart p (length bs) (topsFrom n next bs) in
+    let b : Item (planeSpace fanout) (suc (suc n)) = record { poly = p; child = bs } in
+    let whole : partsFrom (suc n) next (b ∷ []) ≡ partsFrom n next bs ++ (own ∷ []) = append-nil _ in
+    let l = length-parts (suc n) next (b ∷ []) in
+    let k = length-parts n next bs in
+    let s = ap length whole ∙ length-append (partsFrom n next bs) (own ∷ []) in
+    let a = x .next-is in
+    record {
+      written =
+          y .written ∙ ap (λ (z : List ℕ). z ++ own) (x .written) ∙ append-assoc (take (64 + 128 * next) w) (numbers (partsFrom n next bs)) own
+          ∙ ap (λ (z : List ℕ). take (64 + 128 * next) w ++ z)
+          (ap (λ (z : List ℕ). numbers (partsFrom n next bs) ++ z) (sym (flatMap-one (λ q. q) own))
+          ∙ sym (flatMap-append (λ q. q) (partsFrom n next bs) (own ∷ [])) ∙ ap numbers (sym whole));
+      next-is = omega arith;
+      same-length = y .same-length ∙ x .same-length;
+    }
+
+-- While the items of a node are written one after another: the branches bs were written so far, and the first count numbers of tops are the
+-- parts of their top nodes.
+pub record Row (n : ℕ) (w : List ℕ) (next : ℕ) (bs : List (Item (planeSpace fanout) (suc n))) (w₁ : List ℕ) (next₁ : ℕ) (tops : List ℕ) (count : ℕ) : Type 0 where
+  pub emitted : Emits n w next bs w₁ next₁
+  pub count-is : count ≡ length bs
+  pub tops-are : take count tops ≡ topsFrom n next bs
+
+pub row-start : (n : ℕ) (w : List ℕ) (next : ℕ) (tops : List ℕ) → Row n w next [] w next tops 0
+unfolding emitRow
+row-start n w next tops = record { emitted = emits-none n w next; count-is = refl; tops-are = refl }
+
+module _ (n : ℕ) (w : List ℕ) (next : ℕ) (bs : List (Item (planeSpace fanout) (suc n))) (w₁ : List ℕ) (next₁ : ℕ) (tops : List ℕ) (count : ℕ)
+    (x : Row n w next bs w₁ next₁ tops count) (cs : List (Item (planeSpace fanout) (suc n))) (w₂ : List ℕ) (next₂ : ℕ) (y : Emits n w₁ next₁ cs w₂ next₂)
+    (one : length cs ≤ 1) where
+  -- no branch where the next free part stayed
+  none-written : next₂ ≡ next₁ → cs ≡ []
+  unfolding total nodes
+  none-written e = go cs (y .next-is)
+    where
+      go : (cs : List (Item (planeSpace fanout) (suc n))) → next₂ ≡ next₁ + nodesOf n cs → cs ≡ []
+      go [] h = refl
+      go (c ∷ cs) h = absurd (omega arith)
+
+  pub row-nothing : next₂ ≡ next₁ → Row n w next (bs ++ cs) w₂ next₂ tops count
+  row-nothing e =
+      let z = none-written e in
+      let q : bs ++ cs ≡ bs = ap (λ (l : List (Item (planeSpace fanout) (suc n))). bs ++ l) z ∙ append-nil bs in
+      record {
+        emitted = emits-more n w next bs w₁ next₁ cs w₂ next₂ (x .emitted) y;
+        count-is = x .count-is ∙ sym (ap length q);
+        tops-are = x .tops-are ∙ ap (topsFrom n next) (sym q);
+      }
+
+  -- one branch where it moved on: its top node is the last that was written
+  pub row-one : (next₂ ≡ next₁ → ⊥) → count < length tops → Row n w next (bs ++ cs) w₂ next₂ (set tops count (next₂ - 1)) (count + 1)
+  unfolding emitRow total
+  row-one ne h = go cs y one
+    where
+      go : (cs : List (Item (planeSpace fanout) (suc n))) → Emits n w₁ next₁ cs w₂ next₂ → length cs ≤ 1
+          → Row n w next (bs ++ cs) w₂ next₂ (set tops count (next₂ - 1)) (count + 1)
+      go [] z o = absurd (ne (let a = z .next-is in omega arith))
+      go (c ∷ c′ ∷ cs) z o = absurd (omega arith)
+      go (c ∷ []) z o =
+          let a = x .emitted .next-is in
+          let b = z .next-is in
+          let l = length-parts n next bs in
+          let k = length-node fanout n next₁ c in
+          let d = x .count-is in
+          let e : next + length (partsFrom n next bs) ≡ next₁ = omega arith in
+          let f : next₁ + length (emitNode fanout n next₁ c) - 1 ≡ next₂ - 1 = omega arith in
+          record {
+            emitted = emits-more n w next bs w₁ next₁ (c ∷ []) w₂ next₂ (x .emitted) z;
+            count-is = rw length-append (omega arith);
+            tops-are =
+                rw (add-one, take-suc-set tops count (next₂ - 1), x .tops-are)
+                (sym (row-tops-append (emitNode fanout n) next bs (c ∷ []) ∙ ap (λ (j : ℕ). topsFrom n next bs ++ topsFrom n j (c ∷ [])) e
+                ∙ ap (λ (j : ℕ). topsFrom n next bs ++ (j ∷ [])) f));
+          }

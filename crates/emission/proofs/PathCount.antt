@@ -1,0 +1,156 @@
+-- The count of the nodes left of the node on the path: ranges of branches, the leaf, a node on top of its branches, the node at a level.
+use Prim.Native.Nat.{ℕ, zero, suc, _+_, _-_, _≤_, _<_, min}
+use mathlib.Core.Path.{_≡_, refl, sym, ap, _∙_}
+use mathlib.Core.Bool.{Bool, true, false}
+use mathlib.Core.List.{List, [], _∷_, _++_}
+use native.Mathlib.Omega.{arith}
+use borrow.Author.Tests.{ne-eqb}
+use lib.ListN.{length}
+use Rattle.geometry.specs.declared.rect.Rect.{Rect}
+use Rattle.tree.specs.Lists.{total}
+use Rattle.tree.specs.Space.{left, right}
+use Rattle.tree.specs.Nodes.{Item, nodes}
+use Rattle.tree.specs.Plan.{branchUnder}
+use Rattle.plane.specs.Lines.{CellEntry}
+use Rattle.plane.specs.Plane.{planeSpace}
+use Rattle.plane.specs.Candidates.{rankLine}
+use Rattle.index.specs.Answers.{fanout}
+use Rattle.index.specs.Walks.{Walkable, childAt, countAt}
+use Rattle.sides.specs.Sides.{sideOf, sidesOf}
+use Rattle.emission.specs.Emits.{counted, deepAt}
+use Rattle.emission.specs.Leaves.{Gathered}
+use Rattle.emission.specs.Path.{lineOn, polygonOn, halfUnder, cutUnder, PathNode, PathFrom}
+use Rattle.emission.specs.Rows.{kept, topParts, rangeUnder, beforeOn, behindOn}
+use Rattle.emission.proofs.CountLaws.{none-counted, counted-few, counted-none, counted-more}
+use Rattle.emission.proofs.CutLaws.{front-is, cut-whole, cut-split}
+use Rattle.emission.proofs.HalfLaws.{branchesOn, middleOn, to-half}
+use Rattle.emission.proofs.PathLeaf.{entriesOn, leaf-half}
+use Rattle.emission.proofs.RowLaws.{branch-at, range-cons, range-none}
+use Rattle.emission.proofs.TopLaws.{leaf-nodes-under, under-nodes}
+
+-- Before the i-th branch of the node at part k, of those from the first to before the last: nodes counts those before the first and what is left of the earlier ones.
+pub record RangeLoop (n : ℕ) (m : List ℕ) (k from to : ℕ) (ss : List ℕ) (start i nodes : ℕ) : Type 0 where
+  pub walk : Walkable (suc n) m 0 k
+  pub i-le : i ≤ to
+  pub to-le : to ≤ countAt m k
+  pub so-far : min 257 (nodes + counted n (rangeUnder n m k i to ss)) ≡ min 257 (start + counted n (rangeUnder n m k from to ss))
+  pub few : nodes ≤ 257
+
+module _ (n : ℕ) (m : List ℕ) (k from to : ℕ) (ss : List ℕ) (start : ℕ) where
+  pub range-start : Walkable (suc n) m 0 k → from ≤ to → to ≤ countAt m k → start ≤ 257 → RangeLoop n m k from to ss start from start
+  range-start v h l f = record { walk = v; i-le = h; to-le = l; so-far = refl; few = f }
+
+  module _ (i nodes : ℕ) (x : RangeLoop n m k from to ss start i nodes) where
+    pub range-end : to ≤ i → nodes ≡ min 257 (start + counted n (rangeUnder n m k from to ss))
+    unfolding counted total
+    range-end h =
+        let a = x .i-le in
+        let f = x .few in
+        let e : i ≡ to = omega arith in
+        let s = rw (e, range-none n m k to ss) at (x .so-far) in
+        omega arith
+
+    module _ (h : i < to) where
+      pub range-walk : Walkable n m 0 (childAt m k i)
+      range-walk = branch-at n m k (x .walk) i (let l = x .to-le in omega arith) .walk
+
+      pub range-again : (r nodes₁ : ℕ) → r ≡ counted n (deepAt n m 0 (childAt m k i) ss) → nodes₁ ≡ min 257 (nodes + r)
+          → RangeLoop n m k from to ss start (i + 1) nodes₁
+      range-again r nodes₁ e q =
+          let bs = deepAt n m 0 (childAt m k i) ss in
+          let cs = rangeUnder n m k (i + 1) to ss in
+          let c : counted n (rangeUnder n m k i to ss) ≡ min 257 (counted n bs + counted n cs) =
+          ap (counted n) (range-cons n m k (x .walk) ss i to h (x .to-le)) ∙ sym (counted-more n bs cs) in
+          let s = x .so-far in
+          record { walk = x .walk; i-le = omega arith; to-le = x .to-le; so-far = omega arith; few = omega arith }
+
+-- a count of some branches is at most the limit
+pub count-few : (n : ℕ) (bs : List (Item (planeSpace fanout) (suc n))) (r : ℕ) → r ≡ counted n bs → r ≤ 257
+count-few n bs r e = let f = counted-few n bs in omega arith
+
+-- a node is kept or not by whether it has branches, however these are counted
+parts-same : (ss : List ℕ) (a b : ℕ) → (a ≡ 0 → b ≡ 0) → (b ≡ 0 → a ≡ 0) → topParts ss a ≡ topParts ss b
+unfolding topParts kept
+parts-same [] a b f g = refl
+parts-same (s ∷ ss) zero b f g = let e : b ≡ 0 = f refl in rw e
+parts-same (s ∷ ss) (suc a) b f g =
+    let ne : suc a ≡ 0 → ⊥ = λ q. omega arith in
+    let ne′ : b ≡ 0 → ⊥ = λ q. ne (g q) in
+    rw (ne-eqb (suc a) 0 ne, ne-eqb b 0 ne′)
+
+-- a node under sides has the nodes of its branches and itself
+under-count : (n : ℕ) (ss : List ℕ) (p : List Rect) (bs : List (Item (planeSpace fanout) (suc n)))
+    → counted (suc n) (branchUnder (planeSpace fanout) (sidesOf ss) p bs) ≡ min 257 (counted n bs + topParts ss (counted n bs))
+unfolding counted
+under-count n ss p bs =
+    let u = under-nodes n ss p bs in
+    let t : topParts ss (length bs) ≡ topParts ss (min 257 (total (nodes (planeSpace fanout) (suc n)) bs)) =
+    parts-same ss (length bs) (counted n bs) (no-count bs) (λ q. ap length (counted-none n bs q)) in
+    omega arith
+  where
+    no-count : (bs : List (Item (planeSpace fanout) (suc n))) → length bs ≡ 0 → counted n bs ≡ 0
+    no-count [] q = sym (none-counted n)
+    no-count (b ∷ bs) q = absurd (omega arith)
+
+-- the node on top of its branches
+pub top-count : (ss : List ℕ) (nodes : ℕ) (b : Bool) → b ≡ kept ss nodes → b ≡ true → (r : ℕ) → r ≡ min 257 (nodes + 1) → r ≡ min 257 (nodes + topParts ss nodes)
+unfolding topParts
+top-count ss nodes b o f r e = let k : kept ss nodes ≡ true = sym o ∙ f in rw k e
+
+pub top-no-count : (ss : List ℕ) (nodes : ℕ) (b : Bool) → b ≡ kept ss nodes → b ≡ false → nodes ≤ 257 → nodes ≡ min 257 (nodes + topParts ss nodes)
+unfolding topParts
+top-no-count ss nodes b o f h = let k : kept ss nodes ≡ false = sym o ∙ f in rw k (omega arith)
+
+-- the leaf on the path
+module _ (path m : List ℕ) (e : CellEntry) (ss : List ℕ) (v : PathNode 0 path m) (l : List ℕ) (count : ℕ) (g : Gathered (entriesOn path m e ss) l count)
+    (b : Bool) (o : b ≡ kept ss count) where
+  leaf-count : counted 0 (halfUnder 0 path m e (sidesOf ss)) ≡ min 257 (topParts ss count)
+  unfolding counted
+  leaf-count =
+      let n : total (nodes (planeSpace fanout) 1) (halfUnder 0 path m e (sidesOf ss)) ≡ topParts ss count =
+      ap (total (nodes (planeSpace fanout) 1)) (leaf-half path m e ss v) ∙ leaf-nodes-under ss (polygonOn path 0) (entriesOn path m e ss) ∙ ap (topParts ss) (sym (g .count-is)) in
+      ap (min 257) n
+
+  pub leaf-counted : b ≡ true → 1 ≡ counted 0 (halfUnder 0 path m e (sidesOf ss))
+  unfolding topParts
+  leaf-counted f = let k : kept ss count ≡ true = sym o ∙ f in sym (leaf-count ∙ rw k)
+
+  pub leaf-uncounted : b ≡ false → 0 ≡ counted 0 (halfUnder 0 path m e (sidesOf ss))
+  unfolding topParts
+  leaf-uncounted f = let k : kept ss count ≡ false = sym o ∙ f in sym (leaf-count ∙ rw k)
+
+-- the two branches of a node that is split
+pub cut-count : (n : ℕ) (path m : List ℕ) (e : CellEntry) (ss : List ℕ) (l g : ℕ) (us vs : List ℕ) (lefts rights : ℕ) → (lineOn path n ≡ 0 → ⊥)
+    → sideOf l ≡ left (rankLine (lineOn path n)) → us ≡ l ∷ ss → lefts ≡ counted n (halfUnder n path m e (sidesOf us))
+    → sideOf g ≡ right (rankLine (lineOn path n)) → vs ≡ g ∷ ss → rights ≡ counted n (halfUnder n path m e (sidesOf vs))
+    → min 257 (lefts + rights) ≡ counted n (cutUnder n path m e (sidesOf ss))
+cut-count n path m e ss l g us vs lefts rights nz h u a i v b =
+    rw (cut-split n path m e ss nz l us h u, ← (front-is vs ss g _ v i), a, b) (counted-more n (halfUnder n path m e (sidesOf us)) (halfUnder n path m e (sidesOf vs)))
+
+-- a routing node on the path
+module _ (level : ℕ) (path m : List ℕ) (e : CellEntry) (ss : List ℕ) where
+  pub half-leaf-count : (r : ℕ) → level ≡ 0 → r ≡ counted 0 (halfUnder 0 path m e (sidesOf ss)) → r ≡ counted level (halfUnder level path m e (sidesOf ss))
+  half-leaf-count r z q = rw z q
+
+  module _ (ne : level ≡ 0 → ⊥) (x : PathFrom level path m) (beside : ℕ)
+      (s : beside ≡ min 257 (counted (level - 1) (beforeOn level path m ss) + counted (level - 1) (behindOn level path m ss))) where
+    half-count : (middle nodes r : ℕ) → middle ≡ counted (level - 1) (middleOn level path m e ss) → nodes ≡ min 257 (beside + middle)
+        → r ≡ min 257 (nodes + topParts ss nodes) → r ≡ counted level (halfUnder level path m e (sidesOf ss))
+    half-count middle nodes r a b c =
+        let p = counted-more (level - 1) (beforeOn level path m ss) (middleOn level path m e ss ++ behindOn level path m ss) in
+        let q = counted-more (level - 1) (middleOn level path m e ss) (behindOn level path m ss) in
+        let n : nodes ≡ counted (level - 1) (branchesOn level path m e ss) = omega arith in
+        to-half (λ k bs. r ≡ counted k bs) level path m e ss (omega arith) x
+        ((rw n at c) ∙ sym (under-count (level - 1) ss (polygonOn path level) (branchesOn level path m e ss)))
+
+    pub whole-count : (middle nodes r : ℕ) → lineOn path (level - 1) ≡ 0 → middle ≡ counted (level - 1) (halfUnder (level - 1) path m e (sidesOf ss))
+        → nodes ≡ min 257 (beside + middle) → r ≡ min 257 (nodes + topParts ss nodes) → r ≡ counted level (halfUnder level path m e (sidesOf ss))
+    whole-count middle nodes r z a b c = half-count middle nodes r (rw (cut-whole (level - 1) path m e ss z) a) b c
+
+    pub split-count : (l g : ℕ) (us vs : List ℕ) (lefts rights both nodes r : ℕ) → (lineOn path (level - 1) ≡ 0 → ⊥)
+        → sideOf l ≡ left (rankLine (lineOn path (level - 1))) → us ≡ l ∷ ss → lefts ≡ counted (level - 1) (halfUnder (level - 1) path m e (sidesOf us))
+        → sideOf g ≡ right (rankLine (lineOn path (level - 1))) → vs ≡ g ∷ ss → rights ≡ counted (level - 1) (halfUnder (level - 1) path m e (sidesOf vs))
+        → both ≡ min 257 (lefts + rights) → nodes ≡ min 257 (beside + both) → r ≡ min 257 (nodes + topParts ss nodes)
+        → r ≡ counted level (halfUnder level path m e (sidesOf ss))
+    split-count l g us vs lefts rights both nodes r nz h u a i v b d c f =
+        half-count both nodes r (d ∙ cut-count (level - 1) path m e ss l g us vs lefts rights nz h u a i v b) c f

@@ -1,0 +1,242 @@
+-- The branches of a routing node in a memory, and the loop that writes what is left of them under sides.
+use Prim.Native.Nat.{ℕ, suc, _+_, _*_, _-_, _≤_, _<_}
+use mathlib.Core.Path.{_≡_, refl, sym, ap, _∙_}
+use mathlib.Core.Bool.{Bool, true, false}
+use mathlib.Core.List.{List, [], _∷_, _++_, append-assoc, append-nil, flatMap}
+use mathlib.Core.Option.{some}
+use native.Mathlib.Omega.{arith}
+use native.Mathlib.Numerals.{add-one}
+use borrow.Author.Tests.{eq-eqb, ne-eqb}
+use lib.Dec.{eqb}
+use lib.ListN.{length, take, drop, getD, set, length-append, length-set}
+use lib.Seq.{drop-cons, getD-take, getD-drop, take-suc-set}
+use Rattle.tree.specs.Lists.{total}
+use Rattle.tree.specs.Nodes.{Item, nodes}
+use Rattle.tree.proofs.Counts.{total-append}
+use Rattle.plane.specs.Plane.{planeSpace}
+use Rattle.memory.specs.Layout.{part, itemCount, childrenIn}
+use Rattle.memory.specs.Image.{emitRow, emitNode}
+use Rattle.memory.specs.Reading.{readNode}
+use Rattle.memory.proofs.NodeImage.{length-node}
+use Rattle.memory.proofs.ReadingLaws.{lowAt, row-at, row-length, node-parts, node-lower, node-below, children-length}
+use Rattle.index.specs.Answers.{fanout}
+use Rattle.index.specs.Walks.{Walkable, childAt, countAt}
+use Rattle.index.proofs.WalkParts.{part-at}
+use Rattle.index.proofs.WalkRows.{walkable}
+use Rattle.emission.specs.declared.tops.Tops.{Tops}
+use Rattle.emission.specs.Emits.{Emits, Room, deepOf, deepAt}
+use Rattle.emission.specs.Path.{rowOr, rowAt}
+use Rattle.emission.specs.Rows.{topped, Grows, rangeUnder}
+use Rattle.emission.proofs.DeepRows.{deep-one}
+use Rattle.emission.proofs.EmitLaws.{partsFrom, topsFrom, row-tops-append, length-parts, emits-none, emits-more}
+
+-- The i-th branch of the node at part k, as it reads from the first part on, and the branches from it on.
+pub record BranchAt (n : ℕ) (m : List ℕ) (k i : ℕ) : Type 0 where
+  pub branch : Item (planeSpace fanout) (suc n)
+  pub reads : readNode fanout n m 0 (childAt m k i) ≡ some branch
+  pub walk : Walkable n m 0 (childAt m k i)
+  pub next : drop i (rowAt n m k) ≡ branch ∷ drop (i + 1) (rowAt n m k)
+
+module _ (n : ℕ) (m : List ℕ) (k : ℕ) (v : Walkable (suc n) m 0 k) where
+  row-is : rowAt n m k ≡ v .node .child
+  unfolding rowAt rowOr
+  row-is = rw (node-parts fanout n m 0 k (v .node) (v .reads) .row)
+
+  children-count : length (childrenIn (part m k)) ≡ countAt m k
+  children-count =
+      let e = part-at m k 1 (omega arith) in
+      let f = v .few in
+      children-length fanout m k (node-below fanout m (suc n) 0 k (v .node) (v .reads)) (omega arith) ∙ e
+
+  -- a node has as many branches as its part says
+  pub row-count : length (rowAt n m k) ≡ countAt m k
+  row-count =
+      ap length row-is
+      ∙ row-length (readNode fanout n m) 0 k (childrenIn (part m k)) (v .node .child) (node-parts fanout n m 0 k (v .node) (v .reads) .row)
+      ∙ children-count
+
+  child-is : (i : ℕ) → i < countAt m k → getD (childrenIn (part m k)) i 0 ≡ childAt m k i
+  child-is i h =
+      let f = v .few in
+      let e = part-at m k 1 (omega arith) in
+      getD-take (itemCount (part m k)) (drop 66 (part m k)) i 0 (omega arith) ∙ getD-drop 66 (part m k) i 0 ∙ part-at m k (66 + i) (omega arith)
+      ∙ ap (λ j. getD m j 0) (let q : 64 + 128 * k + (66 + i) ≡ 64 + 128 * k + 66 + i = omega arith in q)
+
+  pub branch-at : (i : ℕ) → i < countAt m k → BranchAt n m k i
+  branch-at i h =
+      let p = node-parts fanout n m 0 k (v .node) (v .reads) in
+      let ks : List ℕ = childrenIn (part m k) in
+      let d : Item (planeSpace fanout) (suc n) = record { poly = []; child = [] } in
+      let b : Item (planeSpace fanout) (suc n) = getD (v .node .child) i d in
+      let s : i < length ks = rw children-count h in
+      let l : i < length (v .node .child) = rw (← row-is, row-count) h in
+      let low = node-lower fanout n m (lowAt 0 ks i) 0 (getD ks i 0) b (omega arith) (row-at (readNode fanout n m) 0 k ks i (v .node .child) d (p .row) s) in
+      let r : readNode fanout n m 0 (childAt m k i) ≡ some b = rw (child-is i h) at low in
+      record {
+        branch = b;
+        reads = r;
+        walk = walkable n m 0 (childAt m k i) b (v .right) (omega arith) r;
+        next = rw (row-is, add-one) (drop-cons (v .node .child) i d l);
+      }
+
+  module _ (ss : List ℕ) where
+    -- a range of branches taken apart: its first and the others
+    pub range-cons : (i to : ℕ) → i < to → to ≤ countAt m k → rangeUnder n m k i to ss ≡ deepAt n m 0 (childAt m k i) ss ++ rangeUnder n m k (i + 1) to ss
+    unfolding rangeUnder deepAt deepOf flatMap
+    range-cons i to h l =
+        let b = branch-at i (omega arith) in
+        let e : to - i ≡ suc (to - (i + 1)) = omega arith in
+        rw (e, b .next, b .reads)
+
+pub range-none : (n : ℕ) (m : List ℕ) (k i : ℕ) (ss : List ℕ) → rangeUnder n m k i i ss ≡ []
+unfolding rangeUnder flatMap
+range-none n m k i ss = let e : i - i ≡ 0 = omega arith in rw e
+
+-- branches that follow one another fit where all of them fit
+module _ (n : ℕ) (w : List ℕ) (next : ℕ) (bs cs : List (Item (planeSpace fanout) (suc n))) (r : Room n w next (bs ++ cs)) where
+  pub room-first : Room n w next bs
+  room-first =
+      let t = total-append (nodes (planeSpace fanout) (suc n)) bs cs in
+      let f = r .fits in
+      record { fits = omega arith; small = r .small }
+
+  pub room-rest : (w₁ : List ℕ) (next₁ : ℕ) → Emits n w next bs w₁ next₁ → Room n w₁ next₁ cs
+  room-rest w₁ next₁ x =
+      let t = total-append (nodes (planeSpace fanout) (suc n)) bs cs in
+      let f = r .fits in
+      let s = r .small in
+      let a = x .next-is in
+      let l = x .same-length in
+      record { fits = omega arith; small = omega arith }
+
+-- writing moves on
+pub emits-on : (n : ℕ) (w : List ℕ) (next : ℕ) (bs : List (Item (planeSpace fanout) (suc n))) (w₁ : List ℕ) (next₁ : ℕ) → Emits n w next bs w₁ next₁ → next ≤ next₁
+emits-on n w next bs w₁ next₁ x = let a = x .next-is in omega arith
+
+-- no branch
+pub grows-none : (n : ℕ) (w : List ℕ) (t : Tops) → Grows n w t [] w t
+unfolding emitRow
+grows-none n w t = record { emits = emits-none n w (t .next); count-is = omega arith; tops-are = sym (append-nil _) }
+
+-- some branches, and then some more
+pub grows-more : (n : ℕ) (w : List ℕ) (t : Tops) (bs : List (Item (planeSpace fanout) (suc n))) (w₁ : List ℕ) (t₁ : Tops)
+    (cs : List (Item (planeSpace fanout) (suc n))) (w₂ : List ℕ) (t₂ : Tops) → Grows n w t bs w₁ t₁ → Grows n w₁ t₁ cs w₂ t₂ → Grows n w t (bs ++ cs) w₂ t₂
+grows-more n w t bs w₁ t₁ cs w₂ t₂ x y =
+    let a = x .count-is in
+    let b = y .count-is in
+    let c = x .emits .next-is in
+    let l = length-parts n (t .next) bs in
+    let e : t .next + length (partsFrom n (t .next) bs) ≡ t₁ .next = omega arith in
+    record {
+      emits = emits-more n w (t .next) bs w₁ (t₁ .next) cs w₂ (t₂ .next) (x .emits) (y .emits);
+      count-is = rw length-append (omega arith);
+      tops-are =
+          y .tops-are ∙ ap (λ (z : List ℕ). z ++ topsFrom n (t₁ .next) cs) (x .tops-are)
+          ∙ append-assoc (take (t .count) (t .parts)) (topsFrom n (t .next) bs) (topsFrom n (t₁ .next) cs)
+          ∙ ap (λ (z : List ℕ). take (t .count) (t .parts) ++ z)
+          (sym (row-tops-append (emitNode fanout n) (t .next) bs cs ∙ ap (λ (j : ℕ). topsFrom n (t .next) bs ++ topsFrom n j cs) e));
+    }
+
+-- one branch or none: its top node is the last that was written
+module _ (n : ℕ) (w : List ℕ) (t : Tops) (w₁ : List ℕ) (after : ℕ) (room : t .count < length (t .parts)) where
+  grows-same : after ≡ t .next → Emits n w (t .next) [] w₁ after → Grows n w t [] w₁ (topped t after)
+  unfolding topped emitRow
+  grows-same e x =
+      rw (eq-eqb after (t .next) e) (record { emits = rw e at x; count-is = omega arith; tops-are = sym (append-nil _) })
+
+  grows-by : (b : Item (planeSpace fanout) (suc n)) → Emits n w (t .next) (b ∷ []) w₁ after → Grows n w t (b ∷ []) w₁ (topped t after)
+  unfolding topped emitRow total nodes
+  grows-by b x =
+      let a = x .next-is in
+      let l = length-node fanout n (t .next) b in
+      let ne : after ≡ t .next → ⊥ = λ e. omega arith in
+      let e : t .next + length (emitNode fanout n (t .next) b) - 1 ≡ after - 1 = omega arith in
+      rw (ne-eqb after (t .next) ne) (record {
+        emits = x;
+        count-is = refl;
+        tops-are = rw (add-one, e) (take-suc-set (t .parts) (t .count) (after - 1) room);
+      })
+
+  pub grows-one : (bs : List (Item (planeSpace fanout) (suc n))) → length bs ≤ 1 → Emits n w (t .next) bs w₁ after → Grows n w t bs w₁ (topped t after)
+  unfolding total
+  grows-one [] o x = grows-same (let a = x .next-is in omega arith) x
+  grows-one (b ∷ []) o x = grows-by b x
+  grows-one (b ∷ c ∷ bs) o x = absurd (omega arith)
+
+-- the code's two ways
+pub topped-same : (t : Tops) (after : ℕ) → after ≡ t .next → t ≡ topped t after
+unfolding topped
+topped-same t after e = rw (eq-eqb after (t .next) e)
+
+pub topped-more : (t : Tops) (after : ℕ) → (after ≡ t .next → ⊥) → record { next = after; count = t .count + 1; parts = set (t .parts) (t .count) (after - 1) } ≡ topped t after
+unfolding topped
+topped-more t after ne = rw (ne-eqb after (t .next) ne)
+
+pub length-topped : (t : Tops) (after : ℕ) → length (topped t after .parts) ≡ length (t .parts)
+unfolding topped
+length-topped t after = go (eqb after (t .next)) refl
+  where
+    go : (b : Bool) → eqb after (t .next) ≡ b → length (topped t after .parts) ≡ length (t .parts)
+    go true e = rw e
+    go false e = rw e (length-set (t .parts) (t .count) (after - 1))
+
+-- Before the i-th branch of the node at part k, of those up to the to-th: what is left of the earlier ones is written.
+pub record BranchLoop (n : ℕ) (m : List ℕ) (k from to : ℕ) (ss w₀ : List ℕ) (t₀ : Tops) (i : ℕ) (w : List ℕ) (t : Tops) : Type 0 where
+  pub walk : Walkable (suc n) m 0 k
+  pub i-le : i ≤ to
+  pub to-le : to ≤ countAt m k
+  pub bs : List (Item (planeSpace fanout) (suc n))
+  pub whole : bs ++ rangeUnder n m k i to ss ≡ rangeUnder n m k from to ss
+  pub grows : Grows n w₀ t₀ bs w t
+  pub room : Room n w (t .next) (rangeUnder n m k i to ss)
+  pub few : t .count + to ≤ 9 + i
+  pub long : length (t .parts) ≡ 9
+
+module _ (n : ℕ) (m : List ℕ) (k from to : ℕ) (ss w₀ : List ℕ) (t₀ : Tops) where
+  pub branch-start : Walkable (suc n) m 0 k → from ≤ to → to ≤ countAt m k → t₀ .count + to ≤ 9 + from → length (t₀ .parts) ≡ 9
+      → Room n w₀ (t₀ .next) (rangeUnder n m k from to ss) → BranchLoop n m k from to ss w₀ t₀ from w₀ t₀
+  branch-start v h l f s r = record { walk = v; i-le = h; to-le = l; bs = []; whole = refl; grows = grows-none n w₀ t₀; room = r; few = f; long = s }
+
+  module _ (i : ℕ) (w : List ℕ) (t : Tops) (x : BranchLoop n m k from to ss w₀ t₀ i w t) where
+    pub branch-end : to ≤ i → Grows n w₀ t₀ (rangeUnder n m k from to ss) w t
+    branch-end h =
+        let a = x .i-le in
+        let e : i ≡ to = omega arith in
+        let q : x .bs ++ [] ≡ rangeUnder n m k from to ss = ap (λ l. x .bs ++ l) (sym (range-none n m k to ss)) ∙ (rw e at (x .whole)) in
+        rw (← q, append-nil (x .bs)) (x .grows)
+
+    module _ (h : i < to) where
+      abbrev first : List (Item (planeSpace fanout) (suc n))
+      first = deepAt n m 0 (childAt m k i) ss
+
+      abbrev others : List (Item (planeSpace fanout) (suc n))
+      others = rangeUnder n m k (i + 1) to ss
+
+      apart : rangeUnder n m k i to ss ≡ first ++ others
+      apart = range-cons n m k (x .walk) ss i to h (x .to-le)
+
+      pub branch-walk : Walkable n m 0 (childAt m k i)
+      branch-walk = branch-at n m k (x .walk) i (let l = x .to-le in omega arith) .walk
+
+      pub branch-room : Room n w (t .next) (deepAt n m 0 (childAt m k i) ss)
+      branch-room = room-first n w (t .next) first others (rw apart at (x .room))
+
+      pub branch-again : (w₁ : List ℕ) (after : ℕ) (t₁ : Tops) → Emits n w (t .next) (deepAt n m 0 (childAt m k i) ss) w₁ after → t₁ ≡ topped t after
+          → BranchLoop n m k from to ss w₀ t₀ (i + 1) w₁ t₁
+      branch-again w₁ after t₁ e q =
+          let f = x .few in
+          let l = x .long in
+          let o = deep-one n m 0 (childAt m k i) ss in
+          let g : Grows n w t first w₁ t₁ = rw q (grows-one n w t w₁ after (omega arith) first o e) in
+          let c = g .count-is in
+          record {
+            walk = x .walk;
+            i-le = omega arith;
+            to-le = x .to-le;
+            bs = x .bs ++ first;
+            whole = append-assoc (x .bs) first others ∙ ap (λ l. x .bs ++ l) (sym apart) ∙ x .whole;
+            grows = grows-more n w₀ t₀ (x .bs) w t first w₁ t₁ (x .grows) g;
+            room = room-rest n w (t .next) first others (rw apart at (x .room)) w₁ (t₁ .next) (g .emits);
+            few = omega arith;
+            long = rw q (length-topped t after ∙ l);
+          }

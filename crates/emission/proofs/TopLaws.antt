@@ -1,0 +1,181 @@
+-- A node on top of its items under sides: when it is kept, its part, and what is written with it.
+use Prim.Native.Nat.{ℕ, suc, _+_, _*_}
+use mathlib.Core.Path.{_≡_, refl, sym, ap, _∙_}
+use mathlib.Core.Bool.{Bool, true, false}
+use mathlib.Core.List.{List, [], _∷_, _++_, append-nil, flatMap}
+use native.Mathlib.Omega.{arith}
+use borrow.Author.Tests.{eq-eqb, ne-eqb}
+use lib.Dec.{eqb}
+use lib.ListN.{length, take}
+use Rattle.geometry.specs.declared.rect.Rect.{Rect}
+use Rattle.geometry.specs.declared.polygon.Polygon.{Polygon}
+use Rattle.geometry.specs.Numbers.{rectsOf, PolygonOf}
+use Rattle.tree.specs.Lists.{total}
+use Rattle.tree.specs.Nodes.{Item, nodes}
+use Rattle.tree.specs.Plan.{clips, branchUnder}
+use Rattle.plane.specs.Lines.{CellEntry}
+use Rattle.plane.specs.Plane.{planeSpace}
+use Rattle.memory.specs.Image.{nodePart, entryNumbers, emitRow}
+use Rattle.index.specs.Answers.{fanout}
+use Rattle.sides.specs.Sides.{sidesOf}
+use Rattle.emission.specs.declared.tops.Tops.{Tops}
+use Rattle.emission.specs.Emits.{Emits}
+use Rattle.emission.specs.Leaves.{Gathered}
+use Rattle.emission.specs.Parts.{PartPut, PartRoom}
+use Rattle.emission.specs.Rows.{kept, topParts, topNumbers, TopWritten, TopRoom, noTops, Grows, RestWritten}
+use Rattle.emission.proofs.CountLaws.{leaf-nodes}
+use Rattle.emission.proofs.EmitLaws.{topsFrom, emits-leaf, emits-node}
+use Rattle.emission.proofs.RowLaws.{grows-more}
+
+-- the code's test
+pub kept-some : (ss : List ℕ) (count : ℕ) → (count ≡ 0 → ⊥) → true ≡ kept ss count
+unfolding kept
+kept-some [] count ne = refl
+kept-some (s ∷ ss) count ne = rw (ne-eqb count 0 ne)
+
+pub kept-empty : (ss : List ℕ) (count : ℕ) → count ≡ 0 → eqb (length ss) 0 ≡ kept ss count
+unfolding kept
+kept-empty [] count e = refl
+kept-empty (s ∷ ss) count e = rw (eq-eqb count 0 e, ne-eqb (length (s ∷ ss)) 0 (λ q. omega arith))
+
+-- the code's writing of the node
+module _ (p : List Rect) (ss : List ℕ) (count : ℕ) (items w : List ℕ) (next : ℕ) (b : Bool) (o : b ≡ kept ss count) where
+  pub top-dropped : b ≡ false → TopWritten p ss count items w next w next
+  unfolding topParts topNumbers
+  top-dropped f =
+      let k : kept ss count ≡ false = sym o ∙ f in
+      record { next-is = rw k (omega arith); written = rw k (sym (append-nil _)); same-length = refl }
+
+  pub top-room : TopRoom ss count items w next → b ≡ true → PartRoom w next
+  unfolding topParts
+  top-room r f =
+      let k : kept ss count ≡ true = sym o ∙ f in
+      let g = r .fits in
+      record { fits = rw k at g; small = r .small }
+
+  pub top-kept : (q : Polygon) (w₁ : List ℕ) → PolygonOf (clips (planeSpace fanout) (sidesOf ss) p) q → PartPut w next (nodePart (rectsOf q) count items) w₁
+      → b ≡ true → TopWritten p ss count items w next w₁ (next + 1)
+  unfolding topParts topNumbers
+  top-kept q w₁ y x f =
+      let k : kept ss count ≡ true = sym o ∙ f in
+      record {
+        next-is = rw k;
+        written = rw k (x .written ∙ ap (λ l. take (64 + 128 * next) w ++ nodePart l count items) (y .list));
+        same-length = x .same-length;
+      }
+
+-- a node under sides is one branch if it is kept
+under-kept : {A : Type 0} (ss : List ℕ) (p : List Rect) (items : List A) → kept ss (length items) ≡ true
+    → branchUnder (planeSpace fanout) (sidesOf ss) p items ≡ record { poly = clips (planeSpace fanout) (sidesOf ss) p; child = items } ∷ []
+unfolding kept sidesOf clips
+under-kept [] p items k = refl
+under-kept (s ∷ ss) p (x ∷ items) k = refl
+under-kept (s ∷ ss) p [] k = let z : _≡_ {A = ℕ} 0 1 = cc in absurd (omega arith)
+
+-- and none if not, for want of items
+under-dropped : {A : Type 0} (ss : List ℕ) (p : List Rect) (items : List A) → kept ss (length items) ≡ false
+    → branchUnder (planeSpace fanout) (sidesOf ss) p items ≡ []
+unfolding kept sidesOf
+under-dropped [] p items k = let z : _≡_ {A = ℕ} 0 1 = cc in absurd (omega arith)
+under-dropped (s ∷ ss) p (x ∷ items) k =
+    let e = ne-eqb (length (x ∷ items)) 0 (λ q. omega arith) in
+    let z : _≡_ {A = ℕ} 0 1 = cc in
+    absurd (omega arith)
+under-dropped (s ∷ ss) p [] k = refl
+
+dropped-none : {A : Type 0} (ss : List ℕ) (items : List A) → kept ss (length items) ≡ false → items ≡ []
+unfolding kept
+dropped-none [] items k = let z : _≡_ {A = ℕ} 0 1 = cc in absurd (omega arith)
+dropped-none (s ∷ ss) (x ∷ items) k =
+    let e = ne-eqb (length (x ∷ items)) 0 (λ q. omega arith) in
+    let z : _≡_ {A = ℕ} 0 1 = cc in
+    absurd (omega arith)
+dropped-none (s ∷ ss) [] k = refl
+
+-- the nodes of a leaf under sides: itself if it is kept
+pub leaf-nodes-under : (ss : List ℕ) (p : List Rect) (es : List CellEntry)
+    → total (nodes (planeSpace fanout) 1) (branchUnder (planeSpace fanout) (sidesOf ss) p es) ≡ topParts ss (length es)
+unfolding total topParts
+leaf-nodes-under ss p es = go (kept ss (length es)) refl
+  where
+    go : (b : Bool) → kept ss (length es) ≡ b → total (nodes (planeSpace fanout) 1) (branchUnder (planeSpace fanout) (sidesOf ss) p es) ≡ topParts ss (length es)
+    go true k =
+        let e = leaf-nodes (record { poly = clips (planeSpace fanout) (sidesOf ss) p; child = es }) in
+        rw (under-kept ss p es k, k) (omega arith)
+    go false k = rw (under-dropped ss p es k, k)
+
+-- the nodes of a node under sides: those of its branches, and itself if it is kept
+pub under-nodes : (n : ℕ) (ss : List ℕ) (p : List Rect) (bs : List (Item (planeSpace fanout) (suc n)))
+    → total (nodes (planeSpace fanout) (suc (suc n))) (branchUnder (planeSpace fanout) (sidesOf ss) p bs) ≡ total (nodes (planeSpace fanout) (suc n)) bs + topParts ss (length bs)
+unfolding total nodes topParts
+under-nodes n ss p bs = go (kept ss (length bs)) refl
+  where
+    go : (b : Bool) → kept ss (length bs) ≡ b
+        → total (nodes (planeSpace fanout) (suc (suc n))) (branchUnder (planeSpace fanout) (sidesOf ss) p bs) ≡ total (nodes (planeSpace fanout) (suc n)) bs + topParts ss (length bs)
+    go true k = rw (under-kept ss p bs k, k) (omega arith)
+    go false k = rw (under-dropped ss p bs k, k, dropped-none ss bs k)
+
+module _ (p : List Rect) (ss : List ℕ) (count : ℕ) (items w : List ℕ) (next : ℕ) (w₁ : List ℕ) (r : ℕ) (x : TopWritten p ss count items w next w₁ r) where
+  -- the part of a node that is kept
+  put-of : kept ss count ≡ true → PartPut w next (nodePart (clips (planeSpace fanout) (sidesOf ss) p) count items) w₁ × (r ≡ next + 1)
+  unfolding topParts topNumbers
+  put-of k =
+      let a : r ≡ next + 1 = rw k at (x .next-is) in
+      let b = x .written in
+      (record { written = rw (k, a) at b; same-length = x .same-length }, a)
+
+  -- nothing is written for a node that is dropped
+  same-of : kept ss count ≡ false → (take (64 + 128 * r) w₁ ≡ take (64 + 128 * next) w ++ []) × (r ≡ next + 0)
+  unfolding topParts topNumbers
+  same-of k = let a = x .next-is in let b = x .written in (rw k at b, rw k at a)
+
+-- a leaf with the entries that were gathered
+pub top-leaf : (p : List Rect) (ss : List ℕ) (es : List CellEntry) (items : List ℕ) (count : ℕ) (w : List ℕ) (next : ℕ) (w₁ : List ℕ) (r : ℕ)
+    → Gathered es items count → TopWritten p ss count (take (3 * count) items) w next w₁ r → Emits 0 w next (branchUnder (planeSpace fanout) (sidesOf ss) p es) w₁ r
+unfolding emitRow flatMap total
+top-leaf p ss es items count w next w₁ r g x = go (kept ss (length es)) refl
+  where
+    x′ : TopWritten p ss (length es) (flatMap entryNumbers es) w next w₁ r
+    x′ = rw (← (g .count-is), ← (g .numbers)) x
+
+    go : (b : Bool) → kept ss (length es) ≡ b → Emits 0 w next (branchUnder (planeSpace fanout) (sidesOf ss) p es) w₁ r
+    go true k =
+        let q = put-of p ss (length es) (flatMap entryNumbers es) w next w₁ r x′ k in
+        rw (under-kept ss p es k, q .1) (emits-leaf w next (clips (planeSpace fanout) (sidesOf ss) p) es w₁ (q .0))
+    go false k =
+        let q = same-of p ss (length es) (flatMap entryNumbers es) w next w₁ r x′ k in
+        let e = q .1 in
+        rw (under-dropped ss p es k) (record { written = q .0; next-is = omega arith; same-length = x′ .same-length })
+
+-- a routing node with the branches that were written
+pub top-node : (n : ℕ) (p : List Rect) (ss : List ℕ) (bs : List (Item (planeSpace fanout) (suc n))) (count : ℕ) (tops w : List ℕ) (next : ℕ) (w₁ : List ℕ) (next₁ : ℕ) (w₂ : List ℕ) (r : ℕ)
+    → Emits n w next bs w₁ next₁ → count ≡ length bs → tops ≡ topsFrom n next bs → TopWritten p ss count tops w₁ next₁ w₂ r
+    → Emits (suc n) w next (branchUnder (planeSpace fanout) (sidesOf ss) p bs) w₂ r
+unfolding emitRow flatMap total
+top-node n p ss bs count tops w next w₁ next₁ w₂ r e c t x = go (kept ss (length bs)) refl
+  where
+    x′ : TopWritten p ss (length bs) (topsFrom n next bs) w₁ next₁ w₂ r
+    x′ = rw (← c, ← t) x
+
+    go : (b : Bool) → kept ss (length bs) ≡ b → Emits (suc n) w next (branchUnder (planeSpace fanout) (sidesOf ss) p bs) w₂ r
+    go true k =
+        let q = put-of p ss (length bs) (topsFrom n next bs) w₁ next₁ w₂ r x′ k in
+        rw (under-kept ss p bs k, q .1) (emits-node n w next (clips (planeSpace fanout) (sidesOf ss) p) bs w₁ next₁ w₂ e (q .0))
+    go false k =
+        let q = same-of p ss (length bs) (topsFrom n next bs) w₁ next₁ w₂ r x′ k in
+        let z = dropped-none ss bs k in
+        let e′ : Emits n w next [] w₁ next₁ = rw z at e in
+        let a = e′ .next-is in
+        let b = q .1 in
+        rw (under-dropped ss p bs k) (record {
+          written = q .0 ∙ append-nil (take (64 + 128 * next₁) w₁) ∙ e′ .written;
+          next-is = omega arith;
+          same-length = x′ .same-length ∙ e′ .same-length;
+        })
+
+-- a routing node whose branches were written in two goes
+pub rest-node : (n : ℕ) (p : List Rect) (ss : List ℕ) (w : List ℕ) (next : ℕ) (bs cs : List (Item (planeSpace fanout) (suc n))) (w₁ : List ℕ) (t : Tops) (w₂ : List ℕ) (r : ℕ)
+    → Grows n w (noTops next) bs w₁ t → RestWritten n p ss cs w₁ t w₂ r → Emits (suc n) w next (branchUnder (planeSpace fanout) (sidesOf ss) p (bs ++ cs)) w₂ r
+rest-node n p ss w next bs cs w₁ t w₂ r g x =
+    let h = grows-more n w (noTops next) bs w₁ t cs (x .mid) (x .all) g (x .branches) in
+    top-node n p ss (bs ++ cs) (x .all .count) _ w next (x .mid) (x .all .next) w₂ r (h .emits) (let c = h .count-is in omega arith) (h .tops-are) (x .top)

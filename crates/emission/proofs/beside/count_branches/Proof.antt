@@ -1,0 +1,71 @@
+-- `beside::count_branches` meets its contract; its loop is in PathCount.
+use borrow.Author.Needs.{needs}
+use Prim.Native.Nat.{_-_}
+use Rattle.emission.proofs.PathCount.{RangeLoop, range-start, range-end, range-walk, range-again, count-few}
+use Rattle.emission.proofs.beside.count_branches.Statement.{statement}
+use Rattle.emission.proofs.beside.count_branches.Tie as tie
+
+abbrev Inv-loop : tie.InvT-loop
+Inv-loop m level k from to sides start a nodes₀ i₀ nodes i = RangeLoop level m k from to sides nodes₀ i nodes
+
+abbrev μ-loop : tie.MeasureT-loop
+μ-loop m level k from to sides start a nodes₀ i₀ nodes i = to - i
+
+mul-a : tie.Need-mul-a Inv-loop μ-loop
+mul-a c = search needs
+
+add-a : tie.Need-add-a Inv-loop μ-loop
+add-a c = search needs
+
+loop-holds : tie.Need-loop-holds Inv-loop μ-loop
+loop-holds c = search range-start
+
+add-j : tie.Need-add-j Inv-loop μ-loop
+add-j c = search needs
+
+add-j-2 : tie.Need-add-j-2 Inv-loop μ-loop
+add-j-2 c = search needs
+
+mul-j : tie.Need-mul-j Inv-loop μ-loop
+mul-j c = search needs
+
+shared-slice-read-j : tie.Need-shared-slice-read-j Inv-loop μ-loop
+shared-slice-read-j c = search needs
+
+count-below-requires : tie.Need-count-below-requires Inv-loop μ-loop
+count-below-requires c κs = search range-walk
+
+capped-sum-requires : tie.Need-capped-sum-requires Inv-loop μ-loop
+capped-sum-requires c κs = (search needs, search count-few)
+
+add-i : tie.Need-add-i Inv-loop μ-loop
+add-i c = search needs
+
+loop-less : tie.Need-loop-less Inv-loop μ-loop
+loop-less c = search needs
+
+loop-again : tie.Need-loop-again Inv-loop μ-loop
+loop-again c = search range-again
+
+returns : tie.Need-returns Inv-loop μ-loop
+returns c = search range-end
+
+pub count-branches-spec : {M : Type 1} → statement M
+count-branches-spec =
+    tie.close
+    (tie.spec
+    Inv-loop
+    μ-loop
+    mul-a
+    add-a
+    loop-holds
+    add-j
+    add-j-2
+    mul-j
+    shared-slice-read-j
+    count-below-requires
+    capped-sum-requires
+    add-i
+    loop-less
+    loop-again
+    returns)

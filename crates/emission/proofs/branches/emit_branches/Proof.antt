@@ -1,0 +1,76 @@
+-- `branches::emit_branches` meets its contract; its loop is in RowLaws.
+use borrow.Author.Needs.{needs}
+use Prim.Native.Nat.{_-_}
+use Rattle.geometry.proofs.ArrayLaws.{of-map}
+use Rattle.emission.proofs.RowLaws.{BranchLoop, emits-on, branch-start, branch-walk, branch-room, branch-again, branch-end}
+use Rattle.emission.proofs.branches.emit_branches.Statement.{statement}
+use Rattle.emission.proofs.branches.emit_branches.Tie as tie
+
+abbrev Inv-loop : tie.InvT-loop
+Inv-loop m level k from to sides work₀ a out₀ i₀ work out i = BranchLoop level m k from to sides work₀ out₀ i work out
+
+abbrev μ-loop : tie.MeasureT-loop
+μ-loop m level k from to sides work₀ a out₀ i₀ work out i = to - i
+
+mul-a : tie.Need-mul-a Inv-loop μ-loop
+mul-a c = search needs
+
+add-a : tie.Need-add-a Inv-loop μ-loop
+add-a c = search needs
+
+loop-holds : tie.Need-loop-holds Inv-loop μ-loop
+loop-holds c = search (branch-start, of-map)
+
+add-j : tie.Need-add-j Inv-loop μ-loop
+add-j c = search needs
+
+add-j-2 : tie.Need-add-j-2 Inv-loop μ-loop
+add-j-2 c = search needs
+
+mul-j : tie.Need-mul-j Inv-loop μ-loop
+mul-j c = search needs
+
+shared-slice-read-j : tie.Need-shared-slice-read-j Inv-loop μ-loop
+shared-slice-read-j c = search needs
+
+emit-below-requires : tie.Need-emit-below-requires Inv-loop μ-loop
+emit-below-requires c κs = (search branch-walk, search branch-room)
+
+with-top-requires : tie.Need-with-top-requires Inv-loop μ-loop
+with-top-requires c κs = (search emits-on, search needs)
+
+add-i : tie.Need-add-i Inv-loop μ-loop
+add-i c = search needs
+
+loop-less : tie.Need-loop-less Inv-loop μ-loop
+loop-less c = search needs
+
+loop-again : tie.Need-loop-again Inv-loop μ-loop
+loop-again c = search branch-again
+
+same-length : tie.Need-same-length Inv-loop μ-loop
+same-length c = search needs
+
+returns : tie.Need-returns Inv-loop μ-loop
+returns c = search branch-end
+
+pub emit-branches-spec : {M : Type 1} → statement M
+emit-branches-spec =
+    tie.close
+    (tie.spec
+    Inv-loop
+    μ-loop
+    mul-a
+    add-a
+    loop-holds
+    add-j
+    add-j-2
+    mul-j
+    shared-slice-read-j
+    emit-below-requires
+    with-top-requires
+    add-i
+    loop-less
+    loop-again
+    same-length
+    returns)

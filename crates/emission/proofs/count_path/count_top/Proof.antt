@@ -1,0 +1,20 @@
+-- `count_path::count_top` meets its contract; its ways out are in PathCount.
+use Rattle.emission.proofs.PathCount.{top-count, top-no-count}
+use borrow.Author.Needs.{needs}
+use Rattle.emission.proofs.count_path.count_top.Statement.{statement}
+use Rattle.emission.proofs.count_path.count_top.Tie as tie
+
+is-kept-requires : tie.Need-is-kept-requires
+is-kept-requires c κs = search needs
+
+capped-sum-requires : tie.Need-capped-sum-requires
+capped-sum-requires c κs = search needs
+
+returns : tie.Need-returns
+returns c = search top-count
+
+returns-2 : tie.Need-returns-2
+returns-2 c = search top-no-count
+
+pub count-top-spec : {M : Type 1} → statement M
+count-top-spec = tie.close (tie.spec is-kept-requires capped-sum-requires returns returns-2)

@@ -1,0 +1,105 @@
+-- `half::emit_rest` meets its contract; the laws are in RestLaws.
+use mathlib.Core.Path.{sym}
+use lib.Seq.{length-take-le}
+use Rattle.geometry.proofs.ArrayLaws.{of-map}
+use Rattle.emission.proofs.RestLaws.{behind-few, behind-fits, all-fit, rest-top-room, rest-written}
+use borrow.Author.Needs.{needs}
+use Rattle.emission.proofs.half.emit_rest.Statement.{statement}
+use Rattle.emission.proofs.half.emit_rest.Tie as tie
+
+mul-at : tie.Need-mul-at
+mul-at c = search needs
+
+mul-k : tie.Need-mul-k
+mul-k c = search needs
+
+shared-slice-read-k : tie.Need-shared-slice-read-k
+shared-slice-read-k c = search needs
+
+add-from : tie.Need-add-from
+add-from c = search needs
+
+mul-from : tie.Need-mul-from
+mul-from c = search needs
+
+shared-slice-read-from : tie.Need-shared-slice-read-from
+shared-slice-read-from c = search needs
+
+cast-from : tie.Need-cast-from
+cast-from c = search needs
+
+add-from-2 : tie.Need-add-from-2
+add-from-2 c = search needs
+
+cast-a : tie.Need-cast-a
+cast-a c = search needs
+
+mul-a : tie.Need-mul-a
+mul-a c = search needs
+
+add-a : tie.Need-add-a
+add-a c = search needs
+
+add-to : tie.Need-add-to
+add-to c = search needs
+
+mul-to : tie.Need-mul-to
+mul-to c = search needs
+
+shared-slice-read-to : tie.Need-shared-slice-read-to
+shared-slice-read-to c = search needs
+
+cast-to : tie.Need-cast-to
+cast-to c = search needs
+
+sub-emit-branches : tie.Need-sub-emit-branches
+sub-emit-branches c = search needs
+
+emit-branches-requires : tie.Need-emit-branches-requires
+emit-branches-requires c κs = (search needs, search needs, search needs, search behind-few, search behind-fits)
+
+path-polygon-requires : tie.Need-path-polygon-requires
+path-polygon-requires c κs = search needs
+
+array-share-prefix-parts : tie.Need-array-share-prefix-parts
+array-share-prefix-parts c = all-fit _ _ _ (c .before .before .before .before .before .before .before .before .before .before .before .before .before .pre .0) _ (c .before .before .before .before .before .before .before .before .before .before .before .before .before .pre .1) _ _ _ _ (c .before .before .before .before .emit-branches .ensures) (search of-map)
+
+slice-aggregate-emit-top : tie.Need-slice-aggregate-emit-top
+slice-aggregate-emit-top c = sym (length-take-le _ _ (all-fit _ _ _ (c .before .before .before .before .before .before .before .before .before .before .before .before .before .before .pre .0) _ (c .before .before .before .before .before .before .before .before .before .before .before .before .before .before .pre .1) _ _ _ _ (c .before .before .before .before .before .emit-branches .ensures) (search of-map)))
+
+emit-top-requires : tie.Need-emit-top-requires
+emit-top-requires c κs = (search needs, rest-top-room _ _ _ (c .before .before .before .before .before .before .before .before .before .before .before .before .before .before .before .pre .0) _ (c .before .before .before .before .before .before .before .before .before .before .before .before .before .before .before .pre .1) _ _ _ _ (c .before .before .before .before .before .before .emit-branches .ensures) (c .before .before .before .before .before .before .before .before .before .before .before .before .before .before .before .pre .2))
+
+same-length : tie.Need-same-length
+same-length c = search needs
+
+returns : tie.Need-returns
+returns c = rest-written _ _ _ (c .before .before .before .before .before .before .before .before .before .before .before .before .before .before .before .before .before .before .pre .0) _ (c .before .before .before .before .before .before .before .before .before .before .before .before .before .before .before .before .before .before .pre .1) _ _ _ _ (c .before .before .before .before .before .before .before .before .before .emit-branches .ensures) _ _ _ (c .before .before .before .before .before .before .path-polygon .ensures) (c .before .before .emit-top .ensures)
+
+pub emit-rest-spec : {M : Type 1} → statement M
+emit-rest-spec =
+    tie.close
+    (tie.spec
+    mul-at
+    mul-k
+    shared-slice-read-k
+    add-from
+    mul-from
+    shared-slice-read-from
+    cast-from
+    add-from-2
+    cast-a
+    mul-a
+    add-a
+    add-to
+    mul-to
+    shared-slice-read-to
+    cast-to
+    sub-emit-branches
+    emit-branches-requires
+    path-polygon-requires
+    array-share-prefix-parts
+    slice-aggregate-emit-top
+    emit-top-requires
+    same-length
+    returns)

@@ -1,0 +1,92 @@
+-- Nodes as the emission writes them one after another: the branches of a routing node, then the node on top of them.
+use Prim.Native.Nat.{ℕ, suc, _+_, _*_, _-_, _≤_, _<_}
+use mathlib.Core.Bool.{Bool, true, not, cond}
+use mathlib.Core.List.{List, [], _∷_, _++_, flatMap}
+use mathlib.Core.Path.{_≡_}
+use lib.Dec.{eqb}
+use lib.ListN.{length, take, drop, getD, set, replicate}
+use Rattle.geometry.specs.declared.rect.Rect.{Rect}
+use Rattle.tree.specs.Lists.{total}
+use Rattle.tree.specs.Nodes.{Item, nodes}
+use Rattle.tree.specs.Plan.{clips}
+use Rattle.tree.specs.Pass.{deep}
+use Rattle.plane.specs.Plane.{planeSpace}
+use Rattle.memory.specs.Image.{nodePart, emitRow, emitNode}
+use Rattle.index.specs.Answers.{fanout}
+use Rattle.index.specs.Walks.{Walkable, countAt}
+use Rattle.sides.specs.Sides.{sidesOf}
+use Rattle.emission.specs.declared.tops.Tops.{Tops}
+use Rattle.emission.specs.Emits.{Emits}
+use Rattle.emission.specs.Path.{partOn, placeOn, rowAt}
+
+-- A level of the path above the leaf, with what its node's branches need: they are one level lower.
+pub record PathStep (level : ℕ) (path m : List ℕ) : Type 0 where
+  pub some : 1 ≤ level
+  pub walk : Walkable (suc (level - 1)) m 0 (partOn path level)
+  pub room : 68 * level + 68 ≤ length path
+  pub few : getD path (68 * level + 3) 0 ≤ 16
+  pub place : placeOn path level < countAt m (partOn path level)
+
+-- whether a node with so many items under sides is written: 'a half without entries is dropped'
+unfoldable pub kept : List ℕ → ℕ → Bool
+kept [] count = true
+kept (s ∷ ss) count = not (eqb count 0)
+
+-- how many parts the node takes, and their numbers
+unfoldable pub topParts : List ℕ → ℕ → ℕ
+topParts ss count = cond (kept ss count) 1 0
+
+unfoldable pub topNumbers : List Rect → List ℕ → ℕ → List ℕ → List ℕ
+topNumbers p ss count items = cond (kept ss count) (nodePart (clips (planeSpace fanout) (sidesOf ss) p) count items) []
+
+-- A node with the polygon p under sides and these items was written to w at part next, if it is kept, which gives w'; r is the next free part.
+pub record TopWritten (p : List Rect) (ss : List ℕ) (count : ℕ) (items w : List ℕ) (next : ℕ) (w' : List ℕ) (r : ℕ) : Type 0 where
+  pub next-is : r ≡ next + topParts ss count
+  pub written : take (64 + 128 * r) w' ≡ take (64 + 128 * next) w ++ topNumbers p ss count items
+  pub same-length : length w' ≡ length w
+
+-- The node fits into w at part next.
+pub record TopRoom (ss : List ℕ) (count : ℕ) (items w : List ℕ) (next : ℕ) : Type 0 where
+  pub fits : 64 + 128 * (next + topParts ss count) ≤ length w
+  pub small : length w ≤ 32832
+  pub few : length items ≤ 62
+  pub few-items : count ≤ 62
+
+-- the top nodes with one more, where parts were written up to the part after; the same where none were
+unfoldable pub topped : Tops → ℕ → Tops
+topped t after =
+    cond (eqb after (t .next)) t
+    (record { next = after; count = t .count + 1; parts = set (t .parts) (t .count) (after - 1) })
+
+-- no top node, before the part next is written
+abbrev pub noTops : ℕ → Tops
+noTops next = record { next = next; count = 0; parts = replicate 9 0 }
+
+-- Some branches were written to w behind those with the top nodes t, which gives w' and the top nodes t'.
+pub record Grows (n : ℕ) (w : List ℕ) (t : Tops) (bs : List (Item (planeSpace fanout) (suc n))) (w' : List ℕ) (t' : Tops) : Type 0 where
+  pub emits : Emits n w (t .next) bs w' (t' .next)
+  pub count-is : t' .count ≡ t .count + length bs
+  pub tops-are : take (t' .count) (t' .parts) ≡ take (t .count) (t .parts) ++ emitRow (emitNode fanout n) (t .next) bs .tops
+
+-- what is left under sides of the branches of the node at part k from the a-th to before the b-th
+unfoldable pub rangeUnder : (n : ℕ) → List ℕ → ℕ → ℕ → ℕ → List ℕ → List (Item (planeSpace fanout) (suc n))
+rangeUnder n m k a b ss = flatMap (deep (planeSpace fanout) (suc n) (sidesOf ss)) (take (b - a) (drop a (rowAt n m k)))
+
+-- the same of the branches before the place of the path at a level, and of those behind it; their level is one lower
+abbrev pub beforeOn : (n : ℕ) → List ℕ → List ℕ → List ℕ → List (Item (planeSpace fanout) (suc (n - 1)))
+beforeOn n path m ss = rangeUnder (n - 1) m (partOn path n) 0 (placeOn path n) ss
+
+abbrev pub behindOn : (n : ℕ) → List ℕ → List ℕ → List ℕ → List (Item (planeSpace fanout) (suc (n - 1)))
+behindOn n path m ss = rangeUnder (n - 1) m (partOn path n) (placeOn path n + 1) (countAt m (partOn path n)) ss
+
+-- The last branches of a node were written to w behind those with the top nodes t, and then the node itself, which gives w'.
+pub record RestWritten (n : ℕ) (p : List Rect) (ss : List ℕ) (bs : List (Item (planeSpace fanout) (suc n))) (w : List ℕ) (t : Tops) (w' : List ℕ) (r : ℕ) : Type 0 where
+  pub mid : List ℕ
+  pub all : Tops
+  pub branches : Grows n w t bs mid all
+  pub top : TopWritten p ss (all .count) (take (all .count) (all .parts)) mid (all .next) w' r
+
+-- Those branches and the node fit into w.
+pub record RestRoom (n : ℕ) (ss : List ℕ) (bs : List (Item (planeSpace fanout) (suc n))) (w : List ℕ) (t : Tops) : Type 0 where
+  pub fits : 64 + 128 * (t .next + total (nodes (planeSpace fanout) (suc n)) bs + topParts ss (t .count + length bs)) ≤ length w
+  pub small : length w ≤ 32832

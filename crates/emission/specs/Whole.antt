@@ -1,0 +1,24 @@
+-- The whole tree written into a work area.
+use Prim.Native.Nat.{ℕ, suc, _+_, _*_, _≤_}
+use mathlib.Core.List.{List, _++_, flatMap}
+use mathlib.Core.Option.{some}
+use mathlib.Core.Path.{_≡_}
+use lib.ListN.{length, take, drop}
+use Rattle.tree.specs.Tree.{Tree, top, nodeCount}
+use Rattle.plane.specs.Plane.{planeSpace}
+use Rattle.memory.specs.Image.{emitNode}
+use Rattle.index.specs.Answers.{fanout}
+use Rattle.emission.specs.declared.whole.Emitted.{Emitted}
+
+-- The nodes of a tree fit into the work area.
+pub record TreeRoom (w : List ℕ) (t : Tree (planeSpace fanout)) : Type 0 where
+  pub fits : 64 + 128 * nodeCount (planeSpace fanout) (some t) ≤ length w
+  pub small : length w ≤ 32832
+
+-- The nodes of a tree were written to w, which gives w'.
+pub record TreeEmitted (w : List ℕ) (t : Tree (planeSpace fanout)) (w' : List ℕ) (r : Emitted) : Type 0 where
+  pub parts-is : r .parts ≡ nodeCount (planeSpace fanout) (some t)
+  pub height-is : r .height ≡ suc (t .level)
+  -- the parts behind the first 64 numbers, which are as they were
+  pub written : take (64 + 128 * r .parts) w' ≡ take 64 w ++ flatMap (λ p. p) (emitNode fanout (t .level) 0 (top (planeSpace fanout) t))
+  pub same-length : length w' ≡ length w

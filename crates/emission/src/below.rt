@@ -1,0 +1,100 @@
+// What is off the path, written under sides: whole subtrees, nodes without entries left out.
+ghost use Prim.Native.Nat.{_≤_};
+ghost use mathlib.Core.List.{[]};
+ghost use lib.ListN.{length};
+ghost use Rattle.index.specs.Check.{NodePart};
+ghost use Rattle.index.specs.Walks.{Walkable};
+ghost use Rattle.emission.specs.Emits.{Emits, Room, deepAt};
+ghost use Rattle.emission.specs.Leaves.{leafUnder};
+use crate::copies::copy_node;
+use crate::copies::copy_part;
+use crate::leaf::gather;
+use crate::node::put_left;
+
+// Copies the subtree at part k, whose parts are those from lo on, into the parts of the work area from next on; answers the next free part.
+// Only the numbers of a node's children change: they are the parts that the children were copied to.
+pub fn copy_below(m: &[u32], level: u32, lo: u32, k: u32, work: &mut [u32], next: u32) -> u32
+    requires { ⌜ Walkable level (now m) lo k × Room level (now work) next (deepAt level (now m) lo k []) ⌝ }
+    ensures { λ r. ⌜ Emits level (now (work .entry)) next (deepAt level (now (m .entry)) lo k []) (now (work .exit)) r ⌝ }
+{
+    let a = 64 + 128 * (k as usize);
+    let e = a + 128;
+    if level == 0 {
+        copy_part(&m[a..e], work, next);
+        return next + 1;
+    }
+    let n = m[a + 1] as usize;
+    let mut tops = [0u32; 8];
+    let mut free = next;
+    let mut low = lo;
+    let mut i = 0;
+    while i < n {
+        let j = m[a + 66 + i];
+        free = copy_below(m, level - 1, low, j, work, free);
+        tops[i] = free - 1;
+        low = j + 1;
+        i += 1;
+    }
+    copy_node(&m[a..e], &tops[..n], work, free);
+    free + 1
+}
+
+// Writes what is left of a leaf under the sides, of which there are some; answers the next free part.
+fn emit_leaf(p: &[u32], sides: &[u32], work: &mut [u32], next: u32) -> u32
+    requires { ⌜ NodePart (now p) × (1 ≤ length (now sides)) × Room 0 (now work) next (leafUnder (now sides) (now p)) ⌝ }
+    ensures { λ r. ⌜ Emits 0 (now (work .entry)) next (leafUnder (now (sides .entry)) (now (p .entry))) (now (work .exit)) r ⌝ }
+{
+    let mut items = [0u32; 24];
+    let count = gather(p, sides, &mut items);
+    if count == 0 {
+        return next;
+    }
+    let end = 3 * count;
+    put_left(p, sides, count as u32, &items[..end], work, next);
+    next + 1
+}
+
+// Writes what is left of the subtree at part k under the sides; answers the next free part.
+pub fn emit_below(
+    m: &[u32],
+    level: u32,
+    lo: u32,
+    k: u32,
+    sides: &[u32],
+    work: &mut [u32],
+    next: u32,
+) -> u32
+    requires { ⌜ Walkable level (now m) lo k × Room level (now work) next (deepAt level (now m) lo k (now sides)) ⌝ }
+    ensures { λ r. ⌜ Emits level (now (work .entry)) next (deepAt level (now (m .entry)) lo k (now (sides .entry))) (now (work .exit)) r ⌝ }
+{
+    if sides.len() == 0 {
+        return copy_below(m, level, lo, k, work, next);
+    }
+    let a = 64 + 128 * (k as usize);
+    let e = a + 128;
+    if level == 0 {
+        return emit_leaf(&m[a..e], sides, work, next);
+    }
+    let n = m[a + 1] as usize;
+    let mut tops = [0u32; 8];
+    let mut count = 0;
+    let mut free = next;
+    let mut low = lo;
+    let mut i = 0;
+    while i < n {
+        let j = m[a + 66 + i];
+        let after = emit_below(m, level - 1, low, j, sides, work, free);
+        if after != free {
+            tops[count] = after - 1;
+            count += 1;
+        }
+        free = after;
+        low = j + 1;
+        i += 1;
+    }
+    if count == 0 {
+        return free;
+    }
+    put_left(&m[a..e], sides, count as u32, &tops[..count], work, free);
+    free + 1
+}

@@ -1,0 +1,111 @@
+-- The claim about every list of calls that kept their contracts, from a fresh memory.
+use Prim.Native.Nat.{ℕ, _+_, _*_, _≤_}
+use mathlib.Core.List.{List, [], _∷_}
+use mathlib.Core.Option.{none}
+use mathlib.Core.Path.{refl, sym, ap, _∙_, subst}
+use native.Mathlib.Omega.{arith}
+use lib.ListN.{length, length-replicate}
+use Rattle.tree.specs.Lists.{All}
+use Rattle.tree.specs.Record.{recordOf}
+use Rattle.tree.specs.Calls.{insertCall, removeCall, clearCall, pointCall, windowCall}
+use Rattle.tree.proofs.Claim.{index-claim}
+use Rattle.plane.specs.Lines.{CellEntry}
+use Rattle.plane.specs.Plane.{planeSpace, planeRoot}
+use Rattle.plane.specs.Windows.{planeWindow}
+use Rattle.plane.proofs.Rects.{plane-space-laws}
+use Rattle.plane.proofs.Roots.{plane-root-laws}
+use Rattle.plane.proofs.Steps.{plane-steps}
+use Rattle.memory.proofs.ReadingLaws.{fresh}
+use Rattle.index.specs.Answers.{fanout, PlaneIndex}
+use Rattle.history.specs.Calls.{IndexCall, Made, accepted, fed, freshMemory, Linked, recordFrom}
+use Rattle.history.specs.Contract.{KeptBy, Kept}
+use Rattle.history.specs.Defined.{indexAfter, AsDefined}
+use Rattle.history.specs.Claim.{ReportedAll, PointVisits, visitsTold, VisitsExact, HistoryClaim}
+use Rattle.history.proofs.Answers.{Holds}
+use Rattle.history.proofs.Steps.{stepped, as-defined, holds-after}
+use Rattle.history.proofs.States.{PlaneState, one-fits, two-fit, goes, Goes}
+use Rattle.history.proofs.Visits.{point-visits}
+
+-- The memory m holds an index that goes with the record r.
+pub record Agrees (N : ℕ) (m : List ℕ) (r : List CellEntry) : Type 0 where
+  pub index : PlaneIndex
+  pub holds : Holds N m index
+  pub state : PlaneState N index r
+
+-- A fresh memory goes with the empty record.
+pub fresh-agrees : (N : ℕ) → 1 ≤ N → N ≤ 256 → Agrees N (freshMemory N) []
+fresh-agrees N a b = record {
+  index = none;
+  holds = record { some-parts = a; few-parts = b; length-is = length-replicate (64 + 128 * N) 0; reads = fresh fanout N a b };
+  state = record { sound = tt; room = omega arith; same = λ q. refl };
+}
+
+-- What one call comes to.
+pub record CallClaim (N : ℕ) (r : List CellEntry) (d : Made) : Type 0 where
+  pub defined : AsDefined N d
+  pub report : ReportedAll r (d ∷ [])
+  pub agrees : Agrees N (d .after) (fed r (d .call) (accepted (d .told)))
+
+pub call-claim : (N : ℕ) (r : List CellEntry) (d : Made) → Agrees N (d .before) r → Kept d → CallClaim N r d
+unfolding ReportedAll
+call-claim N r d g p =
+    let s = stepped N (g .index) d (g .holds) p in
+    let t = subst (Goes N (g .index) (length (d .lent)) r (d .call) (indexAfter N (g .index) (d .call) (length (d .lent)))) (sym (s .answer)) (goes N (g .index) (length (d .lent)) r (d .call) (g .state)) in
+    record {
+      defined = as-defined N (g .index) d (g .holds) s;
+      report = (t .report, tt);
+      agrees = record { index = indexAfter N (g .index) (d .call) (length (d .lent)); holds = holds-after N (g .index) d (g .holds) s; state = t .state };
+    }
+
+-- A list of calls.
+pub record ListClaim (N : ℕ) (r : List CellEntry) (ds : List Made) (m : List ℕ) : Type 0 where
+  pub defined : All (AsDefined N) ds
+  pub reported : ReportedAll r ds
+  pub agrees : Agrees N m (recordFrom r ds)
+
+pub list-claim : (N : ℕ) (ds : List Made) (r : List CellEntry) (m m′ : List ℕ) → Agrees N m r → All Kept ds → Linked m ds m′ → ListClaim N r ds m′
+unfolding All Linked ReportedAll recordOf
+list-claim N [] r m m′ g p l = record { defined = tt; reported = tt; agrees = subst (λ x. Agrees N x r) (sym l) g }
+list-claim N (d ∷ ds) r m m′ g p l =
+    let c = call-claim N r d (subst (λ x. Agrees N x r) (sym (l .0)) g) (p .0) in
+    let n = list-claim N ds (fed r (d .call) (accepted (d .told))) (d .after) m′ (c .agrees) (p .1) (l .1) in
+    record { defined = (c .defined, n .defined); reported = (c .report .0, n .reported); agrees = n .agrees }
+
+-- An accepted point query, on any memory.
+visits-by : (k : IndexCall) (d : Made) → KeptBy k d → PointVisits k (d .before) (d .told)
+visits-by (insertCall e) d p = tt
+visits-by (removeCall c) d p = tt
+visits-by clearCall d p = tt
+visits-by (pointCall c) d p = λ f. subst (λ t. VisitsExact (d .before) c (visitsTold t)) (sym (p .told)) (point-visits (d .before) c (ap accepted (sym (p .told)) ∙ f))
+visits-by (windowCall w) d p = tt
+
+pub call-visits : (d : Made) → Kept d → PointVisits (d .call) (d .before) (d .told)
+call-visits d p = visits-by (d .call) d p
+
+pub all-visits : (ds : List Made) → All Kept ds → All (λ d. PointVisits (d .call) (d .before) (d .told)) ds
+unfolding All
+all-visits [] p = tt
+all-visits (d ∷ ds) p = (call-visits d (p .0), all-visits ds (p .1))
+
+-- Demand 3.
+pub kept-history : (N : ℕ) → 1 ≤ N → N ≤ 256 → (ds : List Made) (m : List ℕ) → All Kept ds → Linked (freshMemory N) ds m → HistoryClaim N ds m
+kept-history N a b ds m p l =
+    let c = list-claim N ds [] (freshMemory N) m (fresh-agrees N a b) p l in
+    let g = c .agrees in
+    let t = index-claim (planeSpace fanout) (plane-space-laws fanout) (plane-steps fanout one-fits) (planeRoot fanout) (plane-root-laws fanout) two-fit (planeWindow fanout) N (g .index) (recordFrom [] ds) (g .state) in
+    record {
+      answers = c .defined;
+      index = g .index;
+      reads = g .holds .reads;
+      sound = t .sound;
+      room = t .room;
+      separate = t .separate;
+      within = t .within;
+      deep = t .deep;
+      entries-same = t .entries-same;
+      entries-once = t .entries-once;
+      one-leaf = t .one-leaf;
+      covers = t .covers;
+      reported = c .reported;
+      visits = all-visits ds p;
+    }

@@ -1,0 +1,12 @@
+pub mod Answers
+pub mod Effects
+pub mod Steps
+pub mod States
+pub mod Visits
+pub mod History
+pub mod Shipped
+pub mod ReplyWays
+pub mod CodedWays
+pub mod CallWays
+pub mod ReplayLoop
+pub mod Sample

@@ -1,0 +1,56 @@
+-- Document 01's sample for the line program, from the definitions: its nine commands get the numbers and values that its output lines print.
+use mathlib.Core.List.{List, [], _∷_, flatMap}
+use mathlib.Core.Option.{none, bind}
+use mathlib.Core.Path.{_≡_, refl}
+use Rattle.geometry.specs.Cells.{onGrid, valid, hasCell, nonEmpty}
+use Rattle.geometry.specs.Common.{overlap, sharesWith}
+use Rattle.geometry.specs.Grow.{grown}
+use Rattle.tree.specs.Lists.{keep, total}
+use Rattle.tree.specs.Search.{any}
+use Rattle.tree.specs.Boxes.{anyHas}
+use Rattle.tree.specs.Nodes.{held, nodes}
+use Rattle.tree.specs.Split.{split}
+use Rattle.tree.specs.Depth.{itemPolygons}
+use Rattle.tree.specs.Insert.{insertAt, insertTree}
+use Rattle.tree.specs.Remove.{prune}
+use Rattle.plane.specs.Plane.{cellRect}
+use Rattle.plane.specs.Windows.{meets}
+use Rattle.tree.specs.Calls.{insertCall, removeCall, clearCall, pointCall, windowCall, answer, after}
+use Rattle.index.specs.Answers.{PlaneIndex}
+use Rattle.index.specs.Changes.{entryOf}
+use Rattle.index.specs.Numbers.{Told, refusal, accepts}
+use Rattle.history.specs.Coded.{cellOf, rectOf}
+use Rattle.history.specs.Calls.{IndexCall}
+use Rattle.history.specs.Defined.{early, toldOf, toldOn, indexAfter}
+
+-- the answers to a list of calls on an index of 64 parts, each lent a list as long as the index
+unfoldable pub toldAll : PlaneIndex → List IndexCall → List Told
+toldAll i [] = []
+toldAll i (k ∷ ks) = toldOn 64 i k 8256 ∷ toldAll (indexAfter 64 i k 8256) ks
+
+abbrev pub sample-input : List IndexCall
+sample-input =
+    insertCall (entryOf (cellOf 10 10) 7)
+    ∷ insertCall (entryOf (cellOf 20 12) 9)
+    ∷ pointCall (cellOf 20 12)
+    ∷ pointCall (cellOf 15 11)
+    ∷ insertCall (entryOf (cellOf 10 10) 8)
+    ∷ windowCall (rectOf 10 10 20 13)
+    ∷ removeCall (cellOf 10 10)
+    ∷ clearCall
+    ∷ pointCall (cellOf 20 12)
+    ∷ []
+
+pub sample : toldAll none sample-input
+    ≡ accepts (1 ∷ [])
+    ∷ accepts (2 ∷ [])
+    ∷ accepts (1 ∷ 1 ∷ 9 ∷ [])
+    ∷ accepts (0 ∷ 1 ∷ [])
+    ∷ refusal 5
+    ∷ accepts (1 ∷ 1 ∷ [])
+    ∷ accepts (1 ∷ [])
+    ∷ accepts (0 ∷ [])
+    ∷ accepts (0 ∷ 0 ∷ [])
+    ∷ []
+unfolding toldAll toldOn indexAfter early toldOf answer after onGrid any insertTree total nodes flatMap held bind insertAt split keep valid itemPolygons hasCell prune anyHas meets grown sharesWith cellRect nonEmpty overlap
+sample = refl

@@ -1,0 +1,155 @@
+-- Demand 3 of the shipped functions themselves. A step is a call of one of them that has returned: its lifetimes, its arguments, its
+-- result and the lists it was lent when it returned, with the function's own contract of these (`Post`), quoted and not restated.
+use Prim.Native.Nat.{ℕ, _≤_}
+use mathlib.Core.Bool.{true}
+use mathlib.Core.Option.{some}
+use mathlib.Core.Path.{_≡_, refl, ap, _∙_}
+use mathlib.Core.List.{List, [], _∷_, map}
+use contract.Lifetimes.{Lfts}
+use denote.Ref.{now}
+use borrow.Fn.Kinds.{endedOf}
+use denote.Triple.Clauses.{AtExit}
+use borrow.Fn.World.{ArgsD, ResD}
+use Rattle.geometry.specs.Cells.{onGrid}
+use Rattle.tree.specs.Lists.{All}
+use Rattle.tree.specs.Calls.{insertCall, removeCall, clearCall, pointCall, windowCall}
+use Rattle.memory.specs.Reading.{reading}
+use Rattle.index.specs.Answers.{fanout, PlaneIndex}
+use Rattle.index.specs.Changes.{entryOf}
+use Rattle.index.specs.declared.answer.PointFound.{PointFound}
+use Rattle.index.specs.Numbers.{insertTold, removeTold, clearTold, pointTold, windowTold}
+use Rattle.history.specs.Calls.{Made, accepted, freshMemory, Linked}
+use Rattle.history.specs.Contract.{Kept}
+use Rattle.history.specs.Claim.{visitsTold, VisitsExact, HistoryClaim}
+use Rattle.history.proofs.History.{kept-history, call-visits}
+use Rattle.history.proofs.Visits.{point-accepts}
+use Rattle.index.proofs.clear as clear-fn
+use Rattle.index.proofs.clear.Reads as clear
+use Rattle.index.proofs.clear.Kinds as clear-kinds
+use Rattle.index.proofs.point as point-fn
+use Rattle.index.proofs.point.Reads as point
+use Rattle.index.proofs.point.Kinds as point-kinds
+use Rattle.index.proofs.window as window-fn
+use Rattle.index.proofs.window.Reads as window
+use Rattle.index.proofs.window.Kinds as window-kinds
+use Rattle.removal.proofs.remove as remove-fn
+use Rattle.removal.proofs.remove.Reads as remove
+use Rattle.removal.proofs.remove.Kinds as remove-kinds
+use Rattle.insertion.proofs.insert as insert-fn
+use Rattle.insertion.proofs.insert.Reads as insert
+use Rattle.insertion.proofs.insert.Kinds as insert-kinds
+
+-- A call of `insert`: the index, the work area, the cell, the tag.
+pub record Insert : Type 0 where
+  pub κs : Lfts 2
+  pub args : ArgsD insert-fn.signature κs
+  pub out : ResD insert-fn.signature κs
+  pub exits : AtExit (endedOf 2 insert-kinds.ps insert-kinds.r) κs
+  pub meets : insert.Post κs args out exits
+
+-- A call of `remove`: the index, the cell.
+pub record Remove : Type 0 where
+  pub κs : Lfts 1
+  pub args : ArgsD remove-fn.signature κs
+  pub out : ResD remove-fn.signature κs
+  pub exits : AtExit (endedOf 1 remove-kinds.ps remove-kinds.r) κs
+  pub meets : remove.Post κs args out exits
+
+-- A call of `clear`: the index.
+pub record Clear : Type 0 where
+  pub κs : Lfts 1
+  pub args : ArgsD clear-fn.signature κs
+  pub out : ResD clear-fn.signature κs
+  pub exits : AtExit (endedOf 1 clear-kinds.ps clear-kinds.r) κs
+  pub meets : clear.Post κs args out exits
+
+-- A call of `point`: the index, to read only, and the cell.
+pub record Point : Type 0 where
+  pub κs : Lfts 1
+  pub args : ArgsD point-fn.signature κs
+  pub out : ResD point-fn.signature κs
+  pub exits : AtExit (endedOf 1 point-kinds.ps point-kinds.r) κs
+  pub meets : point.Post κs args out exits
+
+-- A call of `window`: the index, to read only, the window, the result list.
+pub record Window : Type 0 where
+  pub κs : Lfts 2
+  pub args : ArgsD window-fn.signature κs
+  pub out : ResD window-fn.signature κs
+  pub exits : AtExit (endedOf 2 window-kinds.ps window-kinds.r) κs
+  pub meets : window.Post κs args out exits
+
+pub data Step : Type 0 where
+  inserts : Insert → Step
+  removes : Remove → Step
+  clears : Clear → Step
+  points : Point → Step
+  windows : Window → Step
+
+-- What a step was handed, and what came of it. A step that is lent the index to read only leaves it as it is.
+abbrev pub made : Step → Made
+made (inserts s) = record {
+  call = insertCall (entryOf (s .args .1 .1 .0) (s .args .1 .1 .1 .0));
+  before = now (s .args .0);
+  after = now (s .exits .0);
+  lent = now (s .args .1 .0);
+  left = now (s .exits .1 .0);
+  told = insertTold (s .out);
+}
+made (removes s) = record {
+  call = removeCall (s .args .1 .0);
+  before = now (s .args .0);
+  after = now (s .exits .0);
+  lent = [];
+  left = [];
+  told = removeTold (s .out);
+}
+made (clears s) = record {
+  call = clearCall;
+  before = now (s .args .0);
+  after = now (s .exits .0);
+  lent = [];
+  left = [];
+  told = clearTold (s .out);
+}
+made (points s) = record {
+  call = pointCall (s .args .1 .0);
+  before = now (s .args .0);
+  after = now (s .args .0);
+  lent = [];
+  left = [];
+  told = pointTold (s .out);
+}
+made (windows s) = record {
+  call = windowCall (s .args .1 .0);
+  before = now (s .args .0);
+  after = now (s .args .0);
+  lent = now (s .args .1 .1 .0);
+  left = now (s .exits .1 .1 .0);
+  told = windowTold (s .out);
+}
+
+-- A step's own contract is what the claim rests on.
+kept : (s : Step) → Kept (made s)
+kept (inserts s) = record { result = s .out; told = refl; contract = s .meets }
+kept (removes s) = record { result = s .out; told = refl; contract = s .meets; list = refl }
+kept (clears s) = record { told = ap clearTold (s .meets .0); memory = s .meets .1; list = refl }
+kept (points s) = record { told = ap pointTold (s .meets); memory = refl; list = refl }
+kept (windows s) = record { result = s .out; told = refl; contract = s .meets; memory = refl }
+
+all-kept : (ss : List Step) → All Kept (map made ss)
+unfolding All
+all-kept [] = tt
+all-kept (s ∷ ss) = (kept s, all-kept ss)
+
+-- Demand 3: for every N from 1 to 256, every list of calls from a fresh memory, each handed the memory that the last one left.
+pub history : (N : ℕ) → 1 ≤ N → N ≤ 256 → (ss : List Step) (m : List ℕ) → Linked (freshMemory N) (map made ss) m → HistoryClaim N (map made ss) m
+history N a b ss m l = kept-history N a b (map made ss) m (all-kept ss) l
+
+-- "or on any other sound index": on every memory that holds an index, a point query of a cell on the grid is accepted,
+pub point-on-sound : (s : Point) (i : PlaneIndex) → reading fanout (now (s .args .0)) ≡ some i → onGrid (s .args .1 .0) ≡ true → accepted (pointTold (s .out)) ≡ true
+point-on-sound s i e g = ap (λ (x : PointFound). accepted (pointTold x)) (s .meets) ∙ point-accepts (now (s .args .0)) (s .args .1 .0) i e g
+
+-- and the visits of an accepted one are exact and at most the height, whatever memory it was handed.
+pub point-exact : (s : Point) → accepted (pointTold (s .out)) ≡ true → VisitsExact (now (s .args .0)) (s .args .1 .0) (visitsTold (pointTold (s .out)))
+point-exact s = call-visits (made (points s)) (kept (points s))

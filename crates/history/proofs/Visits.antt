@@ -1,0 +1,67 @@
+-- Visits of an accepted point query, on any memory.
+use Prim.Native.Nat.{ℕ}
+use mathlib.Core.Bool.{Bool, true, false, cond, false≢true}
+use mathlib.Core.List.{List}
+use mathlib.Core.Option.{Option, none, some}
+use mathlib.Core.Path.{_≡_, refl}
+use Rattle.geometry.specs.declared.rect.Cell.{Cell}
+use Rattle.geometry.specs.Cells.{onGrid}
+use Rattle.tree.specs.Tree.{Sound}
+use Rattle.tree.specs.Query.{entryAt, visits}
+use Rattle.tree.proofs.Visits.{visits-height}
+use Rattle.plane.specs.Lines.{CellEntry}
+use Rattle.plane.specs.Plane.{planeSpace, planeRoot}
+use Rattle.plane.proofs.Rects.{plane-space-laws}
+use Rattle.memory.specs.Layout.{rightLength}
+use Rattle.memory.specs.Reading.{reading}
+use Rattle.memory.proofs.ReadingLaws.{read-empty, read-sound}
+use Rattle.index.specs.Answers.{fanout, PlaneIndex, pointEnd, pointRead, pointAnswer}
+use Rattle.index.specs.Numbers.{pointTold}
+use Rattle.index.specs.declared.answer.PointFound.the-variants as P
+use Rattle.history.specs.Calls.{accepted}
+use Rattle.history.specs.Claim.{visitsTold, VisitsExact}
+
+-- an index that a memory reads as is sound
+pub reads-sound : (m : List ℕ) (i : PlaneIndex) → reading fanout m ≡ some i → Sound (planeSpace fanout) (planeRoot fanout) i
+reads-sound m none e = tt
+reads-sound m (some t) e = read-sound fanout m t e .sound
+
+-- and its memory has a right length
+reads-right : (m : List ℕ) (i : PlaneIndex) → reading fanout m ≡ some i → rightLength m ≡ true
+reads-right m none e = read-empty fanout m e .0
+reads-right m (some t) e = read-sound fanout m t e .right
+
+-- the visits told of a point query's end, which accepts
+visits-end : (o : Option CellEntry) (v : ℕ) → visitsTold (pointTold (pointEnd o v)) ≡ v
+unfolding pointEnd
+visits-end none v = refl
+visits-end (some e) v = refl
+
+end-accepts : (o : Option CellEntry) (v : ℕ) → accepted (pointTold (pointEnd o v)) ≡ true
+unfolding pointEnd
+end-accepts none v = refl
+end-accepts (some e) v = refl
+
+-- a point query of a cell on the grid is accepted on every memory that holds an index
+pub point-accepts : (m : List ℕ) (c : Cell) (i : PlaneIndex) → reading fanout m ≡ some i → onGrid c ≡ true → accepted (pointTold (pointAnswer m c)) ≡ true
+unfolding pointAnswer pointRead
+point-accepts m c i e g = rw (reads-right m i e, g, e) (end-accepts (entryAt (planeSpace fanout) c i) (visits (planeSpace fanout) c i))
+
+-- an accepted point query on any memory: that memory holds an index, and its visits are exact and at most the height
+pub point-visits : (m : List ℕ) (c : Cell) → accepted (pointTold (pointAnswer m c)) ≡ true → VisitsExact m c (visitsTold (pointTold (pointAnswer m c)))
+unfolding pointAnswer pointRead
+point-visits m c f = go (rightLength m) (onGrid c) (reading fanout m) refl f
+  where
+    go : (a b : Bool) (o : Option PlaneIndex) → reading fanout m ≡ o → accepted (pointTold (cond a (cond b (pointRead c o) P.OffGrid) P.WrongLength)) ≡ true
+        → VisitsExact m c (visitsTold (pointTold (cond a (cond b (pointRead c o) P.OffGrid) P.WrongLength)))
+    go false b o e f = absurd (false≢true f)
+    go true false o e f = absurd (false≢true f)
+    go true true none e f = absurd (false≢true f)
+    go true true (some i) e f =
+        let v = visits-end (entryAt (planeSpace fanout) c i) (visits (planeSpace fanout) c i) in
+        record {
+          index = i;
+          reads = e;
+          exact = v;
+          few = rw v (visits-height (planeSpace fanout) (plane-space-laws fanout) (planeRoot fanout) i (reads-sound m i e) c);
+        }

@@ -1,0 +1,98 @@
+use native.Mathlib.Omega.{arith}
+use Rattle.history.proofs.CallWays.{replied-insert, replied-remove, replied-clear, replied-point, replied-window}
+use borrow.Author.Needs.{needs}
+use Rattle.history.proofs.calling.make_call.Statement.{statement}
+use Rattle.history.proofs.calling.make_call.Tie as tie
+
+insert-requires : tie.Need-insert-requires
+insert-requires c κs = search needs
+
+insert-reply-requires : tie.Need-insert-reply-requires
+insert-reply-requires c κs = search needs
+
+same-length : tie.Need-same-length
+same-length c = search needs
+
+same-length-2 : tie.Need-same-length-2
+same-length-2 c = search needs
+
+returns : tie.Need-returns
+returns c = search (replied-insert, arith)
+
+remove-requires : tie.Need-remove-requires
+remove-requires c κs = search needs
+
+remove-reply-requires : tie.Need-remove-reply-requires
+remove-reply-requires c κs = search needs
+
+same-length-3 : tie.Need-same-length-3
+same-length-3 c = search needs
+
+returns-2 : tie.Need-returns-2
+returns-2 c = search (replied-remove, arith)
+
+clear-requires : tie.Need-clear-requires
+clear-requires c κs = search needs
+
+clear-reply-requires : tie.Need-clear-reply-requires
+clear-reply-requires c κs = search needs
+
+same-length-4 : tie.Need-same-length-4
+same-length-4 c = search needs
+
+returns-3 : tie.Need-returns-3
+returns-3 c = search (replied-clear, arith)
+
+point-requires : tie.Need-point-requires
+point-requires c κs = search needs
+
+point-reply-requires : tie.Need-point-reply-requires
+point-reply-requires c κs = search needs
+
+same-length-5 : tie.Need-same-length-5
+same-length-5 c = search needs
+
+returns-4 : tie.Need-returns-4
+returns-4 c = search (replied-point, arith)
+
+window-requires : tie.Need-window-requires
+window-requires c κs = search needs
+
+window-reply-requires : tie.Need-window-reply-requires
+window-reply-requires c κs = search needs
+
+same-length-6 : tie.Need-same-length-6
+same-length-6 c = search needs
+
+same-length-7 : tie.Need-same-length-7
+same-length-7 c = search needs
+
+returns-5 : tie.Need-returns-5
+returns-5 c = search (replied-window, arith)
+
+pub make-call-spec : {M : Type 1} → statement M
+make-call-spec =
+    tie.close
+    (tie.spec
+    insert-requires
+    insert-reply-requires
+    same-length
+    same-length-2
+    returns
+    remove-requires
+    remove-reply-requires
+    same-length-3
+    returns-2
+    clear-requires
+    clear-reply-requires
+    same-length-4
+    returns-3
+    point-requires
+    point-reply-requires
+    same-length-5
+    returns-4
+    window-requires
+    window-reply-requires
+    same-length-6
+    same-length-7
+    returns-5)

@@ -1,0 +1,87 @@
+-- Demand 3, as one claim about a list of calls made one after another from a fresh memory.
+use Prim.Native.Nat.{ℕ, suc, _≤_}
+use mathlib.Core.Bool.{Bool, true, cond}
+use mathlib.Core.List.{List, [], _∷_}
+use mathlib.Core.Option.{some}
+use mathlib.Core.Path.{_≡_}
+use lib.ListN.{length, getD}
+use Rattle.geometry.specs.declared.rect.Cell.{Cell}
+use Rattle.geometry.specs.declared.rect.Rect.{Rect}
+use Rattle.tree.specs.Lists.{All, countOf, nth}
+use Rattle.tree.specs.Tree.{Sound, height, entries, nodeCount}
+use Rattle.tree.specs.Depth.{polygons, polygonsAt, leaves, leafDepths, edges}
+use Rattle.tree.specs.Query.{ofCell, holds}
+use Rattle.tree.specs.Calls.{insertCall, removeCall, clearCall, pointCall, windowCall}
+use Rattle.tree.specs.Claim.{leafHolds, leafCovers}
+use Rattle.plane.specs.Lines.{CellEntry}
+use Rattle.plane.specs.Plane.{planeSpace, planeRoot}
+use Rattle.memory.specs.Reading.{reading}
+use Rattle.index.specs.Answers.{fanout, PlaneIndex}
+use Rattle.index.specs.Numbers.{Told}
+use Rattle.history.specs.Calls.{IndexCall, Made, accepted, isChange, fed, recordFrom}
+use Rattle.history.specs.Defined.{AsDefined}
+
+-- the polygon has the cell
+abbrev pub polygonHas : Cell → List Rect → Bool
+polygonHas c p = planeSpace fanout .has p c
+
+-- 'Wherever a call reports the number of entries held, that is the record's length after the call.' r is the record after it.
+abbrev pub Reports : Made → List CellEntry → Type 0
+Reports d r = accepted (d .told) ≡ true → isChange (d .call) ≡ true → d .told .values ≡ length r ∷ []
+
+-- so for every call of a list, where r is the record before it
+unfoldable pub ReportedAll : List CellEntry → List Made → Type 0
+ReportedAll r [] = Unit {0}
+ReportedAll r (d ∷ ds) =
+    Reports d (fed r (d .call) (accepted (d .told))) × ReportedAll (fed r (d .call) (accepted (d .told))) ds
+
+-- the visits that an accepted point query reports: its second value
+abbrev pub visitsTold : Told → ℕ
+visitsTold t = getD (t .values) 1 0
+
+-- On a memory that holds an index, these visits of a cell are 'exactly the number of nodes whose polygon has its cell, and they are at most
+-- the height'.
+pub record VisitsExact (m : List ℕ) (c : Cell) (visits : ℕ) : Type 0 where
+  pub index : PlaneIndex
+  pub reads : reading fanout m ≡ some index
+  pub exact : visits ≡ countOf (polygonHas c) (polygons (planeSpace fanout) index)
+  pub few : visits ≤ height (planeSpace fanout) index
+
+-- so for a call, if it is an accepted point query
+abbrev pub PointVisits : IndexCall → List ℕ → Told → Type 0
+PointVisits (insertCall e) m t = Unit {0}
+PointVisits (removeCall c) m t = Unit {0}
+PointVisits clearCall m t = Unit {0}
+PointVisits (pointCall c) m t = accepted t ≡ true → VisitsExact m c (visitsTold t)
+PointVisits (windowCall w) m t = Unit {0}
+
+-- The claim about the list ds of calls from a fresh memory of N parts, which left the memory m.
+pub record HistoryClaim (N : ℕ) (ds : List Made) (m : List ℕ) : Type 0 where
+  -- "Every call in it accepts, refuses and answers as document 01 defines"
+  pub answers : All (AsDefined N) ds
+  -- "after every such list": the index that the memory holds then, a sound one of at most N nodes
+  pub index : PlaneIndex
+  pub reads : reading fanout m ≡ some index
+  pub sound : Sound (planeSpace fanout) (planeRoot fanout) index
+  pub room : nodeCount (planeSpace fanout) index ≤ N
+  -- "no cell lies in the polygons of two different nodes of equal depth": at the depth d, by their places j and k
+  pub separate : (d j k : ℕ) (p q : List Rect) (c : Cell)
+      → nth (polygonsAt (planeSpace fanout) d index) j ≡ some p → nth (polygonsAt (planeSpace fanout) d index) k ≡ some q
+      → polygonHas c p ≡ true → polygonHas c q ≡ true → j ≡ k
+  -- "every child stays within its parent"
+  pub within : All (λ e. (c : Cell) → polygonHas c (e .below) ≡ true → polygonHas c (e .parent) ≡ true) (edges (planeSpace fanout) index)
+  -- "and all leaves are equally deep"
+  pub deep : All (λ k. suc k ≡ height (planeSpace fanout) index) (leafDepths (planeSpace fanout) index)
+  -- "The entries held are exactly those accepted since the last clear and not removed since, as document 01's record gives them.": as many
+  -- pass any test in the tree as in the record, and no cell is held twice
+  pub entries-same : (q : CellEntry → Bool) → countOf q (entries (planeSpace fanout) index) ≡ countOf q (recordFrom [] ds)
+  pub entries-once : (c : Cell) → countOf (ofCell (planeSpace fanout) c) (entries (planeSpace fanout) index) ≡ cond (holds (planeSpace fanout) c index) 1 0
+  -- "Each is in exactly one leaf"
+  pub one-leaf : (c : Cell) → countOf (leafHolds (planeSpace fanout) c) (leaves (planeSpace fanout) index) ≡ cond (holds (planeSpace fanout) c index) 1 0
+  -- "and the polygon of that leaf has its cell."
+  pub covers : All (leafCovers (planeSpace fanout)) (leaves (planeSpace fanout) index)
+  -- "Wherever a call reports the number of entries held, that is the record's length after the call."
+  pub reported : ReportedAll [] ds
+  -- "Every accepted point query, in such a list .., reports as visits exactly the number of nodes whose polygon has its cell, and they are
+  -- at most the height."
+  pub visits : All (λ d. PointVisits (d .call) (d .before) (d .told)) ds

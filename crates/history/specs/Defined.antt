@@ -1,0 +1,79 @@
+-- What document 01 defines of a call on a memory of N parts that holds an index: the answer, the index after, and what is left in the
+-- lists. Cause 1 and cause 4 don't apply there.
+use Prim.Native.Nat.{ℕ, _+_, _*_}
+use mathlib.Core.Bool.{false, _||_, cond}
+use mathlib.Core.List.{List, [], _∷_, _++_, flatMap}
+use mathlib.Core.Option.{none, some}
+use mathlib.Core.Path.{_≡_}
+use lib.Dec.{leb, eqb}
+use lib.ListN.{length, replicate, drop}
+use Rattle.geometry.specs.Cells.{onGrid, valid}
+use Rattle.tree.specs.Calls.{insertCall, removeCall, clearCall, pointCall, windowCall, Answer, refusal, reports, pointAnswer, windowAnswer, answer, after}
+use Rattle.plane.specs.Plane.{planeSpace, planeRoot}
+use Rattle.plane.specs.Windows.{planeWindow}
+use Rattle.memory.specs.Reading.{reading}
+use Rattle.memory.specs.Image.{entryNumbers}
+use Rattle.index.specs.Answers.{fanout, PlaneIndex, matchesIn}
+use Rattle.index.specs.Numbers as numbers
+use Rattle.index.specs.Numbers.{Told, accepts}
+use Rattle.history.specs.Calls.{IndexCall, Made, accepted, isChange}
+
+-- The causes that are tested before the tree is looked at: 2, 'work area length differs from the index (insertion)'; 3, 'coordinate over
+-- 65535; window with ll ≥ ur in a dimension or ur over 65536'. 0 where none applies. len is the length of the list lent besides the index.
+unfoldable pub early : ℕ → IndexCall → ℕ → ℕ
+early N (insertCall e) len = cond (eqb len (64 + 128 * N)) (cond (onGrid (e .cell)) 0 3) 2
+early N (removeCall c) len = cond (onGrid c) 0 3
+early N clearCall len = 0
+early N (pointCall c) len = cond (onGrid c) 0 3
+early N (windowCall w) len = cond (valid w) 0 3
+
+-- The number and values of the tree's answer: 'held with tag, or not held, and the visits'; 'matches and visits', or 9, 'list shorter than
+-- 3 × matches: number, matches'.
+unfoldable pub toldOf : ℕ → Answer (planeSpace fanout) → Told
+toldOf len (refusal k) = numbers.refusal k
+toldOf len (reports n) = accepts (n ∷ [])
+toldOf len (pointAnswer none v) = accepts (0 ∷ v ∷ [])
+toldOf len (pointAnswer (some e) v) = accepts (1 ∷ v ∷ e .tag ∷ [])
+toldOf len (windowAnswer es v) = cond (leb (3 * length es) len) (accepts (length es ∷ v ∷ [])) (record { number = 9; values = length es ∷ [] })
+
+-- the tree's answer to a call on the index i, and the index after it
+abbrev pub treeAnswer : ℕ → PlaneIndex → IndexCall → Answer (planeSpace fanout)
+treeAnswer N i k = answer (planeSpace fanout) (planeRoot fanout) N (planeWindow fanout) i k
+
+abbrev pub treeAfter : ℕ → PlaneIndex → IndexCall → PlaneIndex
+treeAfter N i k = after (planeSpace fanout) (planeRoot fanout) N (planeWindow fanout) i k
+
+-- The answer of a call on the index i: 'Tests run in number order; the first that applies is given, and only where its cause holds.'
+unfoldable pub toldOn : ℕ → PlaneIndex → IndexCall → ℕ → Told
+toldOn N i k len = cond (eqb (early N k len) 0) (toldOf len (treeAnswer N i k)) (numbers.refusal (early N k len))
+
+-- The index after.
+unfoldable pub indexAfter : ℕ → PlaneIndex → IndexCall → ℕ → PlaneIndex
+indexAfter N i k len = cond (eqb (early N k len) 0) (treeAfter N i k) i
+
+-- A work area after an insertion that returned n: 'It is all zeros after acceptance and after refusals 7 and 8; other refusals don't touch it.'
+unfoldable pub workLeft : ℕ → List ℕ → List ℕ
+workLeft n l = cond (eqb n 0 || eqb n 7 || eqb n 8) (replicate (length l) 0) l
+
+-- The list lent besides the index, as a call that returned n leaves it. A window query that is accepted 'writes x, y, tag for each matching
+-- entry in depth-first order, leaves the rest of the list'.
+unfoldable pub lentAfter : PlaneIndex → IndexCall → ℕ → List ℕ → List ℕ
+lentAfter i (insertCall e) n l = workLeft n l
+lentAfter i (removeCall c) n l = l
+lentAfter i clearCall n l = l
+lentAfter i (pointCall c) n l = l
+lentAfter i (windowCall w) n l = cond (eqb n 0) (flatMap entryNumbers (matchesIn w i) ++ drop (3 * length (matchesIn w i)) l) l
+
+-- The call accepted, refused and answered as document 01 defines.
+pub record AsDefined (N : ℕ) (d : Made) : Type 0 where
+  -- the index that the memory handed to it holds, in N parts
+  pub index : PlaneIndex
+  pub parts : length (d .before) ≡ 64 + 128 * N
+  pub handed : reading fanout (d .before) ≡ some index
+  pub answer : d .told ≡ toldOn N index (d .call) (length (d .lent))
+  -- the tree read back is fixed
+  pub leaves : reading fanout (d .after) ≡ some (indexAfter N index (d .call) (length (d .lent)))
+  -- 'Left as it was': the index, by a refused call and by a query
+  pub refused : accepted (d .told) ≡ false → d .after ≡ d .before
+  pub query : isChange (d .call) ≡ false → d .after ≡ d .before
+  pub list : d .left ≡ lentAfter index (d .call) (d .told .number) (d .lent)

@@ -1,0 +1,77 @@
+-- The descent as the code takes it, by the number of its level.
+use Prim.Native.Nat.{ℕ, zero, suc, _+_, _*_, _-_, _≤_, _<_}
+use mathlib.Core.Bool.{Bool, true, false}
+use mathlib.Core.Path.{_≡_, refl, sym, ap, _∙_, subst}
+use mathlib.Core.List.{List}
+use native.Mathlib.Omega.{arith}
+use mir.Syntax.{w32, w64}
+use mir.Val.{Fits}
+use lib.ListN.{length, getD, set, length-set}
+use Rattle.geometry.specs.declared.rect.Cell.{Cell}
+use Rattle.geometry.specs.declared.rect.Rect.{Rect}
+use Rattle.geometry.specs.declared.polygon.Polygon.{Polygon}
+use Rattle.geometry.specs.Numbers.{rectsOf, PolygonOf}
+use Rattle.index.specs.Walks.{countAt, childAt}
+use Rattle.step2.specs.declared.choosing.Choice.{Choice}
+use Rattle.step2.specs.declared.choosing.Taken.{Taken}
+use Rattle.step2.specs.declared.choosing.Taken.the-variants.{Branch, Over}
+use Rattle.step2.specs.Choose.{Routing, ChosenAt, NoneChosen, ChoiceIs}
+use Rattle.step2.proofs.ChoiceCases.{taken-branch, taken-over}
+use Rattle.emission.specs.Path.{partOn, polygonOn}
+use Rattle.insertion.specs.Descent.{LevelPut, Descending, Descended}
+use Rattle.insertion.proofs.DescentLaws.{routing-b, stopped-b, place-below, child-descending, went}
+
+module _ (level : ℕ) (path m : List ℕ) (c : Cell) (d : Descending level path m c) (ne : level ≡ 0 → ⊥) where
+  up : suc (level - 1) ≡ level
+  up = omega arith
+
+  d′ : Descending (suc (level - 1)) path m c
+  d′ = subst (λ (i : ℕ). Descending i path m c) (sym up) d
+
+  pub child-room : (i v : ℕ) → 68 * (level - 1) + 68 ≤ length (set path i v)
+  child-room i v = let r = d .room in let l = length-set path i v in omega arith
+
+  pub descend-routing : Routing m (partOn path level)
+  descend-routing = subst (λ (i : ℕ). Routing m (partOn path i)) up (routing-b (level - 1) path m c d′)
+
+  module _ (p : Polygon) (r : Choice) (q : PolygonOf (polygonOn path level) p) (v : ChoiceIs m (partOn path level) (rectsOf p) c r) where
+    choice : ChoiceIs m (partOn path (suc (level - 1))) (polygonOn path (suc (level - 1))) c r
+    choice = subst (λ (i : ℕ). ChoiceIs m (partOn path i) (polygonOn path i) c r) (sym up) (subst (λ (l : List Rect). ChoiceIs m (partOn path level) l c r) (q .list) v)
+
+    pub descend-stop : r .taken ≡ Over → Descended level path m c path false
+    descend-stop e = subst (λ (i : ℕ). Descended i path m c path false) up (stopped-b (level - 1) path m c d′ (taken-over m _ _ c r choice e))
+
+    module _ (place : ℕ) (e : r .taken ≡ Branch place) where
+      chosen : ChosenAt m (partOn path (suc (level - 1))) (polygonOn path (suc (level - 1))) c place (r .polygon)
+      chosen = taken-branch m _ _ c r choice place e
+
+      pub descend-few : r .polygon .count ≤ 16
+      descend-few = chosen .few
+
+      pub descend-place : place < countAt m (partOn path level)
+      descend-place = subst (λ (i : ℕ). place < countAt m (partOn path i)) up (place-below (level - 1) path m c d′ place (r .polygon) chosen)
+
+      pub place-cast : Fits w32 place
+      place-cast = let a = descend-place in let b = d .walk .few in omega arith
+
+      pub child-add : Fits w64 (64 + 128 * partOn path level + 66 + place)
+      child-add = let a = descend-place in let b = d .walk .few in let e = d .walk .below in omega arith
+
+      pub child-mul : Fits w64 ((64 + 128 * partOn path level + 66 + place) * 4)
+      child-mul = let a = descend-place in let b = d .walk .few in let e = d .walk .below in omega arith
+
+      pub child-in : 64 + 128 * partOn path level + 66 + place < length m
+      child-in = let a = descend-place in let b = d .walk .few in let e = d .walk .ends in omega arith
+
+      module _ (path₂ : List ℕ) (v₂ : LevelPut (set path (68 * level + 1) place) (level - 1) (childAt m (partOn path level) place) (rectsOf (r .polygon)) path₂) where
+        put : LevelPut (set path (68 * suc (level - 1) + 1) place) (level - 1) (childAt m (partOn path (suc (level - 1))) place) (rectsOf (r .polygon)) path₂
+        put = subst (λ (i : ℕ). LevelPut (set path (68 * i + 1) place) (level - 1) (childAt m (partOn path i) place) (rectsOf (r .polygon)) path₂) (sym up) v₂
+
+        pub descend-child : Descending (level - 1) path₂ m c
+        descend-child = child-descending (level - 1) path m c d′ place (r .polygon) chosen (set path (68 * suc (level - 1) + 1) place) path₂ (length-set path (68 * suc (level - 1) + 1) place) put
+
+        pub descend-on : (path₃ : List ℕ) (b : Bool) → Descended (level - 1) path₂ m c path₃ b → Descended level path m c path₃ b
+        descend-on path₃ b z = subst (λ (i : ℕ). Descended i path m c path₃ b) up (went (level - 1) path m c d′ place (r .polygon) chosen path₂ path₃ put (z .kept) b z)
+
+        pub descend-length : (path₃ : List ℕ) (b : Bool) → Descended (level - 1) path₂ m c path₃ b → length path₃ ≡ length path
+        descend-length path₃ b z = z .kept .same-length ∙ v₂ .same-length ∙ length-set path (68 * level + 1) place

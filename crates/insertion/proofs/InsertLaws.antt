@@ -1,0 +1,249 @@
+-- An insertion into the tree that a memory reads as: its end, from the path and what was written.
+use Prim.Native.Nat.{ℕ, zero, suc, _+_, _*_, _-_, _/_, _≤_, _<_, min}
+use mathlib.Core.Bool.{Bool, true, false, cond}
+use mathlib.Core.Path.{_≡_, refl, sym, ap, _∙_, subst}
+use mathlib.Core.List.{List, [], _∷_, _++_, flatMap, map}
+use mathlib.Core.Option.{Option, none, some, bind}
+use native.Mathlib.Omega.{arith}
+use mir.Syntax.{w32}
+use mir.Val.{Fits}
+use native.Mathlib.Nat.{le-refl}
+use borrow.Author.Tests.{le-leb, lt-leb}
+use lib.Dec.{leb, eqb}
+use lib.ListN.{length, getD, take, replicate}
+use Rattle.geometry.specs.declared.rect.Cell.{Cell}
+use Rattle.geometry.specs.declared.rect.Rect.{Rect}
+use Rattle.geometry.specs.Cells.{onGrid}
+use Rattle.tree.specs.Lists.{countOf}
+use Rattle.tree.specs.Nodes.{Item, held, nodes}
+use Rattle.tree.specs.Tree.{Tree, Index, top, entries, nodeCount, Sound, SoundTree}
+use Rattle.tree.specs.Insert.{Outcome, refused, accepted, limited, insertTree, insert}
+use Rattle.tree.specs.Query.{holds}
+use Rattle.tree.specs.Calls.{insertion, outcomeIndex}
+use Rattle.tree.proofs.Counts.{countOf-every}
+use Rattle.tree.proofs.Insert.{insert-sound, insert-entries}
+use Rattle.plane.specs.Lines.{CellEntry}
+use Rattle.plane.specs.Plane.{planeSpace, planeRoot}
+use Rattle.plane.proofs.Rects.{plane-space-laws}
+use Rattle.plane.proofs.Steps.{plane-steps}
+use Rattle.plane.proofs.Roots.{plane-root-laws}
+use Rattle.memory.specs.Layout.{partsOf, rightLength}
+use Rattle.memory.specs.SoundTest.{soundTest}
+use Rattle.memory.specs.Reading.{readNode, reading}
+use Rattle.memory.specs.Image.{emitNode, memoryOf, image}
+use Rattle.memory.proofs.ReadingLaws.{ReadAs, read-as, ReadSound, read-sound, RightLength, length-right, parts-are}
+use Rattle.memory.proofs.SoundTested.{test-of-sound}
+use Rattle.memory.proofs.ImageLaws.{image-reads, image-length}
+use Rattle.memory.proofs.NodeImage.{length-node}
+use Rattle.index.specs.declared.answer.Inserted.{Inserted}
+use Rattle.index.specs.declared.answer.Inserted.the-variants as I
+use Rattle.index.specs.Answers.{fanout, PlaneIndex, insertEnd, insertRead, insertAnswer}
+use Rattle.index.specs.Changes.{entryOf, insertedIndex, InsertMemory, workAfter, InsertCall}
+use Rattle.index.specs.Open.{TreeIn}
+use Rattle.index.specs.Walks.{Walkable}
+use Rattle.index.proofs.TreeWalk.{tree-walkable}
+use Rattle.emission.specs.declared.whole.Emitted.{Emitted}
+use Rattle.emission.specs.Emits.{countLimit}
+use Rattle.emission.specs.Path.{PathFrom, plannedTree}
+use Rattle.emission.specs.Whole.{TreeRoom, TreeEmitted}
+use Rattle.index.specs.Count.{entriesAt}
+use Rattle.index.specs.Held.{heldRead}
+use Rattle.index.proofs.CountWalk.{held-few, tree-held}
+use Rattle.insertion.specs.Writing.{written}
+use Rattle.insertion.specs.Insert.{Inserting, PathPlanned, PathRefused, PathFound, Built, InsertDone}
+use Rattle.insertion.proofs.WritingLaws.{written-image}
+
+module _ (m : List ℕ) (level root : ℕ) (c : Cell) (v : Inserting m level root c) where
+  read-tree : ReadSound fanout m (v .tree-in .tree)
+  read-tree = read-sound fanout m (v .tree-in .tree) (v .tree-in .reads)
+
+  pub build-walk : Walkable level m 0 root
+  build-walk = tree-walkable m level root (v .tree-in)
+
+  pub build-long : 64 ≤ length m
+  build-long = let i = length-right m (read-tree .right) .length-is in omega arith
+
+  pub build-level : level ≤ 255
+  build-level = let a = read-tree .levels in let b = read-tree .few-parts in let d = v .tree-in .level-is in omega arith
+
+  -- a path of 256 levels has room
+  pub build-room : 68 * level + 68 ≤ 17408
+  build-room = let a = build-level in omega arith
+
+module _ (m : List ℕ) (level root : ℕ) (c : Cell) (t : ℕ) (v : Inserting m level root c) where
+  abbrev x : Tree (planeSpace fanout)
+  x = v .tree-in .tree
+
+  abbrev e : CellEntry
+  e = entryOf c t
+
+  abbrev N : ℕ
+  N = partsOf m
+
+  reads : reading fanout m ≡ some (some x)
+  reads = v .tree-in .reads
+
+  sound-x : ReadSound fanout m x
+  sound-x = read-sound fanout m x reads
+
+  not-held : holds (planeSpace fanout) c (some x) ≡ false
+  unfolding heldRead
+  not-held = sym (ap (heldRead c) reads) ∙ v .new
+
+  -- the insertion as the answer and the memory have it
+  read-is : insertRead N e (reading fanout m) ≡ insertEnd (limited (planeSpace fanout) N (insertTree (planeSpace fanout) (planeRoot fanout) (some x) e))
+  unfolding insertRead
+  read-is = rw (reads, not-held)
+
+  index-is : insertedIndex N e (reading fanout m) ≡ some (outcomeIndex (planeSpace fanout) (some x) (limited (planeSpace fanout) N (insertTree (planeSpace fanout) (planeRoot fanout) (some x) e)))
+  unfolding insertedIndex
+  index-is = rw (reads, not-held)
+
+  -- refusal 7
+  pub built-seven : (w w′ : List ℕ) → PathRefused m c → length w′ ≡ length w → Built m w e m w′ I.PolygonLimit
+  unfolding insertEnd
+  built-seven w w′ p l = record {
+    answer = sym (read-is ∙ rw (p .after x reads t));
+    memory = refl;
+    memory-length = refl;
+    work-length = l;
+    zeroed = refl;
+  }
+
+  module _ (path : List ℕ) (p : PathPlanned m level c path) where
+    abbrev y : Tree (planeSpace fanout)
+    y = plannedTree level path m e
+
+    gives : insertTree (planeSpace fanout) (planeRoot fanout) (some x) e ≡ some y
+    gives = p .after x reads t
+
+    abbrev count : ℕ
+    count = nodeCount (planeSpace fanout) (some y)
+
+    -- refusal 8
+    pub built-eight : (w w′ : List ℕ) (k : ℕ) → k ≡ min countLimit count → N < k → length w′ ≡ length w → Built m w e m w′ I.NodeLimit
+    unfolding insertEnd
+    built-eight w w′ k q h l =
+        let o : N < count = omega arith in
+        record {
+          answer = sym (read-is ∙ rw (gives, lt-leb count N o));
+          memory = refl;
+          memory-length = refl;
+          work-length = l;
+          zeroed = refl;
+        }
+
+    module _ (k : ℕ) (q : k ≡ min countLimit count) (h : k ≤ N) where
+      few : N ≤ 256
+      few = sound-x .few-parts
+
+      fits : count ≤ N
+      fits = let f = few in omega arith
+
+      pub tree-room : (w : List ℕ) → length w ≡ length m → TreeRoom w y
+      tree-room w l =
+          let f = fits in
+          let g = few in
+          let r = length-right m (sound-x .right) .length-is in
+          record { fits = omega arith; small = omega arith }
+
+      sound-y : SoundTree (planeSpace fanout) (planeRoot fanout) y
+      sound-y = insert-sound (planeSpace fanout) (plane-space-laws fanout) (plane-steps fanout (omega arith)) (planeRoot fanout) (plane-root-laws fanout) (omega arith) (some x) e y gives (sound-x .sound) (v .grid) not-held
+
+      outcome : limited (planeSpace fanout) N (insertTree (planeSpace fanout) (planeRoot fanout) (some x) e) ≡ accepted (some y)
+      outcome = rw (gives, le-leb count N fits)
+
+      count-y : nodes (planeSpace fanout) (suc (y .level)) (top (planeSpace fanout) y) ≡ count
+      unfolding nodes
+      count-y = refl
+
+      entries-y : length (entries (planeSpace fanout) (some y)) ≡ length (entries (planeSpace fanout) (some x)) + 1
+      entries-y =
+          let a = insert-entries (planeSpace fanout) (plane-space-laws fanout) (plane-steps fanout (omega arith)) (planeRoot fanout) (plane-root-laws fanout) (omega arith) (some x) e y gives (λ z. true) in
+          let b = countOf-every (entries (planeSpace fanout) (some y)) in
+          let d = countOf-every (entries (planeSpace fanout) (some x)) in
+          let f = countOf-every (e ∷ []) in
+          omega arith
+
+      module _ (w w′ : List ℕ) (r : Emitted) (l : length w ≡ length m) (z : TreeEmitted w y w′ r) where
+        pub parts-some : 1 ≤ r .parts
+        parts-some = let a = z .parts-is in omega arith
+
+        pub parts-few : r .parts ≤ 256
+        parts-few = let a = z .parts-is in let b = fits in let g = few in omega arith
+
+        pub parts-fit : 64 + 128 * r .parts ≤ length m
+        parts-fit = let a = z .parts-is in let b = fits in let i = length-right m (sound-x .right) .length-is in omega arith
+
+        pub work-long : length w′ ≡ length m
+        work-long = z .same-length ∙ l
+
+        image-is : written (length m) (r .parts) (r .height) w′ ≡ image fanout N y
+        unfolding image
+        image-is =
+            let i = length-right m (sound-x .right) .length-is in
+            let n : length (emitNode fanout (y .level) 0 (top (planeSpace fanout) y)) ≡ r .parts = length-node fanout (y .level) 0 (top (planeSpace fanout) y) ∙ count-y ∙ sym (z .parts-is) in
+            ap (λ (j : ℕ). written j (r .parts) (r .height) w′) i ∙ written-image N (r .height) (emitNode fanout (y .level) 0 (top (planeSpace fanout) y)) w w′ (r .parts) n (let s = sound-x .some-parts in omega arith) (let a = parts-fit in let b = work-long in omega arith) (z .written)
+            ∙ ap (λ (j : ℕ). memoryOf N j (emitNode fanout (y .level) 0 (top (planeSpace fanout) y))) (z .height-is)
+
+        pub built-tree : (m′ : List ℕ) (n : ℕ) → m′ ≡ written (length m) (r .parts) (r .height) w′ → n ≡ length (entries (planeSpace fanout) (some x)) → Built m w e m′ w′ (I.Accepted (n + 1))
+        unfolding insertEnd
+        built-tree m′ n a b =
+            let i = length-right m (sound-x .right) .length-is in
+            let tested = test-of-sound fanout y sound-y in
+            let c-le : nodes (planeSpace fanout) (suc (y .level)) (top (planeSpace fanout) y) ≤ N = let f = fits in let d = count-y in omega arith in
+            let im = a ∙ image-is in
+            record {
+              answer = ap I.Accepted (let f = entries-y in let g : n + 1 ≡ length (entries (planeSpace fanout) (some y)) = omega arith in g) ∙ sym (read-is ∙ ap insertEnd outcome);
+              memory = ap (reading fanout) im ∙ image-reads fanout N y (omega arith) (sound-x .some-parts) few c-le tested ∙ sym (index-is ∙ ap (λ o. some (outcomeIndex (planeSpace fanout) (some x) o)) outcome);
+              memory-length = ap length im ∙ image-length fanout N y (omega arith) (sound-x .some-parts) few c-le tested ∙ sym i;
+              work-length = z .same-length;
+              zeroed = refl;
+            }
+
+-- The same for the code, from what finding the path told.
+module _ (m : List ℕ) (level root : ℕ) (c : Cell) (v : Inserting m level root c) where
+  held-is : length (entriesAt level m 0 root) ≡ length (entries (planeSpace fanout) (some (v .tree-in .tree)))
+  held-is = ap length (tree-held m level root (v .tree-in))
+
+  pub held-fits : (n : ℕ) → n ≡ length (entriesAt level m 0 root) → Fits w32 (n + 1)
+  held-fits n e = let b = held-few level m 0 root (tree-walkable m level root (v .tree-in)) in omega arith
+
+  module _ (path : List ℕ) (b : Bool) (f : PathFound m level c path b) where
+    pub build-seven : (t : ℕ) (w : List ℕ) → b ≡ false → Built m w (entryOf c t) m w I.PolygonLimit
+    build-seven t w n = built-seven m level root c t v w w (subst (λ (x : Bool). PathFound m level c path x) n f) refl
+
+    module _ (n : b ≡ true) where
+      planned : PathPlanned m level c path
+      planned = subst (λ (x : Bool). PathFound m level c path x) n f
+
+      module _ (t k : ℕ) (q : k ≡ min countLimit (nodeCount (planeSpace fanout) (some (plannedTree level path m (entryOf c t))))) where
+        pub build-eight : (w : List ℕ) → partsOf m < k → Built m w (entryOf c t) m w I.NodeLimit
+        build-eight w h = built-eight m level root c t v path planned w w k q h refl
+
+        module _ (h : k ≤ partsOf m) (w : List ℕ) (l : length w ≡ length m) where
+          pub emit-room : TreeRoom w (plannedTree level path m (entryOf c t))
+          emit-room = tree-room m level root c t v path planned k q h w l
+
+          module _ (w′ : List ℕ) (r : Emitted) (z : TreeEmitted w (plannedTree level path m (entryOf c t)) w′ r) where
+            pub put-some : 1 ≤ r .parts
+            put-some = parts-some m level root c t v path planned k q h w w′ r l z
+
+            pub put-few : r .parts ≤ 256
+            put-few = parts-few m level root c t v path planned k q h w w′ r l z
+
+            pub put-fit : 64 + 128 * r .parts ≤ length m
+            put-fit = parts-fit m level root c t v path planned k q h w w′ r l z
+
+            pub put-long : length w′ ≡ length m
+            put-long = work-long m level root c t v path planned k q h w w′ r l z
+
+            pub build-accepted : (m′ : List ℕ) (x : ℕ) → m′ ≡ written (length m) (r .parts) (r .height) w′ → x ≡ length (entriesAt level m 0 root) → Built m w (entryOf c t) m′ w′ (I.Accepted (x + 1))
+            build-accepted m′ x a e = built-tree m level root c t v path planned k q h w w′ r l z m′ x a (e ∙ held-is)
+
+pub path-from : (m : List ℕ) (level : ℕ) (c : Cell) (path : List ℕ) (b : Bool) → PathFound m level c path b → b ≡ true → PathFrom level path m
+path-from m level c path b f n = go b f n
+  where
+    go : (b : Bool) → PathFound m level c path b → b ≡ true → PathFrom level path m
+    go true f n = f .from
+    go false f n = let z : _≡_ {A = ℕ} 0 1 = cc in absurd (omega arith)

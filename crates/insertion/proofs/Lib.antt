@@ -1,0 +1,17 @@
+pub mod LevelLaws
+pub mod DescentLaws
+pub mod Ways
+pub mod SplitGroups
+pub mod NodePlan
+pub mod PlanTree
+pub mod PathLaws
+pub mod PlanLoop
+pub mod LineLaws
+pub mod DescentWays
+pub mod WritingLaws
+pub mod RootLaws
+pub mod InsertLaws
+pub mod FirstLaws
+pub mod InsertWays
+pub mod NodeBounds
+pub mod PlanBounds

@@ -1,0 +1,157 @@
+-- The line of a node on the path that gets one item too many: what the search for it asks, and that it is the definition's.
+use Prim.Native.Nat.{ℕ, zero, suc, _+_, _*_, _-_, _≤_, _<_}
+use mathlib.Core.Bool.{Bool, true, false}
+use mathlib.Core.Path.{_≡_, refl, sym, ap, _∙_, subst}
+use mathlib.Core.List.{List, [], _∷_, _++_, map, flatMap}
+use mathlib.Core.Option.{some}
+use native.Mathlib.Omega.{arith}
+use lib.ListN.{length, getD, take, drop}
+use Rattle.geometry.specs.declared.rect.Cell.{Cell}
+use Rattle.geometry.specs.declared.rect.Line.{Line}
+use Rattle.geometry.specs.Cells.{onGrid}
+use Rattle.tree.specs.Lists.{All}
+use Rattle.tree.specs.Nodes.{Item, held}
+use Rattle.tree.specs.Plan.{Way, row, few, lineAt}
+use Rattle.tree.specs.Pass.{wayHeld, Bag}
+use Rattle.tree.proofs.Lists.{all-first, all-flatMap}
+use Rattle.tree.proofs.Laws.{Laws, Steps}
+use Rattle.plane.specs.Lines.{CellEntry, leafLine, nodeLine}
+use Rattle.plane.specs.Plane.{planeSpace}
+use Rattle.plane.specs.Candidates.{rankLine}
+use Rattle.plane.proofs.Kept.{map-all}
+use Rattle.plane.proofs.Rects.{plane-space-laws}
+use Rattle.plane.proofs.Steps.{plane-steps}
+use Rattle.memory.specs.Layout.{part, itemCount, entriesIn}
+use Rattle.memory.specs.Reading.{readNode}
+use Rattle.index.specs.Answers.{fanout}
+use Rattle.index.specs.Check.{NodePart}
+use Rattle.index.specs.Changes.{entryOf}
+use Rattle.index.specs.Walks.{Walkable, countAt, partAt}
+use Rattle.index.proofs.WalkRows.{leaf-part, part-is}
+use Rattle.split_line.specs.LineNumber.{LineIs}
+use Rattle.split_line.specs.FullLeaf.{OnGrid, entriesOf, LeafHere, FullLeaf, LeafLineIs}
+use Rattle.split_line.specs.Reached.{heldOf, heldUnder}
+use Rattle.split_line.specs.Groups.{groupsAt, NodeHere, LineFits, NodeLineIs}
+use Rattle.emission.specs.Path.{partOn, placeOn, lineOn, polygonOn, wayAt, PathNode, PathFrom}
+use Rattle.insertion.specs.Ways.{GoodWay}
+use Rattle.insertion.specs.Descent.{itemsAt}
+use Rattle.insertion.specs.Planning.{GoodPath, PlannedAt, SplitBelow, Full, LineOfLevel}
+use Rattle.insertion.proofs.DescentLaws.{items-are}
+use Rattle.insertion.proofs.Ways.{way-entries}
+use Rattle.insertion.proofs.SplitGroups.{row-entries, line-row, bag-all, bag-sym}
+use Rattle.insertion.proofs.NodePlan.{node-line-is, node-line-fits}
+use Rattle.insertion.proofs.PathLaws.{path-below, node-at}
+use Rattle.insertion.proofs.PlanLoop.{level-length}
+
+-- A leaf that gets a ninth entry.
+module _ (level : ℕ) (path m : List ℕ) (c : Cell) (f : Full 0 level path m c) where
+  abbrev k : ℕ
+  k = partOn path 0
+
+  walk : Walkable 0 m 0 k
+  walk = node-at path m 0 (path-below path m level 0 (f .path-is .from) (omega arith)) .walk
+
+  entries-are : (t : ℕ) → wayAt 0 path m (entryOf c t) ≡ entriesOf (partAt m k) ++ (entryOf c t ∷ [])
+  unfolding wayAt
+  entries-are t = rw (part-is 0 m 0 k walk)
+
+  full-leaf : (t : ℕ) → FullLeaf (entriesOf (partAt m k) ++ (entryOf c t ∷ []))
+  unfolding GoodWay row
+  full-leaf t =
+      let g = f .path-is .goods 0 (omega arith) t in
+      let l = level-length level path m c (f .path-is) 0 (omega arith) (f .splits) t in
+      let e = f .eight in
+      subst (λ (es : List CellEntry). FullLeaf es) (entries-are t) (record { count = omega arith; grid = g .real; apart = g .apart })
+
+  leaf-here : LeafHere (partAt m k) c
+  leaf-here = record {
+    leaf = leaf-part 0 m 0 k walk;
+    grid = all-first (λ e. onGrid (e .cell) ≡ true) (entriesOf (partAt m k)) (entryOf c 0 ∷ []) (full-leaf 0 .grid);
+    cell = f .path-is .grid;
+  }
+
+  leaf-level : (r : ℕ) → LeafLineIs (partAt m k) c r → LineOfLevel 0 path m c r
+  unfolding row
+  leaf-level r l t =
+      let a = l t (full-leaf t) in
+      record { is = a .is ∙ ap leafLine (sym (entries-are t)) ∙ sym (line-row (planeSpace fanout) 0 (wayAt 0 path m (entryOf c t))); some = a .some; small = a .small }
+
+-- A routing node that gets a ninth branch.
+module _ (n level : ℕ) (path m : List ℕ) (c : Cell) (f : Full (suc n) level path m c) where
+  abbrev at : ℕ
+  at = partOn path (suc n)
+
+  from : PathFrom (suc n) path m
+  from = path-below path m level (suc n) (f .path-is .from) (f .below)
+
+  here : Walkable (suc n) m 0 at
+  here = node-at path m (suc n) from .walk
+
+  held-grid : OnGrid (flatMap (held (planeSpace fanout) (suc n)) (here .node .child))
+  unfolding GoodWay
+  held-grid =
+      let e = entryOf c 0 in
+      let w = wayAt (suc n) path m e in
+      let g = f .path-is .goods (suc n) (f .below) 0 in
+      let rows : All (λ i. onGrid (i .cell) ≡ true) (flatMap (held (planeSpace fanout) (suc n)) (row (planeSpace fanout) (suc n) w)) =
+      all-flatMap (λ i. onGrid (i .cell) ≡ true) (held (planeSpace fanout) (suc n)) (row (planeSpace fanout) (suc n) w) (unmap (row (planeSpace fanout) (suc n) w) (g .real)) in
+      let ways = bag-all (planeSpace fanout) (λ i. onGrid (i .cell)) (wayHeld (planeSpace fanout) (suc n) w) (flatMap (held (planeSpace fanout) (suc n)) (row (planeSpace fanout) (suc n) w)) (bag-sym (planeSpace fanout) (flatMap (held (planeSpace fanout) (suc n)) (row (planeSpace fanout) (suc n) w)) (wayHeld (planeSpace fanout) (suc n) w) (row-entries (planeSpace fanout) (suc n) w)) rows in
+      let b = way-entries (planeSpace fanout) (plane-space-laws fanout) (plane-steps fanout (omega arith)) (suc n) (polygonOn path (suc n)) (itemsAt (suc n) m at) e w (f .path-is .ways (suc n) (f .below) 0) in
+      let all = bag-all (planeSpace fanout) (λ i. onGrid (i .cell)) (flatMap (held (planeSpace fanout) (suc n)) (itemsAt (suc n) m at) ++ (e ∷ [])) (wayHeld (planeSpace fanout) (suc n) w) (bag-sym (planeSpace fanout) (wayHeld (planeSpace fanout) (suc n) w) (flatMap (held (planeSpace fanout) (suc n)) (itemsAt (suc n) m at) ++ (e ∷ [])) b) ways in
+      subst (λ (l : List (Item (planeSpace fanout) (suc n))). OnGrid (flatMap (held (planeSpace fanout) (suc n)) l)) (items-are (suc n) m at (here .node) (here .reads))
+      (all-first (λ i. onGrid (i .cell) ≡ true) (flatMap (held (planeSpace fanout) (suc n)) (itemsAt (suc n) m at)) (e ∷ []) all)
+    where
+      unmap : (l : List (Item (planeSpace fanout) (suc n))) → All (λ g. All (λ i. onGrid (i .cell) ≡ true) g) (map (held (planeSpace fanout) (suc n)) l) → All (λ x. All (λ i. onGrid (i .cell) ≡ true) (held (planeSpace fanout) (suc n) x)) l
+      unmap l h = map-all (λ g. All (λ i. onGrid (i .cell) ≡ true) g) (held (planeSpace fanout) (suc n)) l h
+
+  under-grid : OnGrid (heldUnder (suc n) m 0 at)
+  unfolding heldUnder heldOf held
+  under-grid = rw (here .reads) held-grid
+
+  place-in : placeOn path (suc n) < countAt m at
+  unfolding PathFrom
+  place-in = from .1
+
+  below-from : PathFrom n path m
+  unfolding PathFrom
+  below-from = from .2
+
+  node-here : NodeHere m (suc n) 0 at (placeOn path (suc n)) (lineOn path n) c
+  node-here = record {
+    walk = here;
+    routing = omega arith;
+    place-in = place-in;
+    line = node-at path m n below-from .line;
+    grid = under-grid;
+    cell = f .path-is .grid;
+  }
+
+  node-level : (r : ℕ) → NodeLineIs m (suc n) 0 at (placeOn path (suc n)) (lineOn path n) c r → LineOfLevel (suc n) path m c r
+  node-level r l t =
+      let w = f .path-is .ways (suc n) (f .below) t in
+      let g = f .path-is .goods (suc n) (f .below) t in
+      let o = level-length level path m c (f .path-is) (suc n) (f .below) (f .splits) t in
+      let e = f .eight in
+      let q = f .splits .all n (omega arith) t in
+      let y = f .splits .each n (omega arith) t .line q in
+      let a = l t (node-line-fits n path m (entryOf c t) here w g q y (omega arith)) in
+      record { is = a .is ∙ node-line-is n path m (entryOf c t) here w g q y; some = a .some; small = a .small }
+
+-- The same for the code, by its level.
+module _ (n level : ℕ) (path m : List ℕ) (c : Cell) (f : Full n level path m c) where
+  pub leaf-ready : n ≡ 0 → LeafHere (partAt m (partOn path n)) c
+  leaf-ready z = subst (λ (i : ℕ). LeafHere (partAt m (partOn path i)) c) (sym z) (leaf-here level path m c (subst (λ (i : ℕ). Full i level path m c) z f))
+
+  pub leaf-found : n ≡ 0 → (r : ℕ) → LeafLineIs (partAt m (partOn path n)) c r → LineOfLevel n path m c r
+  leaf-found z r l = subst (λ (i : ℕ). LineOfLevel i path m c r) (sym z) (leaf-level level path m c (subst (λ (i : ℕ). Full i level path m c) z f) r (subst (λ (i : ℕ). LeafLineIs (partAt m (partOn path i)) c r) z l))
+
+  pub node-ready : (n ≡ 0 → ⊥) → NodeHere m n 0 (partOn path n) (placeOn path n) (lineOn path (n - 1)) c
+  node-ready h =
+      let e : suc (n - 1) ≡ n = omega arith in
+      subst (λ (i : ℕ). NodeHere m i 0 (partOn path i) (placeOn path i) (lineOn path (n - 1)) c) e (node-here (n - 1) level path m c (subst (λ (i : ℕ). Full i level path m c) (sym e) f))
+
+  pub node-found : (n ≡ 0 → ⊥) → (r : ℕ) → NodeLineIs m n 0 (partOn path n) (placeOn path n) (lineOn path (n - 1)) c r → LineOfLevel n path m c r
+  node-found h r l =
+      let e : suc (n - 1) ≡ n = omega arith in
+      subst (λ (i : ℕ). LineOfLevel i path m c r) e (node-level (n - 1) level path m c (subst (λ (i : ℕ). Full i level path m c) (sym e) f) r
+      (subst (λ (i : ℕ). NodeLineIs m i 0 (partOn path i) (placeOn path i) (lineOn path (n - 1)) c r) (sym e) l))

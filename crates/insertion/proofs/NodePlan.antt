@@ -1,0 +1,220 @@
+-- The line of a routing node on the path whose child on the path is split: the entries that the code groups are those of the definition.
+use Prim.Native.Nat.{ℕ, zero, suc, _+_, _*_, _-_, _<_, _≤_}
+use mathlib.Core.Bool.{Bool, true, false, cond, not, _&&_}
+use mathlib.Core.Path.{_≡_, refl, sym, ap, _∙_, subst}
+use mathlib.Core.List.{List, [], _∷_, _++_, map, flatMap, append-nil}
+use mathlib.Core.Option.{Option, none, some}
+use lib.Dec.{leb}
+use lib.ListN.{length, take, drop, length-append, length-take, length-map}
+use lib.Seq.{drop-at, length-take-le}
+use native.Mathlib.Omega.{arith}
+use borrow.Author.Tests.{leb-false, leb-true}
+use Rattle.geometry.specs.declared.rect.Cell.{Cell}
+use Rattle.geometry.specs.declared.rect.Rect.{Rect}
+use Rattle.geometry.specs.declared.rect.Line.{Line}
+use Rattle.geometry.specs.Cells.{onGrid}
+use Rattle.geometry.specs.Clip.{below}
+use Rattle.tree.specs.Lists.{All, keep, notEmpty}
+use Rattle.tree.specs.Space.{Side, left, right}
+use Rattle.tree.specs.Nodes.{Item, entryOn, held}
+use Rattle.tree.specs.Split.{halfItems, lineOf, split}
+use Rattle.tree.specs.Plan as P
+use Rattle.tree.specs.Plan.{Way, descend, row, groups, few, lineAt}
+use Rattle.tree.specs.Pass.{wayHeld, Bag, Alike}
+use Rattle.tree.proofs.Laws.{Laws, Steps, Fit, onSide}
+use Rattle.tree.proofs.Fits.{FitAt, length-halfItems}
+use Rattle.tree.proofs.Emission.{groups-is}
+use Rattle.plane.specs.Lines.{CellEntry, holdsOn, nodeLine}
+use Rattle.plane.specs.Plane.{planeSpace}
+use Rattle.plane.specs.Candidates.{rankLine}
+use Rattle.plane.proofs.Rects.{plane-space-laws}
+use Rattle.plane.proofs.Steps.{plane-steps, fits-of-fit}
+use Rattle.plane.proofs.NodeLine.{Fits, GridGroups}
+use Rattle.plane.proofs.Extents.{SomeEach, on-same, count-same, node-same}
+use Rattle.memory.specs.Layout.{part, itemCount, childrenIn}
+use Rattle.memory.specs.Reading.{readNode}
+use Rattle.memory.proofs.ReadingLaws.{node-parts, row-length, children-length, node-below}
+use Rattle.index.specs.Answers.{fanout}
+use Rattle.index.specs.Changes.{entryOf}
+use Rattle.index.specs.Walks.{Walkable, countAt}
+use Rattle.index.proofs.WalkParts.{part-at}
+use Rattle.split_line.specs.Groups.{halvesOf, groupsIn, groupsOf, groupsAt, LineFits}
+use Rattle.emission.specs.Path.{partOn, placeOn, lineOn, polygonOn, rowAt, wayAt}
+use Rattle.insertion.specs.Descent.{itemsAt}
+use Rattle.insertion.proofs.DescentLaws.{items-are, row-is}
+use Rattle.insertion.specs.Ways.{GoodWay}
+use Rattle.insertion.proofs.Ways.{Descent, descent, way-entries}
+use Rattle.insertion.proofs.SplitGroups.{split-groups, few-row, row-entries, line-row, bag-trans, bag-sym, bag-keep, bag-length, bag-all, alike-mid, alike-all, map-append}
+
+abbrev laws : Laws (planeSpace fanout)
+laws = plane-space-laws fanout
+
+abbrev steps : Steps (planeSpace fanout)
+steps = plane-steps fanout (omega arith)
+
+-- where a node of the way has one too many, its line fits
+pub way-fits : (n : ℕ) (w : Way (planeSpace fanout) n) → GoodWay (planeSpace fanout) n w → fanout < length (row (planeSpace fanout) n w)
+    → FitAt (planeSpace fanout) n (lineOf (planeSpace fanout) n (row (planeSpace fanout) n w)) (row (planeSpace fanout) n w)
+unfolding row GoodWay
+way-fits zero es g o = g .fits o
+way-fits (suc n) w g o = g .fits o
+
+fits-same : (gs hs : List (List CellEntry)) (l : Line) → Alike (planeSpace fanout) gs hs → Fits holdsOn fanout hs l → Fits holdsOn fanout gs l
+fits-same gs hs l a f =
+    let x = count-same fanout (holdsOn (left l)) gs hs (on-same fanout (left l)) a in
+    let y = count-same fanout (holdsOn (right l)) gs hs (on-same fanout (right l)) a in
+    let lo = f .lefts-some in let lf = f .lefts-few in let ro = f .rights-some in let rf = f .rights-few in
+    record { lefts-some = omega arith; lefts-few = omega arith; rights-some = omega arith; rights-few = omega arith }
+
+-- A routing node of the way, at part k, with the branches bs; the node below it on the path is split.
+module _ (n : ℕ) (path m : List ℕ) (e : CellEntry) (v : Walkable (suc n) m 0 (partOn path (suc n)))
+    (way : descend (planeSpace fanout) (suc n) (polygonOn path (suc n)) (itemsAt (suc n) m (partOn path (suc n))) e ≡ some (wayAt (suc n) path m e))
+    (good : GoodWay (planeSpace fanout) (suc n) (wayAt (suc n) path m e)) where
+  abbrev k : ℕ
+  k = partOn path (suc n)
+
+  abbrev place : ℕ
+  place = placeOn path (suc n)
+
+  abbrev bs : List (Item (planeSpace fanout) (suc n))
+  bs = v .node .child
+
+  abbrev w : Way (planeSpace fanout) (suc n)
+  w = wayAt (suc n) path m e
+
+  abbrev under : Way (planeSpace fanout) n
+  under = wayAt n path m e
+
+  d : Descent (planeSpace fanout) n (polygonOn path (suc n)) (itemsAt (suc n) m k) e w
+  d = descent (planeSpace fanout) n (polygonOn path (suc n)) (itemsAt (suc n) m k) e w way
+
+  bs-is : rowAt n m k ≡ bs
+  bs-is = row-is n m k (v .node) (v .reads)
+
+  items-is : itemsAt (suc n) m k ≡ bs
+  items-is = items-are (suc n) m k (v .node) (v .reads)
+
+  before-is : d .ch .before ≡ take place bs
+  unfolding wayAt
+  before-is = sym (ap (λ (y : Way (planeSpace fanout) (suc n)). y .before) (d .is)) ∙ ap (take place) bs-is
+
+  after-is : d .ch .after ≡ drop (place + 1) bs
+  unfolding wayAt
+  after-is = sym (ap (λ (y : Way (planeSpace fanout) (suc n)). y .after) (d .is)) ∙ ap (drop (place + 1)) bs-is
+
+  under-is : d .under ≡ under
+  unfolding wayAt
+  under-is = sym (ap (λ (y : Way (planeSpace fanout) (suc n)). y .below) (d .is))
+
+  row-cut : bs ≡ take place bs ++ (d .ch .old ∷ d .ch .after)
+  row-cut = sym items-is ∙ steps .chosen-row (polygonOn path (suc n)) (itemsAt (suc n) m k) (e .cell) (d .ch) (d .chose) ∙ ap (λ (l : List (Item (planeSpace fanout) (suc n))). l ++ (d .ch .old ∷ d .ch .after)) before-is
+
+  place-length : length (take place bs) ≡ place
+  place-length =
+      let a = ap length row-cut ∙ length-append (take place bs) (d .ch .old ∷ d .ch .after) in
+      let b = length-take place bs in
+      omega arith
+
+  old-at : take 1 (drop place bs) ≡ d .ch .old ∷ []
+  old-at = ap (take 1) (ap (drop place) row-cut ∙ drop-at (take place bs) (d .ch .old ∷ d .ch .after) place place-length)
+
+  -- how many items the row has: those of the node, with what took the place of one
+  pub row-length-is : length (row (planeSpace fanout) (suc n) w) + 1 ≡ countAt m k + length (split (planeSpace fanout) n (polygonOn path n) (row (planeSpace fanout) n under))
+  unfolding row wayAt
+  row-length-is =
+      let x = split (planeSpace fanout) n (polygonOn path n) (row (planeSpace fanout) n under) in
+      let a : length bs ≡ length (take place bs) + suc (length (d .ch .after)) = ap length row-cut ∙ length-append (take place bs) (d .ch .old ∷ d .ch .after) in
+      let b = ap length after-is in
+      let r = node-parts fanout n m 0 k (v .node) (v .reads) .row in
+      let f : length bs ≡ length (childrenIn (part m k)) = row-length (readNode fanout n m) 0 k (childrenIn (part m k)) bs r in
+      let g = part-at m k 1 (omega arith) in
+      let i = v .few in
+      let j : length (childrenIn (part m k)) ≡ itemCount (part m k) = children-length fanout m k (node-below fanout m (suc n) 0 k (v .node) (v .reads)) (omega arith) in
+      rw (bs-is, length-append (take place bs) (x ++ drop (place + 1) bs), length-append x (drop (place + 1) bs)) (omega arith)
+
+  -- the entries of the branch at the place, with the new one
+  abbrev es : List CellEntry
+  es = flatMap (held (planeSpace fanout) (suc n)) (take 1 (drop place bs)) ++ (e ∷ [])
+
+  abbrev rows : List CellEntry
+  rows = flatMap (held (planeSpace fanout) n) (row (planeSpace fanout) n under)
+
+  es-is : es ≡ flatMap (held (planeSpace fanout) n) (d .ch .old .child) ++ (e ∷ [])
+  unfolding flatMap held
+  es-is = ap (λ (l : List (Item (planeSpace fanout) (suc n))). flatMap (held (planeSpace fanout) (suc n)) l ++ (e ∷ [])) old-at
+      ∙ ap (λ (l : List CellEntry). l ++ (e ∷ [])) (append-nil (flatMap (held (planeSpace fanout) n) (d .ch .old .child)))
+
+  es-bag : Bag (planeSpace fanout) es rows
+  es-bag q =
+      ap (λ (l : List CellEntry). length (keep q l)) es-is
+      ∙ sym (way-entries (planeSpace fanout) laws steps n (d .ch .grown) (d .ch .old .child) e (d .under) (d .next) q)
+      ∙ ap (λ (y : Way (planeSpace fanout) n). length (keep q (wayHeld (planeSpace fanout) n y))) under-is
+      ∙ sym (row-entries (planeSpace fanout) n under q)
+
+  module _ (full : few (planeSpace fanout) n under ≡ false) (line : rankLine (lineOn path n) ≡ lineAt (planeSpace fanout) n under) where
+    under-good : GoodWay (planeSpace fanout) n under
+    unfolding GoodWay wayAt
+    under-good = good .below
+
+    over : fanout < length (row (planeSpace fanout) n under)
+    over = leb-false (length (row (planeSpace fanout) n under)) fanout (sym (few-row (planeSpace fanout) n under) ∙ full)
+
+    abbrev l : Line
+    l = rankLine (lineOn path n)
+
+    line-is : lineOf (planeSpace fanout) n (row (planeSpace fanout) n under) ≡ l
+    line-is = sym (line ∙ line-row (planeSpace fanout) n under)
+
+    halves-are : map (held (planeSpace fanout) (suc n)) (split (planeSpace fanout) n (polygonOn path n) (row (planeSpace fanout) n under))
+        ≡ keep (entryOn (planeSpace fanout) (left l)) rows ∷ keep (entryOn (planeSpace fanout) (right l)) rows ∷ []
+    halves-are =
+        split-groups (planeSpace fanout) n (polygonOn path n) (row (planeSpace fanout) n under) over (way-fits n under under-good over)
+        ∙ ap (λ (z : Line). keep (entryOn (planeSpace fanout) (left z)) rows ∷ keep (entryOn (planeSpace fanout) (right z)) rows ∷ []) line-is
+
+    -- the groups that the code makes
+    abbrev gs : List (List CellEntry)
+    gs = groupsAt (suc n) m 0 k place (lineOn path n) e
+
+    gs-is : gs ≡ map (held (planeSpace fanout) (suc n)) (take place bs) ++ (halvesOf l es ++ map (held (planeSpace fanout) (suc n)) (drop (place + 1) bs))
+    unfolding groupsAt
+    gs-is = rw (v .reads)
+
+    row-groups : groups (planeSpace fanout) (suc n) w
+        ≡ map (held (planeSpace fanout) (suc n)) (take place bs) ++ (halvesOf l rows ++ map (held (planeSpace fanout) (suc n)) (drop (place + 1) bs))
+    unfolding row wayAt
+    row-groups =
+        groups-is (planeSpace fanout) (suc n) w
+        ∙ map-append (held (planeSpace fanout) (suc n)) (take place (rowAt n m k)) (split (planeSpace fanout) n (polygonOn path n) (row (planeSpace fanout) n under) ++ drop (place + 1) (rowAt n m k))
+        ∙ rw (map-append (held (planeSpace fanout) (suc n)) (split (planeSpace fanout) n (polygonOn path n) (row (planeSpace fanout) n under)) (drop (place + 1) (rowAt n m k)), halves-are, bs-is)
+
+    alike : Alike (planeSpace fanout) gs (groups (planeSpace fanout) (suc n) w)
+    alike =
+        subst (λ (z : List (List CellEntry)). Alike (planeSpace fanout) gs z) (sym row-groups)
+        (subst (λ (z : List (List CellEntry)). Alike (planeSpace fanout) z (map (held (planeSpace fanout) (suc n)) (take place bs) ++ (halvesOf l rows ++ map (held (planeSpace fanout) (suc n)) (drop (place + 1) bs)))) (sym gs-is)
+        (alike-mid (planeSpace fanout) (map (held (planeSpace fanout) (suc n)) (take place bs)) (map (held (planeSpace fanout) (suc n)) (drop (place + 1) bs))
+        (keep (entryOn (planeSpace fanout) (left l)) es) (keep (entryOn (planeSpace fanout) (right l)) es) (keep (entryOn (planeSpace fanout) (left l)) rows) (keep (entryOn (planeSpace fanout) (right l)) rows)
+        (bag-keep (planeSpace fanout) (entryOn (planeSpace fanout) (left l)) es rows es-bag) (bag-keep (planeSpace fanout) (entryOn (planeSpace fanout) (right l)) es rows es-bag)))
+
+    -- the line found from them is the definition's
+    pub node-line-is : nodeLine fanout gs ≡ lineAt (planeSpace fanout) (suc n) w
+    node-line-is = node-same fanout gs (groups (planeSpace fanout) (suc n) w) alike
+
+    -- and a line fits them where the node has one too many
+    pub node-line-fits : fanout < length (row (planeSpace fanout) (suc n) w) → LineFits gs
+    unfolding GoodWay
+    node-line-fits o =
+        let f = way-fits (suc n) w good o in
+        let z = lineOf (planeSpace fanout) (suc n) (row (planeSpace fanout) (suc n) w) in
+        let g : Fit (planeSpace fanout) (onSide (planeSpace fanout)) z (map (held (planeSpace fanout) (suc n)) (row (planeSpace fanout) (suc n) w)) = record {
+          lefts = rw (← length-halfItems (planeSpace fanout) (suc n) (left z) (row (planeSpace fanout) (suc n) w)) (f .lefts);
+          rights = rw (← length-halfItems (planeSpace fanout) (suc n) (right z) (row (planeSpace fanout) (suc n) w)) (f .rights);
+        } in
+        let q = sym (groups-is (planeSpace fanout) (suc n) w) in
+        record {
+          some-each = alike-all (planeSpace fanout) (λ x. 1 ≤ length x) (λ x. 1 ≤ length x) (λ x y b h. let i = bag-length (planeSpace fanout) x y b in omega arith) gs (groups (planeSpace fanout) (suc n) w) alike
+              (subst (λ (y : List (List CellEntry)). All (λ x. 1 ≤ length x) y) q (good .full));
+          grid = alike-all (planeSpace fanout) (λ x. All (λ i. onGrid (i .cell) ≡ true) x) (λ x. All (λ i. onGrid (i .cell) ≡ true) x) (λ x y b h. bag-all (planeSpace fanout) (λ i. onGrid (i .cell)) x y b h) gs (groups (planeSpace fanout) (suc n) w) alike
+              (subst (λ (y : List (List CellEntry)). All (λ x. All (λ i. onGrid (i .cell) ≡ true) x) y) q (good .real));
+          line = z;
+          fits = fits-same gs (groups (planeSpace fanout) (suc n) w) z alike (subst (λ (y : List (List CellEntry)). Fits holdsOn fanout y z) q (fits-of-fit fanout (map (held (planeSpace fanout) (suc n)) (row (planeSpace fanout) (suc n) w)) z g));
+        }

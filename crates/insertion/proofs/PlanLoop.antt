@@ -1,0 +1,201 @@
+-- The loop of the plan, from the leaf up: as long as nodes get one item too many, their lines are found; no node above is split.
+use Prim.Native.Nat.{ℕ, zero, suc, _+_, _*_, _-_, _≤_, _<_}
+use mathlib.Core.Bool.{Bool, true, false}
+use mathlib.Core.Path.{_≡_, refl, sym, ap, _∙_, subst}
+use mathlib.Core.List.{List, [], _∷_, _++_}
+use native.Mathlib.Omega.{arith}
+use native.Mathlib.Nat.{le-refl}
+use native.Mathlib.Decide.{decLt, decLe, ℕ-discrete}
+use borrow.Author.Tests.{le-leb, lt-leb, leb-true, leb-false, eq-eqb, ne-eqb}
+use lib.Dec.{leb, eqb}
+use lib.ListN.{length, getD, set, length-set, length-append}
+use Rattle.geometry.specs.declared.rect.Cell.{Cell}
+use Rattle.tree.specs.Split.{split}
+use Rattle.tree.specs.Plan.{Way, row, few, lineAt}
+use Rattle.plane.specs.Lines.{CellEntry}
+use Rattle.plane.specs.Plane.{planeSpace}
+use Rattle.plane.specs.Candidates.{rankLine}
+use Rattle.memory.specs.Layout.{part, itemCount, entriesIn}
+use Rattle.memory.proofs.ReadingLaws.{entries-length}
+use Rattle.index.specs.Answers.{fanout}
+use Rattle.index.specs.Changes.{entryOf}
+use Rattle.index.specs.Walks.{Walkable, countAt}
+use Rattle.index.proofs.WalkParts.{part-at}
+use Rattle.split_line.specs.LineNumber.{LineIs}
+use Rattle.emission.specs.Path.{partOn, placeOn, lineOn, polygonOn, rowAt, wayAt, PathNode, PathFrom}
+use Rattle.insertion.specs.Ways.{GoodWay}
+use Rattle.insertion.specs.Planning.{GoodPath, Plannable, PlannedAt, Planned, SplitBelow, Full, LineOfLevel, PlanMade}
+use Rattle.insertion.proofs.SplitGroups.{split-one, split-two, few-row}
+use Rattle.insertion.proofs.NodePlan.{way-fits, row-length-is}
+use Rattle.insertion.proofs.PathLaws.{part-kept, line-kept, line-put, way-kept, polygon-kept, path-few, good-kept, path-below, node-at}
+
+module _ (level : ℕ) (path m : List ℕ) (c : Cell) (g : GoodPath level path m c) where
+  walk-at : (n : ℕ) → n ≤ level → Walkable n m 0 (partOn path n)
+  walk-at n h = node-at path m n (path-below path m level n (g .from) h) .walk
+
+  abbrev rowAt-length : ℕ → ℕ → ℕ
+  rowAt-length n t = length (row (planeSpace fanout) n (wayAt n path m (entryOf c t)))
+
+  leaf-length : (t : ℕ) → rowAt-length 0 t ≡ countAt m (partOn path 0) + 1
+  unfolding row wayAt
+  leaf-length t =
+      let k = partOn path 0 in
+      let a = length-append (entriesIn (part m k) (itemCount (part m k))) (entryOf c t ∷ []) in
+      let b = entries-length (part m k) (itemCount (part m k)) in
+      let d = part-at m k 1 (omega arith) in
+      omega arith
+
+  few-is : (n t : ℕ) → few (planeSpace fanout) n (wayAt n path m (entryOf c t)) ≡ leb (rowAt-length n t) fanout
+  few-is n t = few-row (planeSpace fanout) n (wayAt n path m (entryOf c t))
+
+  node-length : (n : ℕ) → suc n ≤ level → (t : ℕ)
+      → rowAt-length (suc n) t + 1 ≡ countAt m (partOn path (suc n)) + length (split (planeSpace fanout) n (polygonOn path n) (row (planeSpace fanout) n (wayAt n path m (entryOf c t))))
+  node-length n h t = row-length-is n path m (entryOf c t) (walk-at (suc n) h) (g .ways (suc n) h t) (g .goods (suc n) h t)
+
+  split-below : (n : ℕ) → n ≤ level → (t : ℕ) → few (planeSpace fanout) n (wayAt n path m (entryOf c t)) ≡ false
+      → length (split (planeSpace fanout) n (polygonOn path n) (row (planeSpace fanout) n (wayAt n path m (entryOf c t)))) ≡ 2
+  split-below n h t f =
+      let o = leb-false (rowAt-length n t) fanout (sym (few-is n t) ∙ f) in
+      split-two (planeSpace fanout) n (polygonOn path n) (row (planeSpace fanout) n (wayAt n path m (entryOf c t))) o (way-fits n (wayAt n path m (entryOf c t)) (g .goods n h t) o)
+
+  -- a node whose child on the path is split, or a leaf, gets one item more
+  pub level-length : (n : ℕ) → n ≤ level → SplitBelow n path m c → (t : ℕ) → rowAt-length n t ≡ countAt m (partOn path n) + 1
+  level-length zero h s t = leaf-length t
+  level-length (suc n) h s t =
+      let a = node-length n h t in
+      let b = split-below n (omega arith) t (s .all n (omega arith) t) in
+      omega arith
+
+  -- above a node that is not split none is
+  upper-few : (n : ℕ) → suc n ≤ level → (t : ℕ) → few (planeSpace fanout) n (wayAt n path m (entryOf c t)) ≡ true → few (planeSpace fanout) (suc n) (wayAt (suc n) path m (entryOf c t)) ≡ true
+  upper-few n h t f =
+      let o = leb-true (rowAt-length n t) fanout (sym (few-is n t) ∙ f) in
+      let a = node-length n h t in
+      let b = split-one (planeSpace fanout) n (polygonOn path n) (row (planeSpace fanout) n (wayAt n path m (entryOf c t))) o in
+      let d = walk-at (suc n) h .few in
+      few-is (suc n) t ∙ le-leb (rowAt-length (suc n) t) fanout (omega arith)
+
+  all-few : (n j t : ℕ) → few (planeSpace fanout) n (wayAt n path m (entryOf c t)) ≡ true → n + j ≤ level → few (planeSpace fanout) (n + j) (wayAt (n + j) path m (entryOf c t)) ≡ true
+  all-few n zero t f h = subst (λ (i : ℕ). few (planeSpace fanout) i (wayAt i path m (entryOf c t)) ≡ true) (let e : n ≡ n + zero = omega arith in e) f
+  all-few n (suc j) t f h =
+      subst (λ (i : ℕ). few (planeSpace fanout) i (wayAt i path m (entryOf c t)) ≡ true) (let e : suc (n + j) ≡ n + suc j = omega arith in e)
+      (upper-few (n + j) (omega arith) t (all-few n j t f (omega arith)))
+
+-- Before the node on the path at level n is looked at: those below are split, and those from n on have no line yet.
+pub record Planning (level : ℕ) (path₀ m : List ℕ) (c : Cell) (n : ℕ) (path : List ℕ) : Type 0 where
+  pub n-le : n ≤ level + 1
+  pub path-is : GoodPath level path m c
+  pub splits : SplitBelow n path m c
+  pub rest : (j : ℕ) → n ≤ j → j ≤ level → lineOn path j ≡ 0
+  pub same-length : length path ≡ length path₀
+  pub part : partOn path level ≡ partOn path₀ level
+  pub polygon : polygonOn path level ≡ polygonOn path₀ level
+
+pub plan-start : (level : ℕ) (path m : List ℕ) (c : Cell) → Plannable level path m c → Planning level path m c 0 path
+plan-start level path m c g = record {
+  n-le = omega arith;
+  path-is = g .path-is;
+  splits = record { each = λ j h t. absurd (omega arith); all = λ j h t. absurd (omega arith) };
+  rest = λ j h i. g .unsplit j i;
+  same-length = refl;
+  part = refl;
+  polygon = refl;
+}
+
+module _ (level : ℕ) (path₀ m : List ℕ) (c : Cell) (n : ℕ) (path : List ℕ) (a : Planning level path₀ m c n path) where
+  -- the node at level n on the path
+  pub plan-node : n ≤ level → PathNode n path m
+  plan-node h = node-at path m n (path-below path m level n (a .path-is .from) h)
+
+  pub plan-full : n ≤ level → 8 ≤ countAt m (partOn path n) → Full n level path m c
+  plan-full h f =
+      let w = plan-node h .walk .few in
+      record { path-is = a .path-is; below = h; splits = a .splits; eight = omega arith }
+
+  module _ (r : ℕ) (h : n ≤ level) (full : 8 ≤ countAt m (partOn path n)) (l : LineOfLevel n path m c r) where
+    abbrev path₁ : List ℕ
+    path₁ = set path (68 * n + 2) r
+
+    small : r < 131072
+    small = l 0 .small
+
+    from-n : (j : ℕ) → j ≤ n → PathFrom j path m
+    from-n j i = path-below path m level j (a .path-is .from) (omega arith)
+
+    same-way : (j t : ℕ) → j ≤ n → wayAt j path₁ m (entryOf c t) ≡ wayAt j path m (entryOf c t)
+    same-way j t i = way-kept path n r m j (entryOf c t) (from-n j i)
+
+    not-few : (t : ℕ) → few (planeSpace fanout) n (wayAt n path m (entryOf c t)) ≡ false
+    not-few t =
+        let e = level-length level path m c (a .path-is) n h (a .splits) t in
+        few-row (planeSpace fanout) n (wayAt n path m (entryOf c t)) ∙ lt-leb (length (row (planeSpace fanout) n (wayAt n path m (entryOf c t)))) fanout (omega arith)
+
+    planned-here : (t : ℕ) → PlannedAt n path₁ m (entryOf c t)
+    planned-here t =
+        let rm = plan-node h .room in
+        let p = line-put path n r (omega arith) in
+        let s = l t .some in
+        let f : few (planeSpace fanout) n (wayAt n path₁ m (entryOf c t)) ≡ false = ap (few (planeSpace fanout) n) (same-way n t (le-refl n)) ∙ not-few t in
+        record {
+          split = ap (λ (i : ℕ). eqb i 0) p ∙ ne-eqb r 0 (λ (z : r ≡ 0). omega arith) ∙ sym f;
+          line = λ z. ap rankLine p ∙ l t .is ∙ ap (lineAt (planeSpace fanout) n) (sym (same-way n t (le-refl n)));
+        }
+
+    planned-low : (j : ℕ) → j < n → (t : ℕ) → PlannedAt j path₁ m (entryOf c t)
+    planned-low j i t =
+        let q = a .splits .each j i t in
+        let k = line-kept path n r j (λ (z : j ≡ n). omega arith) in
+        let w = same-way j t (omega arith) in
+        record {
+          split = ap (λ (x : ℕ). eqb x 0) k ∙ q .split ∙ ap (few (planeSpace fanout) j) (sym w);
+          line = λ z. ap rankLine k ∙ q .line (ap (few (planeSpace fanout) j) (sym w) ∙ z) ∙ ap (lineAt (planeSpace fanout) j) (sym w);
+        }
+
+    pub plan-again : (path′ : List ℕ) (n′ : ℕ) → path′ ≡ path₁ → n′ ≡ n + 1 → Planning level path₀ m c n′ path′
+    plan-again path′ n′ e f = rw (e, f) (record {
+      n-le = omega arith;
+      path-is = good-kept path n r m level c small (a .path-is);
+      splits = record { each = λ j i t. each j i (ℕ-discrete j n) t; all = λ j i t. all j i (ℕ-discrete j n) t };
+      rest = λ j i k. line-kept path n r j (λ (z : j ≡ n). omega arith) ∙ a .rest j (omega arith) k;
+      same-length = length-set path (68 * n + 2) r ∙ a .same-length;
+      part = part-kept path n r level ∙ a .part;
+      polygon = polygon-kept path n r level (path-few path n r m level (a .path-is .from)) ∙ a .polygon;
+    })
+      where
+        each : (j : ℕ) → j < n + 1 → Dec (j ≡ n) → (t : ℕ) → PlannedAt j path₁ m (entryOf c t)
+        each j i (yes z) t = subst (λ (x : ℕ). PlannedAt x path₁ m (entryOf c t)) (sym z) (planned-here t)
+        each j i (no z) t = planned-low j (omega arith) t
+
+        all : (j : ℕ) → j < n + 1 → Dec (j ≡ n) → (t : ℕ) → few (planeSpace fanout) j (wayAt j path₁ m (entryOf c t)) ≡ false
+        all j i (yes z) t = subst (λ (x : ℕ). few (planeSpace fanout) x (wayAt x path₁ m (entryOf c t)) ≡ false) (sym z) (ap (few (planeSpace fanout) n) (same-way n t (le-refl n)) ∙ not-few t)
+        all j i (no z) t = ap (few (planeSpace fanout) j) (same-way j t (omega arith)) ∙ a .splits .all j (omega arith) t
+
+  made : Planned level path m c → PlanMade level path₀ m c path
+  made p = record { path-is = a .path-is; planned = p; same-length = a .same-length; part = a .part; polygon = a .polygon }
+
+  -- a node that gets no item too many: the plan is done
+  pub plan-stop : n ≤ level → countAt m (partOn path n) < 8 → PlanMade level path₀ m c path
+  plan-stop h f = made (record { each = λ j i t. each j i (decLt j n) t })
+    where
+      here : (t : ℕ) → few (planeSpace fanout) n (wayAt n path m (entryOf c t)) ≡ true
+      here t =
+          let e = level-length level path m c (a .path-is) n h (a .splits) t in
+          few-row (planeSpace fanout) n (wayAt n path m (entryOf c t)) ∙ le-leb (length (row (planeSpace fanout) n (wayAt n path m (entryOf c t)))) fanout (omega arith)
+
+      each : (j : ℕ) → j ≤ level → Dec (j < n) → (t : ℕ) → PlannedAt j path m (entryOf c t)
+      each j i (yes z) t = a .splits .each j z t
+      each j i (no z) t =
+          let q : n + (j - n) ≡ j = omega arith in
+          let w : few (planeSpace fanout) j (wayAt j path m (entryOf c t)) ≡ true = subst (λ (x : ℕ). few (planeSpace fanout) x (wayAt x path m (entryOf c t)) ≡ true) q (all-few level path m c (a .path-is) n (j - n) t (here t) (omega arith)) in
+          record {
+            split = eq-eqb (lineOn path j) 0 (a .rest j (omega arith) i) ∙ sym w;
+            line = λ y. absurd (no-both (few (planeSpace fanout) j (wayAt j path m (entryOf c t))) w y);
+          }
+        where
+          no-both : (b : Bool) → b ≡ true → b ≡ false → ⊥
+          no-both true x y = let z : _≡_ {A = ℕ} 0 1 = cc in absurd (omega arith)
+          no-both false x y = let z : _≡_ {A = ℕ} 0 1 = cc in absurd (omega arith)
+
+  -- all nodes on the path are split
+  pub plan-end : level < n → PlanMade level path₀ m c path
+  plan-end h = made (record { each = λ j i t. a .splits .each j (omega arith) t })

@@ -1,0 +1,273 @@
+-- The start of an insertion at the root, and its path found: the tree after is the planned one.
+use Prim.Native.Nat.{ℕ, zero, suc, _+_, _*_, _-_, _≤_, _<_}
+use mathlib.Core.Bool.{Bool, true, false}
+use mathlib.Core.Path.{_≡_, refl, sym, ap, _∙_, subst}
+use mathlib.Core.List.{List, [], _∷_, _++_, map, flatMap}
+use mathlib.Core.Option.{Option, none, some, bind, Option·some-injective}
+use native.Mathlib.Omega.{arith}
+use native.Mathlib.Nat.{le-refl}
+use native.Mathlib.Decide.{ℕ-discrete}
+use lib.ListN.{length, take, drop, getD, length-take, length-drop}
+use lib.Seq.{getD-drop, getD-take}
+use Rattle.geometry.specs.declared.rect.Cell.{Cell}
+use Rattle.geometry.specs.declared.rect.Rect.{Rect}
+use Rattle.geometry.specs.Cells.{onGrid}
+use Rattle.geometry.specs.Grow.{grown}
+use Rattle.geometry.specs.declared.polygon.Polygon.{Polygon}
+use Rattle.geometry.specs.Numbers.{rectAt, rectsIn, rectsOf, PolygonOf}
+use Rattle.geometry.proofs.CellLaws.{OnGrid, grid-of}
+use Rattle.geometry.proofs.NumberLaws.{length-rects}
+use Rattle.tree.specs.Lists.{All}
+use Rattle.tree.specs.Nodes.{Item, held}
+use Rattle.tree.specs.Sound.{Count, SoundItem, SoundItems}
+use Rattle.tree.specs.Tree.{Tree, top, entries, SoundTree}
+use Rattle.tree.specs.Insert.{insertTree}
+use Rattle.tree.specs.Plan as P
+use Rattle.tree.specs.Plan.{Way, descend}
+use Rattle.tree.specs.Query.{ofCell, holds}
+use Rattle.tree.proofs.Any.{any-false}
+use Rattle.tree.proofs.Lists.{all-map}
+use Rattle.tree.proofs.Laws.{Laws, Steps, RootLaws}
+use Rattle.tree.proofs.Keeps.{sound-wider}
+use Rattle.tree.proofs.InsertAt.{Fresh}
+use Rattle.tree.proofs.Emission.{insert-is}
+use Rattle.tree.proofs.PlanIndex.{insert-by-plan}
+use Rattle.plane.specs.Lines.{CellEntry}
+use Rattle.plane.specs.Plane.{planeSpace, planeRoot}
+use Rattle.plane.proofs.Rects.{plane-space-laws}
+use Rattle.plane.proofs.Steps.{plane-steps}
+use Rattle.plane.proofs.Roots.{plane-root-laws}
+use Rattle.memory.specs.Layout.{part, rectCount, polygonIn, rootIn}
+use Rattle.memory.specs.Reading.{readNode, reading}
+use Rattle.memory.proofs.ReadingLaws.{ReadAs, read-as, ReadSound, read-sound, leaf-parts, node-parts, node-below, length-right}
+use Rattle.index.specs.Answers.{fanout}
+use Rattle.index.specs.Changes.{entryOf}
+use Rattle.index.specs.Open.{TreeIn}
+use Rattle.index.specs.Walks.{Walkable}
+use Rattle.index.proofs.WalkParts.{part-at}
+use Rattle.index.proofs.WalkRows.{walkable}
+use Rattle.index.proofs.TreeWalk.{tree-walkable}
+use Rattle.emission.specs.Path.{partOn, lineOn, polygonOn, wayAt, PathFrom, plannedTree}
+use Rattle.index.specs.Held.{heldRead}
+use Rattle.insertion.specs.Ways.{GoodWay}
+use Rattle.insertion.specs.Descent.{itemsAt, LevelPut, Descending, Kept, Reached, Stopped, Descended}
+use Rattle.insertion.specs.Planning.{GoodPath, Plannable, Planned, PlanMade}
+use Rattle.insertion.specs.Insert.{Inserting, PathPlanned, PathRefused}
+use Rattle.insertion.proofs.DescentLaws.{items-are, same-drop, same-polygon}
+use Rattle.insertion.proofs.Ways.{SoundWay, sound-way}
+use Rattle.insertion.proofs.PlanTree.{planned-insert}
+
+abbrev laws : Laws (planeSpace fanout)
+laws = plane-space-laws fanout
+
+abbrev steps : Steps (planeSpace fanout)
+steps = plane-steps fanout (omega arith)
+
+-- the polygon of a node that reads
+polygon-reads : (n : ℕ) (m : List ℕ) (lo k : ℕ) (b : Item (planeSpace fanout) (suc n)) → readNode fanout n m lo k ≡ some b → b .poly ≡ polygonIn (part m k)
+polygon-reads zero m lo k b h = leaf-parts fanout m lo k b h .polygon
+polygon-reads (suc n) m lo k b h = node-parts fanout n m lo k b h .polygon
+
+-- the first rectangle of a part, read in place
+rect-in-place : (m : List ℕ) (k : ℕ) → 64 + 128 * k + 128 ≤ length m
+    → rectAt (take (length m - (64 + 128 * k + 2)) (drop (64 + 128 * k + 2) m)) 0 ≡ rectAt (drop 2 (part m k)) 0
+unfolding rectAt
+rect-in-place m k h = rw (at 0 (omega arith), at 1 (omega arith), at 2 (omega arith), at 3 (omega arith))
+  where
+    at : (i : ℕ) → i < 4 → getD (take (length m - (64 + 128 * k + 2)) (drop (64 + 128 * k + 2) m)) i 0 ≡ getD (drop 2 (part m k)) i 0
+    at i l =
+        getD-take (length m - (64 + 128 * k + 2)) (drop (64 + 128 * k + 2) m) i 0 (omega arith) ∙ getD-drop (64 + 128 * k + 2) m i 0
+        ∙ ap (λ (j : ℕ). getD m j 0) (let q : 64 + 128 * k + 2 + i ≡ 64 + 128 * k + (2 + i) = omega arith in q)
+        ∙ sym (getD-drop 2 (part m k) i 0 ∙ part-at m k (2 + i) (omega arith))
+
+one-rect : (l : List ℕ) (n : ℕ) → length (rectsIn l n) ≡ 1 → rectsIn l n ≡ rectAt l 0 ∷ []
+unfolding rectsIn
+one-rect l n h = let e : n ≡ 1 = sym (length-rects l n) ∙ h in rw e
+
+good-below : (path m : List ℕ) (e : CellEntry) (n j : ℕ) → j ≤ n → GoodWay (planeSpace fanout) n (wayAt n path m e) → GoodWay (planeSpace fanout) j (wayAt j path m e)
+unfolding GoodWay wayAt
+good-below path m e zero j h g = subst (λ (i : ℕ). GoodWay (planeSpace fanout) i (wayAt i path m e)) (let z : 0 ≡ j = omega arith in z) g
+good-below path m e (suc n) j h g = go (ℕ-discrete j (suc n)) (λ i. good-below path m e n j i (g .below))
+  where
+    go : Dec (j ≡ suc n) → (j ≤ n → GoodWay (planeSpace fanout) j (wayAt j path m e)) → GoodWay (planeSpace fanout) j (wayAt j path m e)
+    go (yes z) f = subst (λ (i : ℕ). GoodWay (planeSpace fanout) i (wayAt i path m e)) (sym z) g
+    go (no z) f = f (omega arith)
+
+module _ (m : List ℕ) (c : Cell) (x : Tree (planeSpace fanout)) (reads : reading fanout m ≡ some (some x)) (grid : onGrid c ≡ true) (new : holds (planeSpace fanout) c (some x) ≡ false) where
+  abbrev root : ℕ
+  root = rootIn m
+
+  read-x : ReadAs fanout m x
+  read-x = read-as fanout m x reads
+
+  sound : SoundTree (planeSpace fanout) (planeRoot fanout) x
+  sound = read-sound fanout m x reads .sound
+
+  walk : Walkable (x .level) m 0 root
+  walk = walkable (x .level) m 0 root (top (planeSpace fanout) x) (read-x .right) (omega arith) (read-x .root-node)
+
+  abbrev p : List Rect
+  p = planeRoot fanout .growRoot (x .root) c
+
+  -- the rectangle that the code grows
+  pub grown-root : (r g : Rect) → r ≡ rectAt (take (length m - (64 + 128 * root + 2)) (drop (64 + 128 * root + 2) m)) 0 → g ≡ grown r c → g ∷ [] ≡ p
+  grown-root r g e f =
+      let q = polygon-reads (x .level) m 0 root (top (planeSpace fanout) x) (read-x .root-node) in
+      let o : length (rectsIn (drop 2 (part m root)) (rectCount (part m root))) ≡ 1 = ap length (sym q) ∙ sound .one in
+      let w : x .root ≡ rectAt (drop 2 (part m root)) 0 ∷ [] = q ∙ one-rect (drop 2 (part m root)) (rectCount (part m root)) o in
+      let i = walk .ends in
+      ap (λ (z : Rect). z ∷ []) (f ∙ ap (λ (z : Rect). grown z c) (e ∙ rect-in-place m root i)) ∙ ap (λ (l : List Rect). planeRoot fanout .growRoot l c) (sym w)
+
+  items-x : itemsAt (x .level) m root ≡ x .items
+  items-x = items-are (x .level) m root (top (planeSpace fanout) x) (read-x .root-node)
+
+  grown-items : SoundItems (planeSpace fanout) (x .level) p (x .items)
+  grown-items = record {
+    each = all-map (SoundItem (planeSpace fanout) (x .level) (x .root)) (SoundItem (planeSpace fanout) (x .level) p) (x .items) (λ y. sound-wider (planeSpace fanout) (x .level) (x .root) p y (plane-root-laws fanout .grow-old (x .root) c)) (sound .items .each);
+    apart = sound .items .apart;
+  }
+
+  fresh : Fresh (planeSpace fanout) (entryOf c 0) (flatMap (held (planeSpace fanout) (x .level)) (x .items))
+  fresh = any-false (ofCell (planeSpace fanout) c) (entries (planeSpace fanout) (some x)) new
+
+  fine-p : planeSpace fanout .Fine p
+  fine-p = plane-root-laws fanout .grow-fine (x .root) c grid (sound .fine)
+
+  has-p : planeSpace fanout .has p c ≡ true
+  has-p = plane-root-laws fanout .grow-has (x .root) c (sound .one)
+
+  -- the descent starts at the root
+  root-descending : (path path₁ : List ℕ) → 68 * x .level + 68 ≤ length path → LevelPut path (x .level) root p path₁ → Descending (x .level) path₁ m c
+  root-descending path path₁ h v =
+      let i : itemsAt (x .level) m (partOn path₁ (x .level)) ≡ x .items = ap (itemsAt (x .level) m) (v .part) ∙ items-x in
+      let l = v .same-length in
+      record {
+        walk = subst (Walkable (x .level) m 0) (sym (v .part)) walk;
+        room = omega arith;
+        few = v .few;
+        unsplit = v .line;
+        grid = grid;
+        fine = subst (λ (z : List Rect). planeSpace fanout .Fine z) (sym (v .polygon)) fine-p;
+        has = subst (λ (z : List Rect). planeSpace fanout .has z c ≡ true) (sym (v .polygon)) has-p;
+        items = subst (λ (z : List Rect). SoundItems (planeSpace fanout) (x .level) z (itemsAt (x .level) m (partOn path₁ (x .level)))) (sym (v .polygon))
+            (subst (λ (z : List (Item (planeSpace fanout) (x .level))). SoundItems (planeSpace fanout) (x .level) p z) (sym i) grown-items);
+        count = subst (λ (z : List (Item (planeSpace fanout) (x .level))). Count (planeSpace fanout) z) (sym i) (sound .count);
+        fresh = subst (λ (z : List (Item (planeSpace fanout) (x .level))). Fresh (planeSpace fanout) (entryOf c 0) (flatMap (held (planeSpace fanout) (x .level)) z)) (sym i) fresh;
+      }
+
+  -- the descent from the root, in the tree's words
+  module _ (path path₁ : List ℕ) (v : LevelPut path (x .level) root p path₁) where
+    from-root : (t : ℕ) (o : Option (Way (planeSpace fanout) (x .level))) → descend (planeSpace fanout) (x .level) (polygonOn path₁ (x .level)) (itemsAt (x .level) m (partOn path₁ (x .level))) (entryOf c t) ≡ o
+        → descend (planeSpace fanout) (x .level) p (x .items) (entryOf c t) ≡ o
+    from-root t o h =
+        ap (λ (z : List Rect). descend (planeSpace fanout) (x .level) z (x .items) (entryOf c t)) (sym (v .polygon))
+        ∙ ap (λ (z : List (Item (planeSpace fanout) (x .level))). descend (planeSpace fanout) (x .level) (polygonOn path₁ (x .level)) z (entryOf c t)) (sym (ap (itemsAt (x .level) m) (v .part) ∙ items-x)) ∙ h
+
+    -- step 2 refused
+    refused : Stopped (x .level) path₁ m c → (t : ℕ) → insertTree (planeSpace fanout) (planeRoot fanout) (some x) (entryOf c t) ≡ none
+    unfolding bind
+    refused s t = insert-by-plan (planeSpace fanout) (planeRoot fanout) x (entryOf c t) ∙ rw (from-root t none (s .way t))
+
+    module _ (path₂ : List ℕ) (kept : Kept (x .level) path₁ path₂) (z : Reached (x .level) path₁ m c path₂) where
+      polygon-2 : polygonOn path₂ (x .level) ≡ p
+      polygon-2 = same-polygon path₂ path₁ (x .level) (same-drop path₂ path₁ (68 * x .level + 2) (68 * x .level + 3) (kept .above) (omega arith)) ∙ v .polygon
+
+      part-2 : partOn path₂ (x .level) ≡ root
+      part-2 = kept .part ∙ v .part
+
+      way-2 : (t : ℕ) → descend (planeSpace fanout) (x .level) p (x .items) (entryOf c t) ≡ some (wayAt (x .level) path₂ m (entryOf c t))
+      way-2 t =
+          ap (λ (l : List Rect). descend (planeSpace fanout) (x .level) l (x .items) (entryOf c t)) (sym polygon-2)
+          ∙ ap (λ (l : List (Item (planeSpace fanout) (x .level))). descend (planeSpace fanout) (x .level) (polygonOn path₂ (x .level)) l (entryOf c t)) (sym (ap (itemsAt (x .level) m) part-2 ∙ items-x))
+          ∙ z .ways (x .level) (le-refl (x .level)) t
+
+      good-top : (t : ℕ) → GoodWay (planeSpace fanout) (x .level) (wayAt (x .level) path₂ m (entryOf c t))
+      good-top t = sound-way (planeSpace fanout) laws steps (x .level) p (x .items) (entryOf c t) (wayAt (x .level) path₂ m (entryOf c t)) (way-2 t) fine-p grown-items (sound .count) has-p fresh .way
+
+      good-path : GoodPath (x .level) path₂ m c
+      good-path = record { from = z .from; grid = grid; ways = z .ways; goods = λ j h t. good-below path₂ m (entryOf c t) (x .level) j h (good-top t) }
+
+      module _ (path₃ : List ℕ) (made : PlanMade (x .level) path₂ m c path₃) where
+        planned : PathPlanned m (x .level) c path₃
+        planned = record {
+          from = made .path-is .from;
+          after = λ y h t.
+              let same : some x ≡ some y = Option·some-injective (some x) (some y) (sym reads ∙ h) in
+              subst (λ (o : Option (Tree (planeSpace fanout))). insertTree (planeSpace fanout) (planeRoot fanout) o (entryOf c t) ≡ some (plannedTree (x .level) path₃ m (entryOf c t))) same
+              (planned-insert x path₃ m (entryOf c t) (λ j i. made .planned .each j i t) (made .path-is .goods (x .level) (le-refl (x .level)) t)
+              (sym (made .polygon ∙ polygon-2))
+              (ap (λ (l : List (Item (planeSpace fanout) (x .level))). descend (planeSpace fanout) (x .level) (polygonOn path₃ (x .level)) l (entryOf c t)) (sym (ap (itemsAt (x .level) m) (made .part ∙ part-2) ∙ items-x)) ∙ made .path-is .ways (x .level) (le-refl (x .level)) t));
+        }
+
+-- The same for the code: the tree's level and root by their numbers.
+module _ (m : List ℕ) (level root : ℕ) (c : Cell) (v : Inserting m level root c) where
+  abbrev tree : Tree (planeSpace fanout)
+  tree = v .tree-in .tree
+
+  tree-new : holds (planeSpace fanout) c (some tree) ≡ false
+  unfolding heldRead
+  tree-new = sym (ap (heldRead c) (v .tree-in .reads)) ∙ v .new
+
+  abbrev grownRoot : List Rect
+  grownRoot = planeRoot fanout .growRoot (tree .root) c
+
+  walk-root : Walkable level m 0 root
+  walk-root = tree-walkable m level root (v .tree-in)
+
+  pub root-in : 64 + 128 * root + 2 ≤ length m
+  root-in = let e = walk-root .ends in omega arith
+
+  pub root-rect : 4 ≤ length (take (length m - (64 + 128 * root + 2)) (drop (64 + 128 * root + 2) m))
+  root-rect = let e = walk-root .ends in simp (length-take, length-drop) (omega arith)
+
+  pub cell-x : c .x ≤ 65535
+  cell-x = grid-of c (v .grid) .x-most
+
+  pub cell-y : c .y ≤ 65535
+  cell-y = grid-of c (v .grid) .y-most
+
+  module _ (path path₁ : List ℕ) (r g : Rect) (h : 68 * level + 68 ≤ length path) (e : r ≡ rectAt (take (length m - (64 + 128 * root + 2)) (drop (64 + 128 * root + 2) m)) 0) (f : g ≡ grown r c)
+      (q : Polygon) (u : PolygonOf (g ∷ []) q) (put : LevelPut path level root (rectsOf q) path₁) where
+    put-tree : LevelPut path (tree .level) (rootIn m) grownRoot path₁
+    put-tree =
+        let a = subst (λ (i : ℕ). r ≡ rectAt (take (length m - (64 + 128 * i + 2)) (drop (64 + 128 * i + 2) m)) 0) (sym (v .tree-in .root-is)) e in
+        let b : rectsOf q ≡ grownRoot = u .list ∙ grown-root m c tree (v .tree-in .reads) (v .grid) tree-new r g a f in
+        subst (λ (i : ℕ). LevelPut path i (rootIn m) grownRoot path₁) (sym (v .tree-in .level-is))
+        (subst (λ (i : ℕ). LevelPut path level i grownRoot path₁) (sym (v .tree-in .root-is)) (subst (λ (l : List Rect). LevelPut path level root l path₁) b put))
+
+    pub find-start : Descending level path₁ m c
+    find-start = subst (λ (i : ℕ). Descending i path₁ m c) (v .tree-in .level-is)
+        (root-descending m c tree (v .tree-in .reads) (v .grid) tree-new path path₁ (subst (λ (i : ℕ). 68 * i + 68 ≤ length path) (sym (v .tree-in .level-is)) h) put-tree)
+
+    module _ (path₂ : List ℕ) (b : Bool) (z : Descended level path₁ m c path₂ b) where
+      pub find-refused : b ≡ false → PathRefused m c
+      find-refused n = record {
+        after = λ y k t.
+            let same : some tree ≡ some y = Option·some-injective (some tree) (some y) (sym (v .tree-in .reads) ∙ k) in
+            let z′ : Descended level path₁ m c path₂ false = subst (λ (x : Bool). Descended level path₁ m c path₂ x) n z in
+            subst (λ (o : Option (Tree (planeSpace fanout))). insertTree (planeSpace fanout) (planeRoot fanout) o (entryOf c t) ≡ none) same
+            (refused m c tree (v .tree-in .reads) (v .grid) tree-new path path₁ put-tree (subst (λ (i : ℕ). Descended i path₁ m c path₂ false) (sym (v .tree-in .level-is)) z′ .is) t);
+      }
+
+      pub find-length : length path₂ ≡ length path
+      find-length = z .kept .same-length ∙ put .same-length
+
+      module _ (n : b ≡ true) where
+        reached : Descended level path₁ m c path₂ true
+        reached = subst (λ (x : Bool). Descended level path₁ m c path₂ x) n z
+
+        z-tree : Descended (tree .level) path₁ m c path₂ true
+        z-tree = subst (λ (i : ℕ). Descended i path₁ m c path₂ true) (sym (v .tree-in .level-is)) reached
+
+        find-good : GoodPath level path₂ m c
+        find-good = subst (λ (i : ℕ). GoodPath i path₂ m c) (v .tree-in .level-is) (good-path m c tree (v .tree-in .reads) (v .grid) tree-new path path₁ put-tree path₂ (z-tree .kept) (z-tree .is))
+
+        pub find-plannable : Plannable level path₂ m c
+        find-plannable = record { path-is = find-good; unsplit = reached .is .unsplit }
+
+        pub find-planned : (path₃ : List ℕ) → PlanMade level path₂ m c path₃ → PathPlanned m level c path₃
+        find-planned path₃ made = subst (λ (i : ℕ). PathPlanned m i c path₃) (v .tree-in .level-is)
+            (planned m c tree (v .tree-in .reads) (v .grid) tree-new path path₁ put-tree path₂ (z-tree .kept) (z-tree .is) path₃ (subst (λ (i : ℕ). PlanMade i path₂ m c path₃) (sym (v .tree-in .level-is)) made))
+
+        pub plan-length : (path₃ : List ℕ) → PlanMade level path₂ m c path₃ → length path₃ ≡ length path
+        plan-length path₃ made = made .same-length ∙ find-length

@@ -1,0 +1,140 @@
+-- The entries of the two halves of a node that is split, and of the row that they stand in.
+use Prim.Native.Nat.{ℕ, zero, suc, _+_, _<_, _≤_}
+use mathlib.Core.Bool.{Bool, true, false, cond, not, _&&_}
+use mathlib.Core.Path.{_≡_, refl, sym, ap, _∙_}
+use mathlib.Core.List.{List, [], _∷_, _++_, map, flatMap, append-nil}
+use lib.Dec.{leb}
+use lib.ListN.{length, length-append, length-map}
+use native.Mathlib.Omega.{arith}
+use borrow.Author.Tests.{le-leb, lt-leb}
+use Rattle.tree.specs.Lists.{All, keep, countOf}
+use Rattle.tree.specs.Space.{Space, Side, left, right}
+use Rattle.tree.specs.Nodes.{EntryOf, Item, entryOn, held}
+use Rattle.tree.specs.Split.{branchIf, half, halfItems, lineOf, halves, split}
+use Rattle.tree.specs.Plan as P
+use Rattle.tree.specs.Plan.{Way, row, flat, groups, few, lineAt, lineFor}
+use Rattle.tree.specs.Pass.{wayHeld, Bag, Alike}
+use Rattle.tree.proofs.Lists.{flatMap-flatMap, flatMap-same, keep-flatMap, all-map}
+use Rattle.tree.proofs.Counts.{countOf-keep, countOf-every, keep-none}
+use Rattle.tree.proofs.Halves.{held-half}
+use Rattle.tree.proofs.Fits.{FitAt}
+use Rattle.tree.proofs.Emission.{groups-is}
+use Rattle.tree.proofs.Pass.{bag-way}
+
+pub map-append : {A B : Type 0} (f : A → B) (l m : List A) → map f (l ++ m) ≡ map f l ++ map f m
+map-append f [] m = refl
+map-append f (a ∷ l) m = ap (λ x. f a ∷ x) (map-append f l m)
+
+module _ (S : Space) where
+  -- the entries of the halves of some items are those of the side, in order
+  held-halves : (n : ℕ) (s : Side (S .Line)) (l : List (Item S n)) → flatMap (held S n) (halfItems S n s l) ≡ keep (entryOn S s) (flatMap (held S n) l)
+  held-halves n s l =
+      flatMap-flatMap (held S n) (half S n s) l ∙ flatMap-same (λ x. flatMap (held S n) (half S n s x)) (λ x. keep (entryOn S s) (held S n x)) l (held-half S n s)
+      ∙ sym (keep-flatMap (entryOn S s) (held S n) l)
+
+  held-if : (n : ℕ) (q : S .Poly) (l : List (Item S n)) → 1 ≤ length l → map (held S (suc n)) (branchIf S q l) ≡ flatMap (held S n) l ∷ []
+  unfolding held
+  held-if n q [] h = absurd (omega arith)
+  held-if n q (x ∷ l) h = refl
+
+  if-one : {A : Type 0} (q : S .Poly) (l : List A) → 1 ≤ length l → length (branchIf S q l) ≡ 1
+  if-one q [] h = absurd (omega arith)
+  if-one q (x ∷ l) h = refl
+
+  module _ (n : ℕ) (p : S .Poly) (l : List (Item S n)) (o : S .most < length l) (f : FitAt S n (lineOf S n l) l) where
+    abbrev whole : Item S (suc n)
+    whole = record { poly = p; child = l }
+
+    split-is : split S n p l ≡ halves S n (lineOf S n l) whole
+    unfolding split
+    split-is = rw (lt-leb (length l) (S .most) o)
+
+    -- the groups of the two halves
+    pub split-groups : map (held S (suc n)) (split S n p l) ≡ keep (entryOn S (left (lineOf S n l))) (flatMap (held S n) l) ∷ keep (entryOn S (right (lineOf S n l))) (flatMap (held S n) l) ∷ []
+    unfolding half
+    split-groups =
+        ap (map (held S (suc n))) split-is ∙ map-append (held S (suc n)) (half S (suc n) (left (lineOf S n l)) whole) (half S (suc n) (right (lineOf S n l)) whole)
+        ∙ rw (held-if n (S .clip (left (lineOf S n l)) p) (halfItems S n (left (lineOf S n l)) l) (f .lefts .0), held-if n (S .clip (right (lineOf S n l)) p) (halfItems S n (right (lineOf S n l)) l) (f .rights .0), held-halves n (left (lineOf S n l)) l, held-halves n (right (lineOf S n l)) l)
+
+    -- there are two
+    pub split-two : length (split S n p l) ≡ 2
+    unfolding half
+    split-two =
+        ap length split-is ∙ length-append (half S (suc n) (left (lineOf S n l)) whole) (half S (suc n) (right (lineOf S n l)) whole)
+        ∙ rw (if-one (S .clip (left (lineOf S n l)) p) (halfItems S n (left (lineOf S n l)) l) (f .lefts .0), if-one (S .clip (right (lineOf S n l)) p) (halfItems S n (right (lineOf S n l)) l) (f .rights .0))
+
+  -- one where the node is not split
+  pub split-one : (n : ℕ) (p : S .Poly) (l : List (Item S n)) → length l ≤ S .most → length (split S n p l) ≡ 1
+  unfolding split
+  split-one n p l h = rw (le-leb (length l) (S .most) h)
+
+  -- the plan's tests and lines, by the row
+  pub few-row : (n : ℕ) (w : Way S n) → few S n w ≡ leb (length (row S n w)) (S .most)
+  few-row n w = rw (groups-is S n w, length-map (row S n w) (held S n))
+
+  flat-held : (n : ℕ) (l : List (Item S n)) → flat S (map (held S n) l) ≡ flatMap (held S n) l
+  unfolding flat flatMap
+  flat-held n [] = refl
+  flat-held n (x ∷ l) = ap (λ y. held S n x ++ y) (flat-held n l)
+
+  -- the entries of the row are those below the way, in some order
+  pub row-entries : (n : ℕ) (w : Way S n) → Bag S (flatMap (held S n) (row S n w)) (wayHeld S n w)
+  row-entries n w q = ap (countOf q) (sym (ap (flat S) (groups-is S n w) ∙ flat-held n (row S n w))) ∙ bag-way S n w q
+
+  single : (es : List (EntryOf S)) → flatMap (held S zero) es ≡ es
+  unfolding flatMap held
+  single [] = refl
+  single (e ∷ es) = ap (λ y. e ∷ y) (single es)
+
+  -- the line of a node of the way, by its row
+  pub line-row : (n : ℕ) (w : Way S n) → lineAt S n w ≡ lineOf S n (row S n w)
+  line-row zero es = unfold row groups in ap (S .leafLine) (flat-held zero es ∙ single es)
+  line-row (suc n) w = ap (S .nodeLine) (groups-is S (suc n) w)
+
+  -- Bags
+  pub bag-trans : (a b c : List (EntryOf S)) → Bag S a b → Bag S b c → Bag S a c
+  bag-trans a b c h k q = h q ∙ k q
+
+  pub bag-sym : (a b : List (EntryOf S)) → Bag S a b → Bag S b a
+  bag-sym a b h q = sym (h q)
+
+  keep-and : (p q : EntryOf S → Bool) (l : List (EntryOf S)) → countOf q (keep p l) ≡ countOf (λ a. p a && q a) l
+  keep-and p q l = countOf-keep q p l
+
+  pub bag-keep : (p : EntryOf S → Bool) (g h : List (EntryOf S)) → Bag S g h → Bag S (keep p g) (keep p h)
+  bag-keep p g h b q = keep-and p q g ∙ b (λ a. p a && q a) ∙ sym (keep-and p q h)
+
+  pub bag-length : (g h : List (EntryOf S)) → Bag S g h → length g ≡ length h
+  bag-length g h b = sym (countOf-every g) ∙ b (λ a. true) ∙ countOf-every h
+
+  all-count : (q : EntryOf S → Bool) (l : List (EntryOf S)) → All (λ e. q e ≡ true) l → countOf (λ e. not (q e)) l ≡ 0
+  all-count q l h = ap length (keep-none (λ e. not (q e)) l (all-map (λ e. q e ≡ true) (λ e. not (q e) ≡ false) l (λ e k. ap not k) h))
+
+  count-all : (q : EntryOf S → Bool) (l : List (EntryOf S)) → countOf (λ e. not (q e)) l ≡ 0 → All (λ e. q e ≡ true) l
+  unfolding All keep
+  count-all q [] h = tt
+  count-all q (e ∷ l) h = go (q e) refl h (count-all q l)
+    where
+      go : (b : Bool) → q e ≡ b → length (cond (not b) (e ∷ keep (λ x. not (q x)) l) (keep (λ x. not (q x)) l)) ≡ 0 → (countOf (λ x. not (q x)) l ≡ 0 → All (λ x. q x ≡ true) l) → All (λ x. q x ≡ true) (e ∷ l)
+      go true i k f = unfold All in (i, f k)
+      go false i k f = let z : suc (length (keep (λ x. not (q x)) l)) ≡ 0 = k in absurd (omega arith)
+
+  -- what holds of all of a bag's entries
+  pub bag-all : (q : EntryOf S → Bool) (g h : List (EntryOf S)) → Bag S g h → All (λ e. q e ≡ true) h → All (λ e. q e ≡ true) g
+  bag-all q g h b a = count-all q g (b (λ e. not (q e)) ∙ all-count q h a)
+
+  -- two groups of a row replaced by groups with the same entries
+  pub alike-mid : (a c : List (List (EntryOf S))) (x y x′ y′ : List (EntryOf S)) → Bag S x x′ → Bag S y y′ → Alike S (a ++ ((x ∷ y ∷ []) ++ c)) (a ++ ((x′ ∷ y′ ∷ []) ++ c))
+  alike-mid [] c x y x′ y′ h k = (h, (k, alike-self c))
+    where
+      alike-self : (gs : List (List (EntryOf S))) → Alike S gs gs
+      alike-self [] = tt
+      alike-self (g ∷ gs) = ((λ q. refl), alike-self gs)
+  alike-mid (g ∷ a) c x y x′ y′ h k = ((λ q. refl), alike-mid a c x y x′ y′ h k)
+
+  pub alike-all : (P Q : List (EntryOf S) → Type 0) → ((g h : List (EntryOf S)) → Bag S g h → P h → Q g) → (gs hs : List (List (EntryOf S))) → Alike S gs hs → All P hs → All Q gs
+  unfolding All
+  alike-all P Q f [] [] a h = tt
+  alike-all P Q f [] (y ∷ hs) a h = absurd a
+  alike-all P Q f (x ∷ gs) [] a h = absurd a
+  alike-all P Q f (x ∷ gs) (y ∷ hs) a h = (f x y (a .0) (h .0), alike-all P Q f gs hs (a .1) (h .1))

@@ -1,0 +1,389 @@
+use borrow.Author.Needs.{needs}
+use native.Mathlib.Omega.{arith}
+use Rattle.insertion.proofs.DescentLaws.{at-leaf}
+use Rattle.insertion.proofs.DescentWays.{descend-routing, descend-stop, descend-few, place-cast, child-add, child-mul, child-in, child-room, descend-child, descend-on, descend-length}
+use Prim.Native.Nat.{ℕ, _<_}
+use borrow.Fn.Kinds.{In}
+use borrow.Fn.PlainCycle.{Measures, is, falls, and}
+use Rattle.insertion.proofs.descent.descend.Reads as descend
+use Rattle.insertion.proofs.descent.descend.Kinds as descend-kinds
+use Rattle.insertion.proofs.descent.+descend.Lts-descend as descend-lts
+use Rattle.insertion.proofs.descent.put_level.Reads as put-level-reads
+use Rattle.step2.proofs.choose.Reads as choose-reads
+use Rattle.emission.proofs.path_polygon.Reads as path-polygon-reads
+use Rattle.insertion.proofs.descent.+descend.{statement}
+use Rattle.insertion.proofs.descent.+descend.Tie.{close}
+
+abbrev μ-descend : Measures 2 descend-kinds.ps ℕ
+μ-descend κs a = a .1 .0
+
+abbrev descend-at : ℕ → In 2 descend-kinds.ps
+descend-at t = and 2 descend-kinds.ps (is 2 descend-kinds.ps μ-descend t) descend.Pre
+
+abbrev descend-below : ℕ → In 2 descend-kinds.ps
+descend-below t = and 2 descend-kinds.ps (falls 2 descend-kinds.ps _<_ μ-descend t) descend.Pre
+
+descend-returns : (t : ℕ) → descend-lts.Need-returns (
+  path-polygon-reads.Asked,
+  path-polygon-reads.Learnt,
+  choose-reads.Asked,
+  choose-reads.Learnt,
+  put-level-reads.Asked,
+  put-level-reads.Learnt,
+  descend-below t,
+  descend.Post,
+) (descend-at t) descend.Post
+descend-returns t c = search at-leaf
+
+descend-mul-at : (t : ℕ) → descend-lts.Need-mul-at (
+  path-polygon-reads.Asked,
+  path-polygon-reads.Learnt,
+  choose-reads.Asked,
+  choose-reads.Learnt,
+  put-level-reads.Asked,
+  put-level-reads.Learnt,
+  descend-below t,
+  descend.Post,
+) (descend-at t) descend.Post
+descend-mul-at t c = search needs
+
+descend-mul-k : (t : ℕ) → descend-lts.Need-mul-k (
+  path-polygon-reads.Asked,
+  path-polygon-reads.Learnt,
+  choose-reads.Asked,
+  choose-reads.Learnt,
+  put-level-reads.Asked,
+  put-level-reads.Learnt,
+  descend-below t,
+  descend.Post,
+) (descend-at t) descend.Post
+descend-mul-k t c = search needs
+
+descend-slice-read-k : (t : ℕ) → descend-lts.Need-slice-read-k (
+  path-polygon-reads.Asked,
+  path-polygon-reads.Learnt,
+  choose-reads.Asked,
+  choose-reads.Learnt,
+  put-level-reads.Asked,
+  put-level-reads.Learnt,
+  descend-below t,
+  descend.Post,
+) (descend-at t) descend.Post
+descend-slice-read-k t c = search needs
+
+descend-path-polygon-requires : (t : ℕ) → descend-lts.Need-path-polygon-requires (
+  path-polygon-reads.Asked,
+  path-polygon-reads.Learnt,
+  choose-reads.Asked,
+  choose-reads.Learnt,
+  put-level-reads.Asked,
+  put-level-reads.Learnt,
+  descend-below t,
+  descend.Post,
+) (descend-at t) descend.Post
+descend-path-polygon-requires t c κs = search needs
+
+descend-choose-requires : (t : ℕ) → descend-lts.Need-choose-requires (
+  path-polygon-reads.Asked,
+  path-polygon-reads.Learnt,
+  choose-reads.Asked,
+  choose-reads.Learnt,
+  put-level-reads.Asked,
+  put-level-reads.Learnt,
+  descend-below t,
+  descend.Post,
+) (descend-at t) descend.Post
+descend-choose-requires t c κs = (search descend-routing, search needs, search needs)
+
+descend-enum-known-taken : (t : ℕ) → descend-lts.Need-enum-known-taken (
+  path-polygon-reads.Asked,
+  path-polygon-reads.Learnt,
+  choose-reads.Asked,
+  choose-reads.Learnt,
+  put-level-reads.Asked,
+  put-level-reads.Learnt,
+  descend-below t,
+  descend.Post,
+) (descend-at t) descend.Post
+descend-enum-known-taken t c = search needs
+
+descend-enum-told : (t : ℕ) → descend-lts.Need-enum-told (
+  path-polygon-reads.Asked,
+  path-polygon-reads.Learnt,
+  choose-reads.Asked,
+  choose-reads.Learnt,
+  put-level-reads.Asked,
+  put-level-reads.Learnt,
+  descend-below t,
+  descend.Post,
+) (descend-at t) descend.Post
+descend-enum-told t c = search needs
+
+descend-same-length : (t : ℕ) → descend-lts.Need-same-length (
+  path-polygon-reads.Asked,
+  path-polygon-reads.Learnt,
+  choose-reads.Asked,
+  choose-reads.Learnt,
+  put-level-reads.Asked,
+  put-level-reads.Learnt,
+  descend-below t,
+  descend.Post,
+) (descend-at t) descend.Post
+descend-same-length t c = search needs
+
+descend-returns-2 : (t : ℕ) → descend-lts.Need-returns-2 (
+  path-polygon-reads.Asked,
+  path-polygon-reads.Learnt,
+  choose-reads.Asked,
+  choose-reads.Learnt,
+  put-level-reads.Asked,
+  put-level-reads.Learnt,
+  descend-below t,
+  descend.Post,
+) (descend-at t) descend.Post
+descend-returns-2 t c = search descend-stop
+
+descend-cast-path : (t : ℕ) → descend-lts.Need-cast-path (
+  path-polygon-reads.Asked,
+  path-polygon-reads.Learnt,
+  choose-reads.Asked,
+  choose-reads.Learnt,
+  put-level-reads.Asked,
+  put-level-reads.Learnt,
+  descend-below t,
+  descend.Post,
+) (descend-at t) descend.Post
+descend-cast-path t c = search place-cast
+
+descend-add-path : (t : ℕ) → descend-lts.Need-add-path (
+  path-polygon-reads.Asked,
+  path-polygon-reads.Learnt,
+  choose-reads.Asked,
+  choose-reads.Learnt,
+  put-level-reads.Asked,
+  put-level-reads.Learnt,
+  descend-below t,
+  descend.Post,
+) (descend-at t) descend.Post
+descend-add-path t c = search needs
+
+descend-mul-path : (t : ℕ) → descend-lts.Need-mul-path (
+  path-polygon-reads.Asked,
+  path-polygon-reads.Learnt,
+  choose-reads.Asked,
+  choose-reads.Learnt,
+  put-level-reads.Asked,
+  put-level-reads.Learnt,
+  descend-below t,
+  descend.Post,
+) (descend-at t) descend.Post
+descend-mul-path t c = search needs
+
+descend-slice-write-path : (t : ℕ) → descend-lts.Need-slice-write-path (
+  path-polygon-reads.Asked,
+  path-polygon-reads.Learnt,
+  choose-reads.Asked,
+  choose-reads.Learnt,
+  put-level-reads.Asked,
+  put-level-reads.Learnt,
+  descend-below t,
+  descend.Post,
+) (descend-at t) descend.Post
+descend-slice-write-path t c = search needs
+
+descend-cast-child : (t : ℕ) → descend-lts.Need-cast-child (
+  path-polygon-reads.Asked,
+  path-polygon-reads.Learnt,
+  choose-reads.Asked,
+  choose-reads.Learnt,
+  put-level-reads.Asked,
+  put-level-reads.Learnt,
+  descend-below t,
+  descend.Post,
+) (descend-at t) descend.Post
+descend-cast-child t c = search needs
+
+descend-mul-child : (t : ℕ) → descend-lts.Need-mul-child (
+  path-polygon-reads.Asked,
+  path-polygon-reads.Learnt,
+  choose-reads.Asked,
+  choose-reads.Learnt,
+  put-level-reads.Asked,
+  put-level-reads.Learnt,
+  descend-below t,
+  descend.Post,
+) (descend-at t) descend.Post
+descend-mul-child t c = search needs
+
+descend-add-child : (t : ℕ) → descend-lts.Need-add-child (
+  path-polygon-reads.Asked,
+  path-polygon-reads.Learnt,
+  choose-reads.Asked,
+  choose-reads.Learnt,
+  put-level-reads.Asked,
+  put-level-reads.Learnt,
+  descend-below t,
+  descend.Post,
+) (descend-at t) descend.Post
+descend-add-child t c = search needs
+
+descend-add-child-2 : (t : ℕ) → descend-lts.Need-add-child-2 (
+  path-polygon-reads.Asked,
+  path-polygon-reads.Learnt,
+  choose-reads.Asked,
+  choose-reads.Learnt,
+  put-level-reads.Asked,
+  put-level-reads.Learnt,
+  descend-below t,
+  descend.Post,
+) (descend-at t) descend.Post
+descend-add-child-2 t c = search needs
+
+descend-add-child-3 : (t : ℕ) → descend-lts.Need-add-child-3 (
+  path-polygon-reads.Asked,
+  path-polygon-reads.Learnt,
+  choose-reads.Asked,
+  choose-reads.Learnt,
+  put-level-reads.Asked,
+  put-level-reads.Learnt,
+  descend-below t,
+  descend.Post,
+) (descend-at t) descend.Post
+descend-add-child-3 t c = search child-add
+
+descend-mul-child-2 : (t : ℕ) → descend-lts.Need-mul-child-2 (
+  path-polygon-reads.Asked,
+  path-polygon-reads.Learnt,
+  choose-reads.Asked,
+  choose-reads.Learnt,
+  put-level-reads.Asked,
+  put-level-reads.Learnt,
+  descend-below t,
+  descend.Post,
+) (descend-at t) descend.Post
+descend-mul-child-2 t c = search child-mul
+
+descend-shared-slice-read-child : (t : ℕ) → descend-lts.Need-shared-slice-read-child (
+  path-polygon-reads.Asked,
+  path-polygon-reads.Learnt,
+  choose-reads.Asked,
+  choose-reads.Learnt,
+  put-level-reads.Asked,
+  put-level-reads.Learnt,
+  descend-below t,
+  descend.Post,
+) (descend-at t) descend.Post
+descend-shared-slice-read-child t c = search child-in
+
+descend-sub-put-level : (t : ℕ) → descend-lts.Need-sub-put-level (
+  path-polygon-reads.Asked,
+  path-polygon-reads.Learnt,
+  choose-reads.Asked,
+  choose-reads.Learnt,
+  put-level-reads.Asked,
+  put-level-reads.Learnt,
+  descend-below t,
+  descend.Post,
+) (descend-at t) descend.Post
+descend-sub-put-level t c = search needs
+
+descend-put-level-requires : (t : ℕ) → descend-lts.Need-put-level-requires (
+  path-polygon-reads.Asked,
+  path-polygon-reads.Learnt,
+  choose-reads.Asked,
+  choose-reads.Learnt,
+  put-level-reads.Asked,
+  put-level-reads.Learnt,
+  descend-below t,
+  descend.Post,
+) (descend-at t) descend.Post
+descend-put-level-requires t c κs = (search child-room, search descend-few)
+
+descend-sub-descend : (t : ℕ) → descend-lts.Need-sub-descend (
+  path-polygon-reads.Asked,
+  path-polygon-reads.Learnt,
+  choose-reads.Asked,
+  choose-reads.Learnt,
+  put-level-reads.Asked,
+  put-level-reads.Learnt,
+  descend-below t,
+  descend.Post,
+) (descend-at t) descend.Post
+descend-sub-descend t c = search needs
+
+descend-descend-requires : (t : ℕ) → descend-lts.Need-descend-requires (
+  path-polygon-reads.Asked,
+  path-polygon-reads.Learnt,
+  choose-reads.Asked,
+  choose-reads.Learnt,
+  put-level-reads.Asked,
+  put-level-reads.Learnt,
+  descend-below t,
+  descend.Post,
+) (descend-at t) descend.Post
+descend-descend-requires t c κs = (omega arith, search descend-child)
+
+descend-same-length-2 : (t : ℕ) → descend-lts.Need-same-length-2 (
+  path-polygon-reads.Asked,
+  path-polygon-reads.Learnt,
+  choose-reads.Asked,
+  choose-reads.Learnt,
+  put-level-reads.Asked,
+  put-level-reads.Learnt,
+  descend-below t,
+  descend.Post,
+) (descend-at t) descend.Post
+descend-same-length-2 t c = search descend-length
+
+descend-returns-3 : (t : ℕ) → descend-lts.Need-returns-3 (
+  path-polygon-reads.Asked,
+  path-polygon-reads.Learnt,
+  choose-reads.Asked,
+  choose-reads.Learnt,
+  put-level-reads.Asked,
+  put-level-reads.Learnt,
+  descend-below t,
+  descend.Post,
+) (descend-at t) descend.Post
+descend-returns-3 t c = search descend-on
+
+pub +descend-spec : {M : Type 1} → statement M
++descend-spec = close μ-descend λ t. descend-lts.spec (
+  path-polygon-reads.Asked,
+  path-polygon-reads.Learnt,
+  choose-reads.Asked,
+  choose-reads.Learnt,
+  put-level-reads.Asked,
+  put-level-reads.Learnt,
+  descend-below t,
+  descend.Post,
+)
+    (descend-at t)
+    descend.Post
+    (descend-returns t)
+    (descend-mul-at t)
+    (descend-mul-k t)
+    (descend-slice-read-k t)
+    (descend-path-polygon-requires t)
+    (descend-choose-requires t)
+    (descend-enum-known-taken t)
+    (descend-enum-told t)
+    (descend-same-length t)
+    (descend-returns-2 t)
+    (descend-cast-path t)
+    (descend-add-path t)
+    (descend-mul-path t)
+    (descend-slice-write-path t)
+    (descend-cast-child t)
+    (descend-mul-child t)
+    (descend-add-child t)
+    (descend-add-child-2 t)
+    (descend-add-child-3 t)
+    (descend-mul-child-2 t)
+    (descend-shared-slice-read-child t)
+    (descend-sub-put-level t)
+    (descend-put-level-requires t)
+    (descend-sub-descend t)
+    (descend-descend-requires t)
+    (descend-same-length-2 t)
+    (descend-returns-3 t)

@@ -1,0 +1,47 @@
+use denote.Ref.{now}
+use native.Mathlib.Omega.{arith}
+use Rattle.insertion.proofs.FirstLaws.{x-room, y-room, first-long, first-work, first-room, first-done}
+use borrow.Author.Needs.{needs}
+use Rattle.insertion.proofs.first.insert_first.Statement.{statement}
+use Rattle.insertion.proofs.first.insert_first.Tie as tie
+
+add-t7 : tie.Need-add-t7
+add-t7 c = search x-room
+
+add-t8 : tie.Need-add-t8
+add-t8 c = search y-room
+
+of-requires : tie.Need-of-requires
+of-requires c κs = search needs
+
+slice-aggregate-put-node : tie.Need-slice-aggregate-put-node
+slice-aggregate-put-node c = search needs
+
+put-node-requires : tie.Need-put-node-requires
+put-node-requires c κs = (search first-room, search needs, omega arith)
+
+put-tree-requires : tie.Need-put-tree-requires
+put-tree-requires c κs = (omega arith, omega arith, search first-long, first-work (now (c .before .before .before .before .before .before .before .before .before .before .before .before .args .m)) _ _ _ (c .before .before .before .before .before .before .before .before .before .before .before .before .pre .1) (c .before .before .before .before .put-node .ensures))
+
+same-length : tie.Need-same-length
+same-length c = search needs
+
+same-length-2 : tie.Need-same-length-2
+same-length-2 c = search needs
+
+returns : tie.Need-returns
+returns c = search first-done
+
+pub insert-first-spec : {M : Type 1} → statement M
+insert-first-spec =
+    tie.close
+    (tie.spec
+    add-t7
+    add-t8
+    of-requires
+    slice-aggregate-put-node
+    put-node-requires
+    put-tree-requires
+    same-length
+    same-length-2
+    returns)

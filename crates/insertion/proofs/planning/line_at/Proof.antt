@@ -1,0 +1,107 @@
+use native.Mathlib.Omega.{arith}
+use Rattle.insertion.proofs.NodeBounds.{part-in, place-at, part-cast, part-mul, part-start, part-stop, part-bytes, part-ends, full-node, below-in}
+use Rattle.insertion.proofs.LineLaws.{leaf-ready, leaf-found, node-ready, node-found}
+use borrow.Author.Needs.{needs}
+use Rattle.insertion.proofs.planning.line_at.Statement.{statement}
+use Rattle.insertion.proofs.planning.line_at.Tie as tie
+
+mul-at : tie.Need-mul-at
+mul-at c = search needs
+
+mul-k : tie.Need-mul-k
+mul-k c = search needs
+
+shared-slice-read-k : tie.Need-shared-slice-read-k
+shared-slice-read-k c = search (part-in, full-node)
+
+cast-a : tie.Need-cast-a
+cast-a c = search (part-cast, full-node)
+
+mul-a : tie.Need-mul-a
+mul-a c = search (part-mul, full-node)
+
+add-a : tie.Need-add-a
+add-a c = search (part-start, full-node)
+
+add-e : tie.Need-add-e
+add-e c = search (part-stop, full-node)
+
+mul-leaf-line : tie.Need-mul-leaf-line
+mul-leaf-line c = search (part-bytes, full-node)
+
+sub-leaf-line : tie.Need-sub-leaf-line
+sub-leaf-line c = search needs
+
+part-leaf-line-start : tie.Need-part-leaf-line-start
+part-leaf-line-start c = search needs
+
+part-leaf-line-end : tie.Need-part-leaf-line-end
+part-leaf-line-end c = search (part-ends, full-node)
+
+leaf-line-requires : tie.Need-leaf-line-requires
+leaf-line-requires c κs = search leaf-ready
+
+returns : tie.Need-returns
+returns c = search leaf-found
+
+add-place : tie.Need-add-place
+add-place c = search needs
+
+mul-place : tie.Need-mul-place
+mul-place c = search needs
+
+shared-slice-read-place : tie.Need-shared-slice-read-place
+shared-slice-read-place c = search (place-at, full-node)
+
+sub-below : tie.Need-sub-below
+sub-below c = search needs
+
+cast-below : tie.Need-cast-below
+cast-below c = search needs
+
+mul-below : tie.Need-mul-below
+mul-below c = search needs
+
+add-below : tie.Need-add-below
+add-below c = search needs
+
+mul-below-2 : tie.Need-mul-below-2
+mul-below-2 c = search needs
+
+shared-slice-read-below : tie.Need-shared-slice-read-below
+shared-slice-read-below c = search below-in
+
+node-line-requires : tie.Need-node-line-requires
+node-line-requires c κs = search node-ready
+
+returns-2 : tie.Need-returns-2
+returns-2 c = search node-found
+
+pub line-at-spec : {M : Type 1} → statement M
+line-at-spec =
+    tie.close
+    (tie.spec
+    mul-at
+    mul-k
+    shared-slice-read-k
+    cast-a
+    mul-a
+    add-a
+    add-e
+    mul-leaf-line
+    sub-leaf-line
+    part-leaf-line-start
+    part-leaf-line-end
+    leaf-line-requires
+    returns
+    add-place
+    mul-place
+    shared-slice-read-place
+    sub-below
+    cast-below
+    mul-below
+    add-below
+    mul-below-2
+    shared-slice-read-below
+    node-line-requires
+    returns-2)

@@ -1,0 +1,57 @@
+-- The parts of an insertion into a tree that a memory reads as.
+use Prim.Native.Nat.{ℕ, _+_, _*_, _≤_}
+use mathlib.Core.Bool.{Bool, true, false}
+use mathlib.Core.List.{List}
+use mathlib.Core.Option.{none, some}
+use mathlib.Core.Path.{_≡_}
+use lib.ListN.{length, replicate}
+use Rattle.geometry.specs.declared.rect.Cell.{Cell}
+use Rattle.geometry.specs.Cells.{onGrid}
+use Rattle.tree.specs.Tree.{Tree}
+use Rattle.tree.specs.Insert.{insertTree}
+use Rattle.plane.specs.Lines.{CellEntry}
+use Rattle.plane.specs.Plane.{planeSpace, planeRoot}
+use Rattle.memory.specs.Layout.{partsOf}
+use Rattle.memory.specs.Reading.{reading}
+use Rattle.index.specs.declared.answer.Inserted.{Inserted}
+use Rattle.index.specs.Answers.{fanout, insertRead}
+use Rattle.index.specs.Changes.{entryOf, InsertMemory, workAfter}
+use Rattle.index.specs.Open.{TreeIn}
+use Rattle.emission.specs.Path.{PathFrom, plannedTree}
+use Rattle.index.specs.Held.{heldRead}
+
+-- The memory reads as a tree that does not hold the cell, and the path has room for all its levels.
+pub record Inserting (m : List ℕ) (level root : ℕ) (c : Cell) : Type 0 where
+  pub tree-in : TreeIn m level root
+  pub grid : onGrid c ≡ true
+  pub new : heldRead c (reading fanout m) ≡ false
+
+-- the path and its plan give the tree after
+pub record PathPlanned (m : List ℕ) (level : ℕ) (c : Cell) (path : List ℕ) : Type 0 where
+  pub from : PathFrom level path m
+  pub after : (x : Tree (planeSpace fanout)) → reading fanout m ≡ some (some x) → (t : ℕ)
+      → insertTree (planeSpace fanout) (planeRoot fanout) (some x) (entryOf c t) ≡ some (plannedTree level path m (entryOf c t))
+
+-- step 2 refuses: 7
+pub record PathRefused (m : List ℕ) (c : Cell) : Type 0 where
+  pub after : (x : Tree (planeSpace fanout)) → reading fanout m ≡ some (some x) → (t : ℕ)
+      → insertTree (planeSpace fanout) (planeRoot fanout) (some x) (entryOf c t) ≡ none
+
+abbrev pub PathFound : List ℕ → ℕ → Cell → List ℕ → Bool → Type 0
+PathFound m level c path true = PathPlanned m level c path
+PathFound m level c path false = PathRefused m c
+
+-- The insertion was decided, and the index written where it is accepted; the work area is still to be zeroed.
+pub record Built (m w : List ℕ) (e : CellEntry) (m' w' : List ℕ) (r : Inserted) : Type 0 where
+  pub answer : r ≡ insertRead (partsOf m) e (reading fanout m)
+  pub memory : InsertMemory r m e m'
+  pub memory-length : length m' ≡ length m
+  pub work-length : length w' ≡ length w
+  pub zeroed : workAfter r w ≡ replicate (length w) 0
+
+-- An insertion into the index that the memory reads as ended with the answer r, and left m' and w'.
+pub record InsertDone (m w : List ℕ) (e : CellEntry) (m' w' : List ℕ) (r : Inserted) : Type 0 where
+  pub answer : r ≡ insertRead (partsOf m) e (reading fanout m)
+  pub memory : InsertMemory r m e m'
+  pub memory-length : length m' ≡ length m
+  pub work : w' ≡ workAfter r w

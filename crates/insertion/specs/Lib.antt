@@ -1,0 +1,5 @@
+pub mod Ways
+pub mod Descent
+pub mod Planning
+pub mod Writing
+pub mod Insert

@@ -1,0 +1,67 @@
+-- The plan of the splits: the line of each node on the path that gets one item too many, from the leaf up.
+use Prim.Native.Nat.{ℕ, suc, _+_, _*_, _≤_, _<_}
+use mathlib.Core.Bool.{Bool, true, false}
+use mathlib.Core.List.{List}
+use mathlib.Core.Option.{some}
+use mathlib.Core.Path.{_≡_}
+use lib.Dec.{eqb}
+use lib.ListN.{length}
+use Rattle.geometry.specs.declared.rect.Cell.{Cell}
+use Rattle.geometry.specs.Cells.{onGrid}
+use Rattle.tree.specs.Plan.{descend, few, lineAt}
+use Rattle.plane.specs.Lines.{CellEntry}
+use Rattle.plane.specs.Plane.{planeSpace}
+use Rattle.plane.specs.Candidates.{rankLine}
+use Rattle.index.specs.Answers.{fanout}
+use Rattle.index.specs.Changes.{entryOf}
+use Rattle.index.specs.Walks.{countAt}
+use Rattle.split_line.specs.LineNumber.{LineIs}
+use Rattle.emission.specs.Path.{partOn, lineOn, polygonOn, wayAt, PathFrom}
+use Rattle.insertion.specs.Ways.{GoodWay}
+use Rattle.insertion.specs.Descent.{itemsAt}
+
+-- A path that is that of the definition from each level on, through sound nodes.
+pub record GoodPath (n : ℕ) (path m : List ℕ) (c : Cell) : Type 0 where
+  pub from : PathFrom n path m
+  pub grid : onGrid c ≡ true
+  pub ways : (j : ℕ) → j ≤ n → (t : ℕ)
+      → descend (planeSpace fanout) j (polygonOn path j) (itemsAt j m (partOn path j)) (entryOf c t) ≡ some (wayAt j path m (entryOf c t))
+  pub goods : (j : ℕ) → j ≤ n → (t : ℕ) → GoodWay (planeSpace fanout) j (wayAt j path m (entryOf c t))
+
+-- A good path none of whose nodes is split so far.
+pub record Plannable (n : ℕ) (path m : List ℕ) (c : Cell) : Type 0 where
+  pub path-is : GoodPath n path m c
+  pub unsplit : (j : ℕ) → j ≤ n → lineOn path j ≡ 0
+
+-- The path says at a level whether its node is split, and at which line.
+pub record PlannedAt (n : ℕ) (path m : List ℕ) (e : CellEntry) : Type 0 where
+  pub split : eqb (lineOn path n) 0 ≡ few (planeSpace fanout) n (wayAt n path m e)
+  pub line : few (planeSpace fanout) n (wayAt n path m e) ≡ false → rankLine (lineOn path n) ≡ lineAt (planeSpace fanout) n (wayAt n path m e)
+
+-- It says so at each level.
+pub record Planned (n : ℕ) (path m : List ℕ) (c : Cell) : Type 0 where
+  pub each : (j : ℕ) → j ≤ n → (t : ℕ) → PlannedAt j path m (entryOf c t)
+
+-- The nodes below a level are all split, at the lines that the path says.
+pub record SplitBelow (n : ℕ) (path m : List ℕ) (c : Cell) : Type 0 where
+  pub each : (j : ℕ) → j < n → (t : ℕ) → PlannedAt j path m (entryOf c t)
+  pub all : (j : ℕ) → j < n → (t : ℕ) → few (planeSpace fanout) j (wayAt j path m (entryOf c t)) ≡ false
+
+-- The node on the path at a level gets one item too many: it has eight, and the nodes below it are split.
+pub record Full (n level : ℕ) (path m : List ℕ) (c : Cell) : Type 0 where
+  pub path-is : GoodPath level path m c
+  pub below : n ≤ level
+  pub splits : SplitBelow n path m c
+  pub eight : countAt m (partOn path n) ≡ 8
+
+-- r is the number of the line at which it is split
+abbrev pub LineOfLevel : ℕ → List ℕ → List ℕ → Cell → ℕ → Type 0
+LineOfLevel n path m c r = (t : ℕ) → LineIs r (lineAt (planeSpace fanout) n (wayAt n path m (entryOf c t)))
+
+-- The plan was made: the path has the same nodes and polygons, and each level's line.
+pub record PlanMade (n : ℕ) (path m : List ℕ) (c : Cell) (path' : List ℕ) : Type 0 where
+  pub path-is : GoodPath n path' m c
+  pub planned : Planned n path' m c
+  pub same-length : length path' ≡ length path
+  pub part : partOn path' n ≡ partOn path n
+  pub polygon : polygonOn path' n ≡ polygonOn path n

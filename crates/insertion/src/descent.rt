@@ -1,0 +1,48 @@
+// Steps 1 to 3 of an insertion: the path from the root down to the leaf that gets the entry, with each polygon as it grows.
+ghost use mathlib.Core.Path.{_≡_};
+ghost use Prim.Native.Nat.{_*_, _+_, _≤_};
+ghost use lib.ListN.{length};
+ghost use Rattle.geometry.specs.Numbers.{rectsOf};
+ghost use Rattle.insertion.specs.Descent.{LevelPut, Descending, Descended};
+use emission::path_polygon;
+use geometry::Cell;
+use geometry::Polygon;
+use step2::Taken;
+use step2::choose;
+
+// Writes a node's part and polygon to its level of the path; it is not split so far.
+pub fn put_level(path: &mut [u32], level: usize, k: u32, p: Polygon)
+    requires { ⌜ (68 * level + 68 ≤ length (now path)) × (p .count ≤ 16) ⌝ }
+    ensures { λ _. ⌜ LevelPut (now (path .entry)) level k (rectsOf p) (now (path .exit)) ⌝ }
+{
+    let at = 68 * level;
+    path[at] = k;
+    path[at + 2] = 0;
+    path[at + 3] = p.count as u32;
+    let from = at + 4;
+    let to = at + 68;
+    p.store(&mut path[from..to]);
+}
+
+// Goes on from the node on the path at a level down to the leaf; false where step 2 refuses.
+pub fn descend(m: &[u32], level: u32, c: Cell, path: &mut [u32]) -> bool
+    requires { ⌜ Descending level (now path) (now m) c ⌝ }
+    ensures { λ b. ⌜ Descended level (now (path .entry)) (now (m .entry)) c (now (path .exit)) b ⌝ }
+{
+    if level == 0 {
+        return true;
+    }
+    let n = level as usize;
+    let at = 68 * n;
+    let k = path[at];
+    let p = path_polygon(path, n);
+    let choice = choose(m, k, p, c);
+    let taken = choice.taken;
+    let Taken::Branch(place) = taken else {
+        return false;
+    };
+    path[at + 1] = place as u32;
+    let child = m[64 + 128 * (k as usize) + 66 + place];
+    put_level(path, n - 1, child, choice.polygon);
+    descend(m, level - 1, c, path)
+}

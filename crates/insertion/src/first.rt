@@ -1,0 +1,34 @@
+// The first entry of an index.
+ghost use Prim.Native.Nat.{_≤_};
+ghost use mathlib.Core.Path.{_≡_};
+ghost use mathlib.Core.Bool.{true};
+ghost use mathlib.Core.Option.{none, some};
+ghost use lib.ListN.{length};
+ghost use Rattle.geometry.specs.Cells.{onGrid};
+ghost use Rattle.memory.specs.Reading.{reading};
+ghost use Rattle.index.specs.Answers.{fanout};
+ghost use Rattle.index.specs.Changes.{entryOf};
+ghost use Rattle.insertion.specs.Insert.{Built};
+use crate::writing::put_tree;
+use emission::put_node;
+use geometry::Cell;
+use geometry::Polygon;
+use geometry::Rect;
+use index::Inserted;
+
+// 'an empty index gets a leaf with that cell alone'
+pub fn insert_first(m: &mut [u32], work: &mut [u32], c: Cell, tag: u32) -> Inserted
+    requires { ⌜ (reading fanout (now m) ≡ some none) × (length (now work) ≡ length (now m)) × (onGrid c ≡ true) ⌝ }
+    ensures { λ r. ⌜ Built (now (m .entry)) (now (work .entry)) (entryOf c tag) (now (m .exit)) (now (work .exit)) r ⌝ }
+{
+    let r = Rect {
+        llx: c.x,
+        lly: c.y,
+        urx: c.x + 1,
+        ury: c.y + 1,
+    };
+    let items = [c.x, c.y, tag];
+    put_node(work, 0, Polygon::of(r), 1, &items);
+    put_tree(m, work, 1, 1);
+    Inserted::Accepted(1)
+}

@@ -1,0 +1,8 @@
+// Insertion: steps 1 to 4 of document 01.
+mod descent;
+mod first;
+mod insert_call;
+mod planning;
+mod writing;
+
+pub use insert_call::insert;

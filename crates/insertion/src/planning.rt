@@ -1,0 +1,41 @@
+// Step 4, planned: which nodes on the path are split, and at which lines.
+ghost use Rattle.insertion.specs.Planning.{Plannable, Full, LineOfLevel, PlanMade};
+use geometry::Cell;
+use split_line::leaf_line;
+use split_line::node_line;
+
+// The line of the node on the path at a level, which gets one item too many.
+fn line_at(m: &[u32], path: &[u32], n: u32, level: u32, c: Cell) -> u32
+    requires { ⌜ Full n level (now path) (now m) c ⌝ }
+    ensures { λ r. ⌜ LineOfLevel n (now (path .entry)) (now (m .entry)) c r ⌝ }
+{
+    let at = 68 * (n as usize);
+    let k = path[at];
+    if n == 0 {
+        let a = 64 + 128 * (k as usize);
+        let e = a + 128;
+        return leaf_line(&m[a..e], c);
+    }
+    let place = path[at + 1];
+    let below = path[68 * ((n - 1) as usize) + 2];
+    node_line(m, n, 0, k, place, below, c)
+}
+
+// Writes the lines of the nodes that are split into the path, from the leaf up.
+pub fn plan(m: &[u32], level: u32, c: Cell, path: &mut [u32])
+    requires { ⌜ Plannable level (now path) (now m) c ⌝ }
+    ensures { λ _. ⌜ PlanMade level (now (path .entry)) (now (m .entry)) c (now (path .exit)) ⌝ }
+{
+    let mut n: u32 = 0;
+    while n <= level {
+        let at = 68 * (n as usize);
+        let k = path[at];
+        // with the new item it has at most eight: it is not split, nor is any above
+        if m[64 + 128 * (k as usize) + 1] < 8 {
+            return;
+        }
+        let line = line_at(m, path, n, level, c);
+        path[at + 2] = line;
+        n += 1;
+    }
+}

@@ -1,0 +1,53 @@
+-- What the forms of the calls for C promise: document 01's number is returned, and the values of the answer are stored, each in its place;
+-- a value that the answer has not leaves its place as it was.
+use Prim.Native.Nat.{ℕ}
+use mathlib.Core.List.{List}
+use mathlib.Core.Path.{_≡_}
+use lib.ListN.{getD, length}
+use Rattle.geometry.specs.declared.rect.Cell.{Cell}
+use Rattle.geometry.specs.declared.rect.Rect.{Rect}
+use Rattle.plane.specs.Lines.{CellEntry}
+use Rattle.index.specs.Numbers.{Told, insertTold, removeTold, clearTold, pointTold, windowTold}
+use Rattle.index.specs.Answers.{insertAnswer, removeAnswer, clearAnswer, cleared, pointAnswer, windowAnswer, windowList}
+use Rattle.index.specs.Changes.{InsertMemory, workAfter, RemoveMemory}
+
+-- the k-th value, or what was there before
+abbrev pub stored : Told → ℕ → ℕ → ℕ
+stored t k before = getD (t .values) k before
+
+-- a cell and a rectangle by their numbers
+abbrev pub cellOf : ℕ → ℕ → Cell
+cellOf a b = record { x = a; y = b }
+
+abbrev pub rectOf : ℕ → ℕ → ℕ → ℕ → Rect
+rectOf a b c d = record { llx = a; lly = b; urx = c; ury = d }
+
+pub record InsertExported (m w : List ℕ) (e : CellEntry) (held : ℕ) (n : ℕ) (m' w' : List ℕ) (held' : ℕ) : Type 0 where
+  pub number : n ≡ insertTold (insertAnswer m (length w) e) .number
+  pub memory : InsertMemory (insertAnswer m (length w) e) m e m'
+  pub memory-length : length m' ≡ length m
+  pub work : w' ≡ workAfter (insertAnswer m (length w) e) w
+  pub held-is : held' ≡ stored (insertTold (insertAnswer m (length w) e)) 0 held
+
+pub record RemoveExported (m : List ℕ) (c : Cell) (held : ℕ) (n : ℕ) (m' : List ℕ) (held' : ℕ) : Type 0 where
+  pub number : n ≡ removeTold (removeAnswer m c) .number
+  pub memory : RemoveMemory (removeAnswer m c) m c m'
+  pub memory-length : length m' ≡ length m
+  pub held-is : held' ≡ stored (removeTold (removeAnswer m c)) 0 held
+
+pub record ClearExported (m : List ℕ) (held : ℕ) (n : ℕ) (m' : List ℕ) (held' : ℕ) : Type 0 where
+  pub number : n ≡ clearTold (clearAnswer m) .number
+  pub memory : m' ≡ cleared m
+  pub held-is : held' ≡ stored (clearTold (clearAnswer m)) 0 held
+
+pub record PointExported (m : List ℕ) (c : Cell) (held visits tag : ℕ) (n held' visits' tag' : ℕ) : Type 0 where
+  pub number : n ≡ pointTold (pointAnswer m c) .number
+  pub held-is : held' ≡ stored (pointTold (pointAnswer m c)) 0 held
+  pub visits-is : visits' ≡ stored (pointTold (pointAnswer m c)) 1 visits
+  pub tag-is : tag' ≡ stored (pointTold (pointAnswer m c)) 2 tag
+
+pub record WindowExported (m : List ℕ) (w : Rect) (list : List ℕ) (matches visits : ℕ) (n : ℕ) (list' : List ℕ) (matches' visits' : ℕ) : Type 0 where
+  pub number : n ≡ windowTold (windowAnswer m w (length list)) .number
+  pub list-is : list' ≡ windowList m w list
+  pub matches-is : matches' ≡ stored (windowTold (windowAnswer m w (length list))) 0 matches
+  pub visits-is : visits' ≡ stored (windowTold (windowAnswer m w (length list))) 1 visits

@@ -1,0 +1,143 @@
+-- Removal in a leaf: the entry is found, and what became of the leaf is what the definition leaves of it.
+use Prim.Native.Nat.{ℕ, zero, _-_, _≤_, _<_}
+use mathlib.Core.Path.{_≡_, refl, sym, ap, _∙_}
+use mathlib.Core.Bool.{Bool, true, false}
+use mathlib.Core.List.{List, [], _∷_}
+use native.Mathlib.Omega.{arith}
+use lib.ListN.{length, getD}
+use Rattle.geometry.specs.declared.rect.Cell.{Cell}
+use Rattle.tree.specs.Lists.{total}
+use Rattle.tree.specs.Nodes.{Item, held, itemHas, nodes}
+use Rattle.tree.specs.Sound.{SoundItem}
+use Rattle.tree.specs.Remove.{prune, without}
+use Rattle.plane.specs.Lines.{CellEntry}
+use Rattle.plane.specs.Plane.{planeSpace}
+use Rattle.plane.proofs.Rects.{plane-space-laws}
+use Rattle.memory.specs.Layout.{partsOf, part, itemCount, entryIn, polygonIn}
+use Rattle.memory.proofs.ReadingLaws.{LeafParts, FitsAs, leaf-parts, make-leaf, fits-as, length-right, entries-length}
+use Rattle.index.specs.Answers.{fanout}
+use Rattle.index.specs.Walks.{cellTest, partAt}
+use Rattle.index.specs.Check.{NodePart}
+use Rattle.index.proofs.WalkRows.{leaf-part, part-is}
+use Rattle.removal.specs.Gap.{withoutAt}
+use Rattle.removal.specs.Parts.{setPart, freed, UsedPart}
+use Rattle.removal.specs.Place.{EntryPlace, HoldsCell}
+use Rattle.removal.specs.Below.{TakesItem, LeafShorter, NodeFreed, EntryTaken, Removable, RemovedBelow}
+use Rattle.removal.proofs.Lists.{no-items, length-without}
+use Rattle.removal.proofs.GapLaws.{entry-at}
+use Rattle.removal.proofs.PartLaws.{set-part, set-length, set-in-use, set-bits}
+use Rattle.removal.proofs.FrameLaws.{beside-wider, set-beside, set-unused, freed-beside, freed-unused, freed-bits}
+use Rattle.removal.proofs.TreeLaws.{without-at, holder, holder-has, all-at}
+use Rattle.removal.proofs.BelowLaws.{removed-left, removed-gone, fits-dropped}
+
+-- entries are no nodes
+entries-nodes : (l : List (Item (planeSpace fanout) zero)) → total (nodes (planeSpace fanout) zero) l ≡ 0
+unfolding total nodes
+entries-nodes [] = refl
+entries-nodes (e ∷ l) = let ih = entries-nodes l in omega arith
+
+module _ (m : List ℕ) (lo k : ℕ) (c : Cell) (v : Removable 0 m lo k c) where
+  parts : LeafParts fanout m lo k (v .walk .node)
+  parts = leaf-parts fanout m lo k (v .walk .node) (v .walk .reads)
+
+  fits : FitsAs fanout 3 m k
+  fits = fits-as fanout 3 m k (parts .fits)
+
+  used : UsedPart m k
+  used = record { below = v .walk .below; ends = v .walk .ends; used = fits .used }
+
+  few-parts : partsOf m ≤ 256
+  few-parts = length-right m (v .walk .right) .few-parts
+
+  count-is : length (v .walk .node .child) ≡ itemCount (part m k)
+  count-is = ap length (parts .entries) ∙ entries-length (part m k) (itemCount (part m k))
+
+  -- the i-th entry of the leaf
+  entry-is : (i : ℕ) (d : CellEntry) → i < itemCount (part m k) → getD (v .walk .node .child) i d ≡ entryIn (part m k) i
+  entry-is i d h = ap (λ (l : List CellEntry). getD l i d) (parts .entries) ∙ entry-at (part m k) (itemCount (part m k)) i d h
+
+  node-part : NodePart (part m k)
+  node-part = rw (part-is 0 m lo k (v .walk)) at (leaf-part 0 m lo k (v .walk))
+
+  -- the leaf holds the cell
+  pub leaf-holds : HoldsCell (partAt m k) c
+  unfolding held SoundItem itemHas cellTest
+  leaf-holds =
+      let d = entryIn (part m k) 0 in
+      let s = v .sound in
+      let n = count-is in
+      let h = holder (planeSpace fanout) (plane-space-laws fanout) 0 c (v .walk .node .child) d (v .holds) in
+      let i = h .inside in
+      let e = holder-has (planeSpace fanout) (plane-space-laws fanout) 0 c (v .walk .node .poly) _ (all-at (SoundItem (planeSpace fanout) 0 (v .walk .node .poly)) (v .walk .node .child) (h .at) d i (s .each)) (h .holds) in
+      rw (part-is 0 m lo k (v .walk)) (record {
+        leaf = node-part;
+        at = h .at;
+        place = record { inside = omega arith; is = rw (entry-is (h .at) d (omega arith)) at e };
+      })
+
+  module _ (i : ℕ) (q : EntryPlace (partAt m k) c i) where
+    place : EntryPlace (part m k) c i
+    place = rw (part-is 0 m lo k (v .walk)) at q
+
+    pub leaf-takes : TakesItem m k i
+    leaf-takes = record { used = used; item = record { node = node-part; inside = place .inside } }
+
+    -- what is left of the entries
+    leaf-without : without (planeSpace fanout) 0 c (v .walk .node .child) ≡ withoutAt i (v .walk .node .child)
+    unfolding SoundItem itemHas cellTest prune
+    leaf-without =
+        let d = entryIn (part m k) 0 in
+        let s = v .sound in
+        let n = count-is in
+        let i-in = place .inside in
+        let e = entry-is i d (place .inside) in
+        let t : itemHas (planeSpace fanout) 0 (getD (v .walk .node .child) i d) c ≡ true = rw e (place .is) in
+        without-at (planeSpace fanout) (plane-space-laws fanout) 0 c (v .walk .node .poly) (v .walk .node .child) i d (s .each) (s .apart) (omega arith) t
+        ∙ rw t
+
+    left-length : length (withoutAt i (v .walk .node .child)) ≡ itemCount (part m k) - 1
+    left-length =
+        let n = count-is in
+        let h = place .inside in
+        length-without i (v .walk .node .child) (omega arith) ∙ ap (λ (x : ℕ). x - 1) n
+
+    -- the leaf lost one of several entries
+    leaf-left : (m′ : List ℕ) → LeafShorter m k i m′ → RemovedBelow 0 m lo k c m′ true
+    leaf-left m′ z =
+        let p = z .new in
+        let d = z .entry .item in
+        let size : length p ≡ 128 = d .same-length ∙ node-part .length-is in
+        let e = v .walk .ends in
+        let same = set-part m k p e size in
+        let f = z .several in
+        let n = left-length in
+        let g = d .count in
+        let a = entries-nodes (v .walk .node .child) in
+        let b = entries-nodes (withoutAt i (v .walk .node .child)) in
+        let o = set-bits m k p e size in
+        rw (z .memory)
+        (removed-left 0 m lo k c (setPart m k p) (v .walk .node) (v .walk .reads) (set-unused m k used few-parts (v .unused) p size)
+        (beside-wider m lo k k k _ (v .walk .from) (omega arith) (set-beside m k used few-parts (v .unused) p size))
+        (withoutAt i (v .walk .node .child)) leaf-without (omega arith)
+        (make-leaf fanout (setPart m k p) lo k _ (record {
+          fits = fits-dropped 3 m k m (setPart m k p) p (parts .fits) (set-length m k p e size) refl (set-in-use m k p e size k (v .walk .below) ∙ fits .used) same d f;
+          polygon = parts .polygon ∙ sym (d .polygon) ∙ ap polygonIn (sym same);
+          entries = rw (same, parts .entries) (sym (z .entry .entries));
+        }))
+        (omega arith))
+
+    -- the leaf lost its only entry
+    leaf-gone : (m′ : List ℕ) → NodeFreed m k m′ → RemovedBelow 0 m lo k c m′ false
+    leaf-gone m′ z =
+        let f = z .last in
+        let n = left-length in
+        let a = entries-nodes (v .walk .node .child) in
+        let o = freed-bits m k used few-parts (v .unused) in
+        rw (z .memory)
+        (removed-gone 0 m lo k c (freed m k) (v .walk .node) (v .walk .reads) (freed-unused m k used few-parts (v .unused))
+        (beside-wider m lo k k k _ (v .walk .from) (omega arith) (freed-beside m k used few-parts (v .unused)))
+        (leaf-without ∙ no-items (withoutAt i (v .walk .node .child)) (omega arith)) (omega arith))
+
+    pub leaf-removed : (m′ : List ℕ) (r : Bool) → EntryTaken m k i m′ r → RemovedBelow 0 m lo k c m′ r
+    leaf-removed m′ true z = leaf-left m′ z
+    leaf-removed m′ false z = leaf-gone m′ z

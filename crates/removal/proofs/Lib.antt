@@ -1,0 +1,16 @@
+pub mod Lists
+pub mod GapLoop
+pub mod GapLaws
+pub mod BitLaws
+pub mod PartLaws
+pub mod TakeWays
+pub mod PlaceLoops
+pub mod TreeLaws
+pub mod FrameLaws
+pub mod BelowLaws
+pub mod LeafRemoved
+pub mod NodeRemoved
+pub mod BelowWays
+pub mod ZeroMemory
+pub mod TreeRemoved
+pub mod RemoveWays

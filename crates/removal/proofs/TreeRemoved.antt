@@ -1,0 +1,194 @@
+-- Removal from the tree that a memory reads as: what the memory reads as once the root is left, or gone.
+use Prim.Native.Nat.{ℕ, suc, _+_, _-_, _≤_, _<_}
+use mathlib.Core.Path.{_≡_, refl, sym, ap, _∙_}
+use mathlib.Core.Bool.{Bool, true, false, not}
+use mathlib.Core.List.{List, [], _∷_}
+use mathlib.Core.Option.{none, some, Option·some-injective}
+use native.Mathlib.Omega.{arith}
+use borrow.Author.Tests.{not-true, not-false}
+use lib.ListN.{length, getD, set, take, drop, length-set, length-take, length-drop}
+use lib.Seq.{getD-take, getD-drop, ext-getD}
+use Rattle.geometry.specs.declared.rect.Cell.{Cell}
+use Rattle.tree.specs.Lists.{total, countOf, notEmpty}
+use Rattle.tree.specs.Nodes.{Item, held, nodes}
+use Rattle.tree.specs.Split.{branchIf}
+use Rattle.tree.specs.Tree.{SoundTree, entries, top}
+use Rattle.tree.specs.Query.{ofCell, holds}
+use Rattle.tree.specs.Remove.{prune, without, treeIf, remove}
+use Rattle.tree.proofs.Counts.{countOf-both}
+use Rattle.tree.proofs.Leaves.{cell-once}
+use Rattle.tree.proofs.Depth.{top-sound}
+use Rattle.tree.proofs.RemoveIndex.{remove-entries, remove-sound}
+use Rattle.plane.specs.Plane.{planeSpace, planeRoot}
+use Rattle.plane.proofs.Rects.{plane-space-laws}
+use Rattle.memory.specs.Layout.{rightLength, bitsSet, rootIn, allZero}
+use Rattle.memory.specs.Reading.{reading}
+use Rattle.memory.proofs.SoundTested.{test-of-sound}
+use Rattle.memory.proofs.ReadingLaws.{ReadAs, read-as, read-sound, make-reading, zeros-read, length-right}
+use Rattle.index.specs.declared.answer.Removed.the-variants.{Accepted, CellNotHeld}
+use Rattle.index.specs.Answers.{fanout, removeEnd, removeRead}
+use Rattle.index.specs.Changes.{removedIndex}
+use Rattle.index.specs.Count.{entriesAt}
+use Rattle.index.specs.Open.{TreeIn}
+use Rattle.index.proofs.WalkRows.{walkable}
+use Rattle.index.proofs.CountWalk.{tree-held}
+use Rattle.removal.specs.Parts.{Beside}
+use Rattle.removal.specs.Below.{nodeLeft, Removable, RemovedBelow}
+use Rattle.index.specs.Held.{heldRead}
+use Rattle.removal.specs.Tree.{RemoveDone}
+use Rattle.removal.proofs.ZeroMemory.{all-zeros}
+
+-- the cell is not held
+pub not-held : (m : List ℕ) (level root : ℕ) (c : Cell) (b : Bool) → TreeIn m level root → b ≡ heldRead c (reading fanout m) → not b ≡ true → RemoveDone m c m CellNotHeld
+unfolding heldRead removeRead removeEnd
+not-held m level root c b v e f =
+    let h : holds (planeSpace fanout) c (some (v .tree)) ≡ false = sym (rw (v .reads) at e) ∙ not-true b f in
+    record { answer = rw (v .reads, h); memory = refl; memory-length = refl }
+
+-- a memory of the same length is right too
+right-same : (m m′ : List ℕ) → length m′ ≡ length m → rightLength m ≡ true → rightLength m′ ≡ true
+unfolding rightLength
+right-same m m′ l r = rw l r
+
+-- the unused numbers of the first 64 are as they were
+head-same : (m : List ℕ) (k : ℕ) (m′ : List ℕ) → Beside m 0 k m′ → drop 10 (take 64 m′) ≡ drop 10 (take 64 m)
+head-same m k m′ v =
+    let l = v .same-length in
+    ext-getD 0 _ _ (simp (length-drop, length-take) (omega arith))
+    (λ x h.
+    let y : 10 + x < 64 = (let p = length-drop 10 (take 64 m′) in let q = length-take 64 m′ in omega arith) in
+    getD-drop 10 (take 64 m′) x 0 ∙ getD-take 64 m′ (10 + x) 0 y ∙ v .head (10 + x) (omega arith) y
+    ∙ sym (getD-drop 10 (take 64 m) x 0 ∙ getD-take 64 m (10 + x) 0 y))
+
+-- the height and the root's part are numbers of the memory
+module _ (m : List ℕ) (level root : ℕ) (c : Cell) (v : TreeIn m level root) (m₁ : List ℕ) (s : Bool) (w : RemovedBelow level m 0 root c m₁ s) where
+  pub height-in : 8 < length m₁
+  height-in =
+      let r = length-right m (read-as fanout m (v .tree) (v .reads) .right) .length-is in
+      let l = w .beside .same-length in
+      omega arith
+
+  pub root-in : 9 < length (set m₁ 8 0)
+  root-in =
+      let r = length-right m (read-as fanout m (v .tree) (v .reads) .right) .length-is in
+      let l = w .beside .same-length in
+      let k = length-set m₁ 8 0 in
+      omega arith
+
+module _ (m : List ℕ) (level root : ℕ) (c : Cell) (b : Bool) (v : TreeIn m level root) (e : b ≡ heldRead c (reading fanout m)) (f : not b ≡ false) where
+  is-held : holds (planeSpace fanout) c (some (v .tree)) ≡ true
+  unfolding heldRead
+  is-held = sym (rw (v .reads) at e) ∙ not-false b f
+
+  read : ReadAs fanout m (v .tree)
+  read = read-as fanout m (v .tree) (v .reads)
+
+  sound : SoundTree (planeSpace fanout) (planeRoot fanout) (v .tree)
+  sound = read-sound fanout m (v .tree) (v .reads) .sound
+
+  -- one entry goes
+  entries-left : length (entries (planeSpace fanout) (remove (planeSpace fanout) c (some (v .tree)))) + 1 ≡ length (entries (planeSpace fanout) (some (v .tree)))
+  entries-left =
+      let es = entries (planeSpace fanout) (some (v .tree)) in
+      let a : countOf (ofCell (planeSpace fanout) c) es ≡ 1 = cell-once (planeSpace fanout) (plane-space-laws fanout) (planeRoot fanout) (some (v .tree)) sound c ∙ rw is-held in
+      let d = countOf-both (ofCell (planeSpace fanout) c) es in
+      let g = ap length (remove-entries (planeSpace fanout) c (some (v .tree))) in
+      omega arith
+
+  -- the root as a node from which the cell can be removed
+  root-removable : Removable (v .tree .level) m 0 (rootIn m) c
+  unfolding held
+  root-removable =
+      let t = v .tree in
+      let w = walkable (t .level) m 0 (rootIn m) (top (planeSpace fanout) t) (read .right) (omega arith) (read .root-node) in
+      let n : w .node ≡ top (planeSpace fanout) t = Option·some-injective _ _ (sym (w .reads) ∙ read .root-node) in
+      record {
+        walk = w;
+        unused = read .others-zero;
+        around = t .root;
+        sound = rw n (top-sound (planeSpace fanout) (planeRoot fanout) t sound);
+        holds = rw n is-held;
+      }
+
+  pub tree-removable : Removable level m 0 root c
+  tree-removable = rw (← (v .level-is), ← (v .root-is)) root-removable
+
+  module _ (n : ℕ) (g : n ≡ length (entriesAt level m 0 root)) where
+    count-is : n ≡ length (entries (planeSpace fanout) (some (v .tree)))
+    count-is = g ∙ ap length (tree-held m level root v)
+
+    pub held-some : 1 ≤ n
+    held-some = let a = entries-left in let h = count-is in omega arith
+
+    -- the answer, and the memory by what it reads as
+    done : (m′ : List ℕ) → reading fanout m′ ≡ some (remove (planeSpace fanout) c (some (v .tree))) → length m′ ≡ length m → RemoveDone m c m′ (Accepted (n - 1))
+    unfolding removeRead removeEnd removedIndex
+    done m′ r l =
+        let a = entries-left in
+        let h = count-is in
+        let q : n - 1 ≡ length (entries (planeSpace fanout) (remove (planeSpace fanout) c (some (v .tree)))) = omega arith in
+        record { answer = rw (v .reads, is-held, q); memory = rw (v .reads, is-held) r; memory-length = l }
+
+    module _ (m₁ : List ℕ) (s : Bool) (w : RemovedBelow level m 0 root c m₁ s) where
+      below : RemovedBelow (v .tree .level) m 0 (rootIn m) c m₁ s
+      below = rw (v .level-is, v .root-is) w
+
+      root-was : below .node ≡ top (planeSpace fanout) (v .tree)
+      root-was = Option·some-injective _ _ (sym (below .before) ∙ read .root-node)
+
+      bits-are : bitsSet m₁ ≡ total (nodes (planeSpace fanout) (suc (v .tree .level))) (nodeLeft (v .tree .level) c (top (planeSpace fanout) (v .tree)))
+      bits-are =
+          let x = rw root-was at (below .bits) in
+          let y = read .bits in
+          omega arith
+
+      left-is : s ≡ notEmpty (nodeLeft (v .tree .level) c (top (planeSpace fanout) (v .tree)))
+      left-is = rw root-was at (below .left-is)
+
+      height-kept : getD m₁ 8 0 ≡ suc (v .tree .level)
+      height-kept = below .beside .head 8 (omega arith) (omega arith) ∙ read .height-is
+
+      root-kept : rootIn m₁ ≡ rootIn m
+      root-kept = below .beside .head 9 (omega arith) (omega arith)
+
+      -- the memory reads as the tree with the items that are left
+      reads-left : (l : List (Item (planeSpace fanout) (v .tree .level))) → without (planeSpace fanout) (v .tree .level) c (v .tree .items) ≡ l
+          → true ≡ notEmpty (branchIf (planeSpace fanout) (v .tree .root) l) → reading fanout m₁ ≡ some (treeIf (planeSpace fanout) (v .tree .level) (v .tree .root) l)
+      unfolding prune total
+      reads-left [] q t = let z : _≡_ {A = ℕ} 0 1 = cc in absurd (omega arith)
+      reads-left (x ∷ xs) q t =
+          let u : nodeLeft (v .tree .level) c (top (planeSpace fanout) (v .tree)) ≡ record { poly = v .tree .root; child = x ∷ xs } ∷ [] = ap (branchIf (planeSpace fanout) (v .tree .root)) q in
+          let k = ap (total (nodes (planeSpace fanout) (suc (v .tree .level)))) u in
+          let y = bits-are in
+          make-reading fanout m₁ (record { level = v .tree .level; root = v .tree .root; items = x ∷ xs }) (record {
+            right = right-same m m₁ (below .beside .same-length) (read .right);
+            height-is = height-kept;
+            root-node = rw root-kept (below .after (record { poly = v .tree .root; child = x ∷ xs }) (rw root-was u));
+            bits = omega arith;
+            head-zero = rw (head-same m (rootIn m) m₁ (below .beside)) (read .head-zero);
+            others-zero = below .unused;
+            tested = test-of-sound fanout _ (rw q at (remove-sound (planeSpace fanout) (plane-space-laws fanout) (planeRoot fanout) c (some (v .tree)) sound));
+          })
+
+      pub tree-left : s ≡ true → RemoveDone m c m₁ (Accepted (n - 1))
+      unfolding prune
+      tree-left t =
+          done m₁ (reads-left (without (planeSpace fanout) (v .tree .level) c (v .tree .items)) refl (sym t ∙ left-is)) (below .beside .same-length)
+
+      none-left : (l : List (Item (planeSpace fanout) (v .tree .level))) → false ≡ notEmpty (branchIf (planeSpace fanout) (v .tree .root) l) → l ≡ []
+      none-left [] q = refl
+      none-left (x ∷ l) q = let z : _≡_ {A = ℕ} 0 1 = cc in absurd (omega arith)
+
+      -- nothing is left: the memory is all zeros
+      pub tree-gone : s ≡ false → RemoveDone m c (set (set m₁ 8 0) 9 0) (Accepted (n - 1))
+      unfolding prune total
+      tree-gone t =
+          let q = none-left (without (planeSpace fanout) (v .tree .level) c (v .tree .items)) (sym t ∙ left-is) in
+          let u : nodeLeft (v .tree .level) c (top (planeSpace fanout) (v .tree)) ≡ [] = ap (branchIf (planeSpace fanout) (v .tree .root)) q in
+          let l : length (set (set m₁ 8 0) 9 0) ≡ length m = length-set (set m₁ 8 0) 9 0 ∙ length-set m₁ 8 0 ∙ below .beside .same-length in
+          let z : bitsSet m₁ ≡ 0 = bits-are ∙ ap (total (nodes (planeSpace fanout) (suc (v .tree .level)))) u in
+          let h : allZero (drop 10 (take 64 m₁)) ≡ true = rw (head-same m (rootIn m) m₁ (below .beside)) (read .head-zero) in
+          let r : reading fanout (set (set m₁ 8 0) 9 0) ≡ some none =
+          zeros-read fanout (set (set m₁ 8 0) 9 0) (right-same m (set (set m₁ 8 0) 9 0) l (read .right))
+          (all-zeros m₁ (right-same m m₁ (below .beside .same-length) (read .right)) z h (below .unused)) in
+          done (set (set m₁ 8 0) 9 0) (r ∙ ap (λ i. some (treeIf (planeSpace fanout) (v .tree .level) (v .tree .root) i)) (sym q)) l

@@ -1,0 +1,332 @@
+-- `below::remove_below` meets its contract, with the level as its measure; its ways are in BelowWays.
+use native.Mathlib.Omega.{arith}
+use borrow.Author.Needs.{needs}
+use Rattle.removal.proofs.BelowWays.{below-holds, below-takes, below-leaf, below-children, below-child, below-stays, below-takes-branch, below-node}
+use Prim.Native.Nat.{ℕ, _<_}
+use borrow.Fn.Kinds.{In}
+use borrow.Fn.PlainCycle.{Measures, is, falls, and}
+use Rattle.removal.proofs.below.remove_below.Reads as remove-below
+use Rattle.removal.proofs.below.remove_below.Kinds as remove-below-kinds
+use Rattle.removal.proofs.below.+remove_below.Lts-remove_below as remove-below-lts
+use Rattle.removal.proofs.below.take_branch.Reads as take-branch-reads
+use Rattle.removal.proofs.below.take_entry.Reads as take-entry-reads
+use Rattle.removal.proofs.place.child_place.Reads as child-place-reads
+use Rattle.removal.proofs.place.entry_place.Reads as entry-place-reads
+use Rattle.removal.proofs.below.+remove_below.{statement}
+use Rattle.removal.proofs.below.+remove_below.Tie.{close}
+
+abbrev μ-remove-below : Measures 1 remove-below-kinds.ps ℕ
+μ-remove-below κs a = a .1 .0
+
+abbrev remove-below-at : ℕ → In 1 remove-below-kinds.ps
+remove-below-at t =
+    and 1 remove-below-kinds.ps (is 1 remove-below-kinds.ps μ-remove-below t) remove-below.Pre
+
+abbrev remove-below-below : ℕ → In 1 remove-below-kinds.ps
+remove-below-below t =
+    and
+    1
+    remove-below-kinds.ps
+    (falls 1 remove-below-kinds.ps _<_ μ-remove-below t)
+    remove-below.Pre
+
+remove-below-mul-a : (t : ℕ) → remove-below-lts.Need-mul-a (
+  entry-place-reads.Asked,
+  entry-place-reads.Learnt,
+  take-entry-reads.Asked,
+  take-entry-reads.Learnt,
+  child-place-reads.Asked,
+  child-place-reads.Learnt,
+  remove-below-below t,
+  remove-below.Post,
+  take-branch-reads.Asked,
+  take-branch-reads.Learnt,
+) (remove-below-at t) remove-below.Post
+remove-below-mul-a t c = search needs
+
+remove-below-add-a : (t : ℕ) → remove-below-lts.Need-add-a (
+  entry-place-reads.Asked,
+  entry-place-reads.Learnt,
+  take-entry-reads.Asked,
+  take-entry-reads.Learnt,
+  child-place-reads.Asked,
+  child-place-reads.Learnt,
+  remove-below-below t,
+  remove-below.Post,
+  take-branch-reads.Asked,
+  take-branch-reads.Learnt,
+) (remove-below-at t) remove-below.Post
+remove-below-add-a t c = search needs
+
+remove-below-add-e : (t : ℕ) → remove-below-lts.Need-add-e (
+  entry-place-reads.Asked,
+  entry-place-reads.Learnt,
+  take-entry-reads.Asked,
+  take-entry-reads.Learnt,
+  child-place-reads.Asked,
+  child-place-reads.Learnt,
+  remove-below-below t,
+  remove-below.Post,
+  take-branch-reads.Asked,
+  take-branch-reads.Learnt,
+) (remove-below-at t) remove-below.Post
+remove-below-add-e t c = search needs
+
+remove-below-mul-entry-place : (t : ℕ) → remove-below-lts.Need-mul-entry-place (
+  entry-place-reads.Asked,
+  entry-place-reads.Learnt,
+  take-entry-reads.Asked,
+  take-entry-reads.Learnt,
+  child-place-reads.Asked,
+  child-place-reads.Learnt,
+  remove-below-below t,
+  remove-below.Post,
+  take-branch-reads.Asked,
+  take-branch-reads.Learnt,
+) (remove-below-at t) remove-below.Post
+remove-below-mul-entry-place t c = search needs
+
+remove-below-sub-entry-place : (t : ℕ) → remove-below-lts.Need-sub-entry-place (
+  entry-place-reads.Asked,
+  entry-place-reads.Learnt,
+  take-entry-reads.Asked,
+  take-entry-reads.Learnt,
+  child-place-reads.Asked,
+  child-place-reads.Learnt,
+  remove-below-below t,
+  remove-below.Post,
+  take-branch-reads.Asked,
+  take-branch-reads.Learnt,
+) (remove-below-at t) remove-below.Post
+remove-below-sub-entry-place t c = search needs
+
+remove-below-part-entry-place-start : (t : ℕ) → remove-below-lts.Need-part-entry-place-start (
+  entry-place-reads.Asked,
+  entry-place-reads.Learnt,
+  take-entry-reads.Asked,
+  take-entry-reads.Learnt,
+  child-place-reads.Asked,
+  child-place-reads.Learnt,
+  remove-below-below t,
+  remove-below.Post,
+  take-branch-reads.Asked,
+  take-branch-reads.Learnt,
+) (remove-below-at t) remove-below.Post
+remove-below-part-entry-place-start t c = search needs
+
+remove-below-part-entry-place-end : (t : ℕ) → remove-below-lts.Need-part-entry-place-end (
+  entry-place-reads.Asked,
+  entry-place-reads.Learnt,
+  take-entry-reads.Asked,
+  take-entry-reads.Learnt,
+  child-place-reads.Asked,
+  child-place-reads.Learnt,
+  remove-below-below t,
+  remove-below.Post,
+  take-branch-reads.Asked,
+  take-branch-reads.Learnt,
+) (remove-below-at t) remove-below.Post
+remove-below-part-entry-place-end t c = search needs
+
+remove-below-entry-place-requires : (t : ℕ) → remove-below-lts.Need-entry-place-requires (
+  entry-place-reads.Asked,
+  entry-place-reads.Learnt,
+  take-entry-reads.Asked,
+  take-entry-reads.Learnt,
+  child-place-reads.Asked,
+  child-place-reads.Learnt,
+  remove-below-below t,
+  remove-below.Post,
+  take-branch-reads.Asked,
+  take-branch-reads.Learnt,
+) (remove-below-at t) remove-below.Post
+remove-below-entry-place-requires t c κs = search below-holds
+
+remove-below-take-entry-requires : (t : ℕ) → remove-below-lts.Need-take-entry-requires (
+  entry-place-reads.Asked,
+  entry-place-reads.Learnt,
+  take-entry-reads.Asked,
+  take-entry-reads.Learnt,
+  child-place-reads.Asked,
+  child-place-reads.Learnt,
+  remove-below-below t,
+  remove-below.Post,
+  take-branch-reads.Asked,
+  take-branch-reads.Learnt,
+) (remove-below-at t) remove-below.Post
+remove-below-take-entry-requires t c κs = search below-takes
+
+remove-below-same-length : (t : ℕ) → remove-below-lts.Need-same-length (
+  entry-place-reads.Asked,
+  entry-place-reads.Learnt,
+  take-entry-reads.Asked,
+  take-entry-reads.Learnt,
+  child-place-reads.Asked,
+  child-place-reads.Learnt,
+  remove-below-below t,
+  remove-below.Post,
+  take-branch-reads.Asked,
+  take-branch-reads.Learnt,
+) (remove-below-at t) remove-below.Post
+remove-below-same-length t c = search needs
+
+remove-below-returns : (t : ℕ) → remove-below-lts.Need-returns (
+  entry-place-reads.Asked,
+  entry-place-reads.Learnt,
+  take-entry-reads.Asked,
+  take-entry-reads.Learnt,
+  child-place-reads.Asked,
+  child-place-reads.Learnt,
+  remove-below-below t,
+  remove-below.Post,
+  take-branch-reads.Asked,
+  take-branch-reads.Learnt,
+) (remove-below-at t) remove-below.Post
+remove-below-returns t c = search below-leaf
+
+remove-below-child-place-requires : (t : ℕ) → remove-below-lts.Need-child-place-requires (
+  entry-place-reads.Asked,
+  entry-place-reads.Learnt,
+  take-entry-reads.Asked,
+  take-entry-reads.Learnt,
+  child-place-reads.Asked,
+  child-place-reads.Learnt,
+  remove-below-below t,
+  remove-below.Post,
+  take-branch-reads.Asked,
+  take-branch-reads.Learnt,
+) (remove-below-at t) remove-below.Post
+remove-below-child-place-requires t c κs = search below-children
+
+remove-below-sub-remove-below : (t : ℕ) → remove-below-lts.Need-sub-remove-below (
+  entry-place-reads.Asked,
+  entry-place-reads.Learnt,
+  take-entry-reads.Asked,
+  take-entry-reads.Learnt,
+  child-place-reads.Asked,
+  child-place-reads.Learnt,
+  remove-below-below t,
+  remove-below.Post,
+  take-branch-reads.Asked,
+  take-branch-reads.Learnt,
+) (remove-below-at t) remove-below.Post
+remove-below-sub-remove-below t c = search needs
+
+remove-below-remove-below-requires : (t : ℕ) → remove-below-lts.Need-remove-below-requires (
+  entry-place-reads.Asked,
+  entry-place-reads.Learnt,
+  take-entry-reads.Asked,
+  take-entry-reads.Learnt,
+  child-place-reads.Asked,
+  child-place-reads.Learnt,
+  remove-below-below t,
+  remove-below.Post,
+  take-branch-reads.Asked,
+  take-branch-reads.Learnt,
+) (remove-below-at t) remove-below.Post
+remove-below-remove-below-requires t c κs = (omega arith, search below-child)
+
+remove-below-same-length-2 : (t : ℕ) → remove-below-lts.Need-same-length-2 (
+  entry-place-reads.Asked,
+  entry-place-reads.Learnt,
+  take-entry-reads.Asked,
+  take-entry-reads.Learnt,
+  child-place-reads.Asked,
+  child-place-reads.Learnt,
+  remove-below-below t,
+  remove-below.Post,
+  take-branch-reads.Asked,
+  take-branch-reads.Learnt,
+) (remove-below-at t) remove-below.Post
+remove-below-same-length-2 t c = search needs
+
+remove-below-returns-2 : (t : ℕ) → remove-below-lts.Need-returns-2 (
+  entry-place-reads.Asked,
+  entry-place-reads.Learnt,
+  take-entry-reads.Asked,
+  take-entry-reads.Learnt,
+  child-place-reads.Asked,
+  child-place-reads.Learnt,
+  remove-below-below t,
+  remove-below.Post,
+  take-branch-reads.Asked,
+  take-branch-reads.Learnt,
+) (remove-below-at t) remove-below.Post
+remove-below-returns-2 t c = search below-stays
+
+remove-below-take-branch-requires : (t : ℕ) → remove-below-lts.Need-take-branch-requires (
+  entry-place-reads.Asked,
+  entry-place-reads.Learnt,
+  take-entry-reads.Asked,
+  take-entry-reads.Learnt,
+  child-place-reads.Asked,
+  child-place-reads.Learnt,
+  remove-below-below t,
+  remove-below.Post,
+  take-branch-reads.Asked,
+  take-branch-reads.Learnt,
+) (remove-below-at t) remove-below.Post
+remove-below-take-branch-requires t c κs = search below-takes-branch
+
+remove-below-same-length-3 : (t : ℕ) → remove-below-lts.Need-same-length-3 (
+  entry-place-reads.Asked,
+  entry-place-reads.Learnt,
+  take-entry-reads.Asked,
+  take-entry-reads.Learnt,
+  child-place-reads.Asked,
+  child-place-reads.Learnt,
+  remove-below-below t,
+  remove-below.Post,
+  take-branch-reads.Asked,
+  take-branch-reads.Learnt,
+) (remove-below-at t) remove-below.Post
+remove-below-same-length-3 t c = search needs
+
+remove-below-returns-3 : (t : ℕ) → remove-below-lts.Need-returns-3 (
+  entry-place-reads.Asked,
+  entry-place-reads.Learnt,
+  take-entry-reads.Asked,
+  take-entry-reads.Learnt,
+  child-place-reads.Asked,
+  child-place-reads.Learnt,
+  remove-below-below t,
+  remove-below.Post,
+  take-branch-reads.Asked,
+  take-branch-reads.Learnt,
+) (remove-below-at t) remove-below.Post
+remove-below-returns-3 t c = search below-node
+
+pub +remove-below-spec : {M : Type 1} → statement M
++remove-below-spec = close μ-remove-below λ t. remove-below-lts.spec (
+  entry-place-reads.Asked,
+  entry-place-reads.Learnt,
+  take-entry-reads.Asked,
+  take-entry-reads.Learnt,
+  child-place-reads.Asked,
+  child-place-reads.Learnt,
+  remove-below-below t,
+  remove-below.Post,
+  take-branch-reads.Asked,
+  take-branch-reads.Learnt,
+)
+    (remove-below-at t)
+    remove-below.Post
+    (remove-below-mul-a t)
+    (remove-below-add-a t)
+    (remove-below-add-e t)
+    (remove-below-mul-entry-place t)
+    (remove-below-sub-entry-place t)
+    (remove-below-part-entry-place-start t)
+    (remove-below-part-entry-place-end t)
+    (remove-below-entry-place-requires t)
+    (remove-below-take-entry-requires t)
+    (remove-below-same-length t)
+    (remove-below-returns t)
+    (remove-below-child-place-requires t)
+    (remove-below-sub-remove-below t)
+    (remove-below-remove-below-requires t)
+    (remove-below-same-length-2 t)
+    (remove-below-returns-2 t)
+    (remove-below-take-branch-requires t)
+    (remove-below-same-length-3 t)
+    (remove-below-returns-3 t)

@@ -1,0 +1,80 @@
+-- `place::child_place` meets its contract; its loop is in PlaceLoops.
+use Prim.Native.Nat.{_-_}
+use borrow.Author.Needs.{needs}
+use Rattle.index.specs.Walks.{countAt}
+use Rattle.removal.proofs.PlaceLoops.{SeekChild, seek-child-start, seek-polygon, seek-fits, seek-child-again, seek-child-found}
+use Rattle.removal.proofs.place.child_place.Statement.{statement}
+use Rattle.removal.proofs.place.child_place.Tie as tie
+
+abbrev Inv-loop : tie.InvT-loop
+Inv-loop m lo k c a at₀ low₀ part₀ at low part = SeekChild m lo k c at low part
+
+abbrev μ-loop : tie.MeasureT-loop
+μ-loop m lo k c a at₀ low₀ part₀ at low part = countAt m k - at
+
+mul-a : tie.Need-mul-a Inv-loop μ-loop
+mul-a c = search needs
+
+add-a : tie.Need-add-a Inv-loop μ-loop
+add-a c = search needs
+
+add-a-2 : tie.Need-add-a-2 Inv-loop μ-loop
+add-a-2 c = search needs
+
+mul-part : tie.Need-mul-part Inv-loop μ-loop
+mul-part c = search needs
+
+shared-slice-read-part : tie.Need-shared-slice-read-part Inv-loop μ-loop
+shared-slice-read-part c = search needs
+
+loop-holds : tie.Need-loop-holds Inv-loop μ-loop
+loop-holds c = search seek-child-start
+
+polygon-has-requires : tie.Need-polygon-has-requires Inv-loop μ-loop
+polygon-has-requires c κs = search seek-polygon
+
+add-at : tie.Need-add-at Inv-loop μ-loop
+add-at c = search needs
+
+add-low : tie.Need-add-low Inv-loop μ-loop
+add-low c = search seek-fits
+
+add-part : tie.Need-add-part Inv-loop μ-loop
+add-part c = search needs
+
+mul-part-2 : tie.Need-mul-part-2 Inv-loop μ-loop
+mul-part-2 c = search needs
+
+shared-slice-read-part-2 : tie.Need-shared-slice-read-part-2 Inv-loop μ-loop
+shared-slice-read-part-2 c = search needs
+
+loop-less : tie.Need-loop-less Inv-loop μ-loop
+loop-less c = search needs
+
+loop-again : tie.Need-loop-again Inv-loop μ-loop
+loop-again c = search seek-child-again
+
+returns : tie.Need-returns Inv-loop μ-loop
+returns c = search seek-child-found
+
+pub child-place-spec : {M : Type 1} → statement M
+child-place-spec =
+    tie.close
+    (tie.spec
+    Inv-loop
+    μ-loop
+    mul-a
+    add-a
+    add-a-2
+    mul-part
+    shared-slice-read-part
+    loop-holds
+    polygon-has-requires
+    add-at
+    add-low
+    add-part
+    mul-part-2
+    shared-slice-read-part-2
+    loop-less
+    loop-again
+    returns)

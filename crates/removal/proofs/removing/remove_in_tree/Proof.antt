@@ -1,0 +1,59 @@
+-- `removing::remove_in_tree` meets its contract; its ways out are in TreeRemoved.
+use Rattle.index.proofs.TreeWalk.{tree-walkable}
+use Rattle.removal.proofs.TreeRemoved.{height-in, root-in, not-held, held-some, tree-removable, tree-left, tree-gone}
+use borrow.Author.Needs.{needs}
+use Rattle.removal.proofs.removing.remove_in_tree.Statement.{statement}
+use Rattle.removal.proofs.removing.remove_in_tree.Tie as tie
+
+is-held-requires : tie.Need-is-held-requires
+is-held-requires c κs = search needs
+
+same-length : tie.Need-same-length
+same-length c = search needs
+
+returns : tie.Need-returns
+returns c = search not-held
+
+entries-below-requires : tie.Need-entries-below-requires
+entries-below-requires c κs = search tree-walkable
+
+sub-entries : tie.Need-sub-entries
+sub-entries c = search held-some
+
+remove-below-requires : tie.Need-remove-below-requires
+remove-below-requires c κs = search tree-removable
+
+same-length-2 : tie.Need-same-length-2
+same-length-2 c = search needs
+
+returns-2 : tie.Need-returns-2
+returns-2 c = search tree-left
+
+slice-write-m : tie.Need-slice-write-m
+slice-write-m c = search height-in
+
+slice-write-m-2 : tie.Need-slice-write-m-2
+slice-write-m-2 c = search root-in
+
+same-length-3 : tie.Need-same-length-3
+same-length-3 c = search needs
+
+returns-3 : tie.Need-returns-3
+returns-3 c = search tree-gone
+
+pub remove-in-tree-spec : {M : Type 1} → statement M
+remove-in-tree-spec =
+    tie.close
+    (tie.spec
+    is-held-requires
+    same-length
+    returns
+    entries-below-requires
+    sub-entries
+    remove-below-requires
+    same-length-2
+    returns-2
+    slice-write-m
+    slice-write-m-2
+    same-length-3
+    returns-3)

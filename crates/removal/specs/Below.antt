@@ -1,0 +1,79 @@
+-- Removal below a node of the memory: 'takes the entry out, closes the gap, removes an emptied leaf and emptied nodes above'.
+use Prim.Native.Nat.{ℕ, suc, _+_, _≤_}
+use mathlib.Core.Bool.{Bool, true, false}
+use mathlib.Core.List.{List, [], _∷_}
+use mathlib.Core.Option.{some}
+use mathlib.Core.Path.{_≡_}
+use Rattle.geometry.specs.declared.rect.Cell.{Cell}
+use Rattle.geometry.specs.declared.rect.Rect.{Rect}
+use Rattle.tree.specs.Lists.{total, notEmpty}
+use Rattle.tree.specs.Search.{any}
+use Rattle.tree.specs.Nodes.{Item, held, nodes}
+use Rattle.tree.specs.Sound.{SoundItem}
+use Rattle.tree.specs.Query.{ofCell}
+use Rattle.tree.specs.Remove.{prune, other}
+use Rattle.plane.specs.Plane.{planeSpace}
+use Rattle.memory.specs.Layout.{partsOf, part, bitsSet, itemCount, othersZero}
+use Rattle.memory.specs.Reading.{readNode}
+use Rattle.index.specs.Answers.{fanout}
+use Rattle.index.specs.Walks.{Walkable}
+use Rattle.removal.specs.Gap.{ItemIn, EntryDropped, BranchDropped}
+use Rattle.removal.specs.Parts.{setPart, freed, UsedPart, Beside}
+
+-- The node at part k has an i-th item.
+pub record TakesItem (m : List ℕ) (k i : ℕ) : Type 0 where
+  pub used : UsedPart m k
+  pub item : ItemIn i (part m k)
+
+-- The leaf at part k lost its i-th entry.
+pub record LeafShorter (m : List ℕ) (k i : ℕ) (m′ : List ℕ) : Type 0 where
+  pub new : List ℕ
+  pub entry : EntryDropped i (part m k) new
+  pub several : 2 ≤ itemCount (part m k)
+  pub memory : m′ ≡ setPart m k new
+
+-- The routing node at part k lost its i-th branch.
+pub record NodeShorter (m : List ℕ) (k i : ℕ) (m′ : List ℕ) : Type 0 where
+  pub new : List ℕ
+  pub branch : BranchDropped i (part m k) new
+  pub several : 2 ≤ itemCount (part m k)
+  pub memory : m′ ≡ setPart m k new
+
+-- The node at part k lost its only item, and its part was set free.
+pub record NodeFreed (m : List ℕ) (k : ℕ) (m′ : List ℕ) : Type 0 where
+  pub last : itemCount (part m k) ≡ 1
+  pub memory : m′ ≡ freed m k
+
+-- what became of a leaf, by whether it is left
+abbrev pub EntryTaken : List ℕ → ℕ → ℕ → List ℕ → Bool → Type 0
+EntryTaken m k i m′ true = LeafShorter m k i m′
+EntryTaken m k i m′ false = NodeFreed m k m′
+
+-- what became of a routing node, by whether it is left
+abbrev pub BranchTaken : List ℕ → ℕ → ℕ → List ℕ → Bool → Type 0
+BranchTaken m k i m′ true = NodeShorter m k i m′
+BranchTaken m k i m′ false = NodeFreed m k m′
+
+-- what is left of a node and all below it without the entry of the cell: the node with its polygon, or nothing
+abbrev pub nodeLeft : (n : ℕ) → Cell → Item (planeSpace fanout) (suc n) → List (Item (planeSpace fanout) (suc n))
+nodeLeft n c b = prune (planeSpace fanout) (suc n) (other (planeSpace fanout) c) (λ p. p) b
+
+-- The node at part k reads, with its subtree in the parts from lo on; it is sound among the cells of `around`, and it holds the cell.
+-- Parts not in use are zero.
+pub record Removable (n : ℕ) (m : List ℕ) (lo k : ℕ) (c : Cell) : Type 0 where
+  pub walk : Walkable n m lo k
+  pub unused : othersZero m (partsOf m) ≡ true
+  pub around : List Rect
+  pub sound : SoundItem (planeSpace fanout) (suc n) around (walk .node)
+  pub holds : any (ofCell (planeSpace fanout) c) (held (planeSpace fanout) (suc n) (walk .node)) ≡ true
+
+-- The cell's entry was removed below the node at part k, which gave m′; left says whether the node is left. It reads as what the
+-- definition leaves of it. The bits set fall with the nodes, parts not in use are zero, and all else is as it was.
+pub record RemovedBelow (n : ℕ) (m : List ℕ) (lo k : ℕ) (c : Cell) (m′ : List ℕ) (left : Bool) : Type 0 where
+  pub node : Item (planeSpace fanout) (suc n)
+  pub before : readNode fanout n m lo k ≡ some node
+  pub left-is : left ≡ notEmpty (nodeLeft n c node)
+  pub after : (b : Item (planeSpace fanout) (suc n)) → nodeLeft n c node ≡ b ∷ [] → readNode fanout n m′ lo k ≡ some b
+  pub bits : bitsSet m′ + nodes (planeSpace fanout) (suc n) node ≡ bitsSet m + total (nodes (planeSpace fanout) (suc n)) (nodeLeft n c node)
+  pub unused : othersZero m′ (partsOf m′) ≡ true
+  pub beside : Beside m lo k m′

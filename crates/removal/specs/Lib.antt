@@ -1,0 +1,5 @@
+pub mod Gap
+pub mod Parts
+pub mod Place
+pub mod Below
+pub mod Tree

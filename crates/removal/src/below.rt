@@ -1,0 +1,58 @@
+// Removal below a node: down to the leaf that holds the entry, and back up while nodes are emptied.
+ghost use Rattle.removal.specs.Below.{TakesItem, EntryTaken, BranchTaken, Removable, RemovedBelow};
+use crate::free::set_free;
+use crate::gap::drop_branch;
+use crate::gap::drop_entry;
+use crate::place::child_place;
+use crate::place::entry_place;
+use geometry::Cell;
+
+// Takes the i-th entry out of the leaf at part k, which is set free if it was the last. Answers whether
+// the leaf is left.
+fn take_entry(m: &mut [u32], k: u32, i: usize) -> bool
+    requires { ⌜ TakesItem (now m) k i ⌝ }
+    ensures { λ r. ⌜ EntryTaken (now (m .entry)) k i (now (m .exit)) r ⌝ }
+{
+    let a = 64 + 128 * (k as usize);
+    let e = a + 128;
+    if m[a + 1] == 1 {
+        set_free(m, k);
+        return false;
+    }
+    drop_entry(&mut m[a..e], i);
+    true
+}
+
+// The same with the i-th branch of the routing node at part k.
+fn take_branch(m: &mut [u32], k: u32, i: usize) -> bool
+    requires { ⌜ TakesItem (now m) k i ⌝ }
+    ensures { λ r. ⌜ BranchTaken (now (m .entry)) k i (now (m .exit)) r ⌝ }
+{
+    let a = 64 + 128 * (k as usize);
+    let e = a + 128;
+    if m[a + 1] == 1 {
+        set_free(m, k);
+        return false;
+    }
+    drop_branch(&mut m[a..e], i);
+    true
+}
+
+// Removes the entry of the cell from the subtree of the node at part k, which has the parts from lo on.
+// Answers whether the node is left: one without entries is removed with all below it.
+pub fn remove_below(m: &mut [u32], level: u32, lo: u32, k: u32, c: Cell) -> bool
+    requires { ⌜ Removable level (now m) lo k c ⌝ }
+    ensures { λ r. ⌜ RemovedBelow level (now (m .entry)) lo k c (now (m .exit)) r ⌝ }
+{
+    if level == 0 {
+        let a = 64 + 128 * (k as usize);
+        let e = a + 128;
+        let i = entry_place(&m[a..e], c);
+        return take_entry(m, k, i);
+    }
+    let child = child_place(m, lo, k, c);
+    if remove_below(m, level - 1, child.low, child.part, c) {
+        return true;
+    }
+    take_branch(m, k, child.at)
+}

@@ -1,0 +1,41 @@
+// Taking an item out of a node's part: the later ones move down, and the last place becomes zero.
+ghost use Prim.Native.Nat.{_+_, _≤_};
+ghost use lib.ListN.{length};
+ghost use Rattle.removal.specs.Gap.{MovedDown, ItemIn, EntryDropped, BranchDropped};
+
+// Gives each number from `from` to before `end` the value that stands w places behind it.
+fn move_down(p: &mut [u32], w: usize, from: usize, end: usize)
+    requires { ⌜ (from ≤ end) × (end + w ≤ length (now p)) ⌝ }
+    ensures { λ _. ⌜ MovedDown w from end (now (p .entry)) (now (p .exit)) ⌝ }
+{
+    let mut at = from;
+    while at < end {
+        p[at] = p[at + w];
+        at += 1;
+    }
+}
+
+// Takes the i-th entry out of a leaf's part. The numbers behind the entries are zero: the last place gets
+// them.
+pub fn drop_entry(p: &mut [u32], i: usize)
+    requires { ⌜ ItemIn i (now p) ⌝ }
+    ensures { λ _. ⌜ EntryDropped i (now (p .entry)) (now (p .exit)) ⌝ }
+{
+    let n = p[1];
+    let from = 66 + 3 * i;
+    let end = 66 + 3 * (n as usize);
+    move_down(p, 3, from, end);
+    p[1] = n - 1;
+}
+
+// Takes the i-th branch out of a routing node's part.
+pub fn drop_branch(p: &mut [u32], i: usize)
+    requires { ⌜ ItemIn i (now p) ⌝ }
+    ensures { λ _. ⌜ BranchDropped i (now (p .entry)) (now (p .exit)) ⌝ }
+{
+    let n = p[1];
+    let from = 66 + i;
+    let end = 66 + (n as usize);
+    move_down(p, 1, from, end);
+    p[1] = n - 1;
+}

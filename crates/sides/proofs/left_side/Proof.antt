@@ -1,0 +1,13 @@
+use Rattle.sides.proofs.SideLaws.{left-is}
+use borrow.Author.Needs.{needs}
+use Rattle.sides.proofs.left_side.Statement.{statement}
+use Rattle.sides.proofs.left_side.Tie as tie
+
+mul-result : tie.Need-mul-result
+mul-result c = search needs
+
+returns : tie.Need-returns
+returns c = search left-is
+
+pub left-side-spec : {M : Type 1} → statement M
+left-side-spec = tie.close (tie.spec mul-result returns)

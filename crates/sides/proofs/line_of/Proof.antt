@@ -1,0 +1,12 @@
+use Rattle.sides.proofs.SideLaws.{line-x, line-y}
+use Rattle.sides.proofs.line_of.Statement.{statement}
+use Rattle.sides.proofs.line_of.Tie as tie
+
+returns : tie.Need-returns
+returns c = search line-x
+
+returns-2 : tie.Need-returns-2
+returns-2 c = search line-y
+
+pub line-of-spec : {M : Type 1} → statement M
+line-of-spec = tie.close (tie.spec returns returns-2)

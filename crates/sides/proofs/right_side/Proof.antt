@@ -1,0 +1,16 @@
+use Rattle.sides.proofs.SideLaws.{right-is}
+use borrow.Author.Needs.{needs}
+use Rattle.sides.proofs.right_side.Statement.{statement}
+use Rattle.sides.proofs.right_side.Tie as tie
+
+mul-result : tie.Need-mul-result
+mul-result c = search needs
+
+add-result : tie.Need-add-result
+add-result c = search needs
+
+returns : tie.Need-returns
+returns c = search right-is
+
+pub right-side-spec : {M : Type 1} → statement M
+right-side-spec = tie.close (tie.spec mul-result add-result returns)

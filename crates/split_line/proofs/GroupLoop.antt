@@ -1,0 +1,244 @@
+-- The loop over a node's branches that writes the bounds of their groups.
+use Prim.Native.Nat.{ℕ, zero, suc, _+_, _*_, _-_, _≤_, _<_}
+use mathlib.Core.Path.{_≡_, refl, sym, ap, _∙_, subst}
+use mathlib.Core.Bool.{Bool, true, false, cond}
+use mathlib.Core.List.{List, [], _∷_, _++_, map, flatMap, append-nil, append-assoc, map-append}
+use mathlib.Core.Option.{some}
+use native.Mathlib.Omega.{arith}
+use native.Mathlib.Decide.{ℕ-discrete, decLe}
+use native.Mathlib.Numerals.{add-one}
+use borrow.Author.Tests.{eq-eqb, ne-eqb, eqb-true}
+use mir.Syntax.{w32}
+use mir.Val.{Fits}
+use lib.Dec.{eqb}
+use lib.ListN.{length, drop, getD, drop-of-length-le}
+use lib.Seq.{drop-cons, getD-take, getD-drop}
+use Rattle.geometry.specs.declared.rect.Cell.{Cell}
+use Rattle.geometry.specs.declared.rect.Line.{Line}
+use Rattle.geometry.specs.Cells.{onGrid, valid}
+use Rattle.geometry.specs.Numbers.{rectsIn, Appended}
+use Rattle.geometry.proofs.AppendLaws.{append-count}
+use Rattle.tree.specs.Lists.{All}
+use Rattle.tree.specs.Nodes.{Item, held}
+use Rattle.tree.proofs.Lists.{all-append, all-head, all-tail, flatMap-all}
+use Rattle.plane.specs.Lines.{CellEntry}
+use Rattle.plane.specs.Plane.{planeSpace}
+use Rattle.plane.specs.Candidates.{rankLine}
+use Rattle.memory.specs.Layout.{part, itemCount, childrenIn}
+use Rattle.memory.specs.Reading.{readNode}
+use Rattle.memory.proofs.ReadingLaws.{RowParts, row-parts, row-none, row-length, node-parts, node-below, children-length}
+use Rattle.index.specs.Answers.{fanout}
+use Rattle.index.specs.Changes.{entryOf}
+use Rattle.index.specs.Walks.{Walkable, countAt, childAt}
+use Rattle.index.proofs.WalkParts.{part-at}
+use Rattle.index.proofs.WalkRows.{RowWalkable, walkable}
+use Rattle.split_line.specs.FullLeaf.{OnGrid}
+use Rattle.split_line.specs.Reached.{boundsOf, heldOf, heldUnder}
+use Rattle.split_line.specs.Groups.{halvesOf, groupsIn, groupsAt, NodeHere}
+use Rattle.split_line.specs.GroupBounds.{sideBounds, branchBounds, BranchHere, GroupBounds}
+use Rattle.split_line.proofs.BoundsLaws.{bounds-valid, grid-kept}
+
+module _ (n place : ℕ) (l : Line) (e : CellEntry) where
+  -- the groups of the branches from the i-th on
+  unfoldable pub groupsFrom : ℕ → List (Item (planeSpace fanout) (suc n)) → List (List CellEntry)
+  groupsFrom i [] = []
+  groupsFrom i (b ∷ bs) = cond (eqb i place) (halvesOf l (held (planeSpace fanout) (suc n) b ++ (e ∷ []))) (held (planeSpace fanout) (suc n) b ∷ []) ++ groupsFrom (i + 1) bs
+
+  -- behind the place no branch is split
+  from-behind : (i : ℕ) (bs : List (Item (planeSpace fanout) (suc n))) → place < i → groupsFrom i bs ≡ map (held (planeSpace fanout) (suc n)) bs
+  unfolding groupsFrom
+  from-behind i [] h = refl
+  from-behind i (b ∷ bs) h = rw (ne-eqb i place (λ q. omega arith), from-behind (i + 1) bs (omega arith))
+
+  -- they are the groups of the definition
+  from-start : (i p : ℕ) (bs : List (Item (planeSpace fanout) (suc n))) → i + p ≡ place → p < length bs → groupsFrom i bs ≡ groupsIn n bs p l e
+  unfolding groupsFrom flatMap
+  from-start i p [] q h = absurd (omega arith)
+  from-start i zero (b ∷ bs) q h =
+      rw (eq-eqb i place (omega arith), from-behind (i + 1) bs (omega arith), append-nil)
+  from-start i (suc p) (b ∷ bs) q h =
+      let r : i + 1 + p ≡ place = omega arith in
+      let s : suc p + 1 ≡ suc (p + 1) = omega arith in
+      rw (ne-eqb i place (λ q. omega arith), from-start (i + 1) p bs r (omega arith), s)
+
+module _ (n : ℕ) (m : List ℕ) (lo k : ℕ) (v : Walkable n m lo k) where
+  children-count : length (childrenIn (part m k)) ≡ countAt m k
+  children-count =
+      let e = part-at m k 1 (omega arith) in
+      let f = v .few in
+      children-length fanout m k (node-below fanout m n lo k (v .node) (v .reads)) (omega arith) ∙ e
+
+  next-child : (i : ℕ) → i < countAt m k → drop i (childrenIn (part m k)) ≡ childAt m k i ∷ drop (i + 1) (childrenIn (part m k))
+  next-child i h =
+      let c = children-count in
+      let f = v .few in
+      let e = part-at m k 1 (omega arith) in
+      let s : i < length (childrenIn (part m k)) = omega arith in
+      let at : getD (childrenIn (part m k)) i 0 ≡ childAt m k i =
+      getD-take (itemCount (part m k)) (drop 66 (part m k)) i 0 (omega arith) ∙ getD-drop 66 (part m k) i 0 ∙ part-at m k (66 + i) (omega arith)
+      ∙ ap (λ j. getD m j 0) (let q : 64 + 128 * k + (66 + i) ≡ 64 + 128 * k + 66 + i = omega arith in q) in
+      drop-cons (childrenIn (part m k)) i 0 s ∙ rw (at, add-one)
+
+-- Before the i-th branch of the node at part k, whose branches lead to nodes of level n: the bounds of the groups before it are the first
+-- `next` rectangles of the list l.
+pub record AtBranch (n : ℕ) (m : List ℕ) (level lo k place below : ℕ) (c : Cell) (i low : ℕ) (l : List ℕ) (next : ℕ) : Type 0 where
+  pub i-le : i ≤ countAt m k
+  pub here : NodeHere m level lo k place below c
+  pub row : RowWalkable n m low k (drop i (childrenIn (part m k)))
+  pub grid : All (λ b. OnGrid (held (planeSpace fanout) (suc n) b)) (row .row)
+  pub long : length l ≡ 36
+  pub before : i ≤ place → next ≡ i
+  pub after : place < i → next ≡ i + 1
+  pub each : All (λ r. valid r ≡ true) (rectsIn l next)
+  pub list : rectsIn l next ++ map boundsOf (groupsFrom n place (rankLine below) (entryOf c 0) i (row .row)) ≡ map boundsOf (groupsAt level m lo k place below (entryOf c 0))
+
+held-read : (n : ℕ) (m : List ℕ) (lo k : ℕ) (b : Item (planeSpace fanout) (suc n)) → readNode fanout n m lo k ≡ some b → heldUnder n m lo k ≡ held (planeSpace fanout) (suc n) b
+unfolding heldUnder heldOf
+held-read n m lo k b e = rw e
+
+start-at : (n : ℕ) (m : List ℕ) (lo k place below : ℕ) (c : Cell) (l : List ℕ) → NodeHere m (suc n) lo k place below c → length l ≡ 36 → AtBranch n m (suc n) lo k place below c 0 lo l 0
+unfolding groupsAt rectsIn All held
+start-at n m lo k place below c l v h =
+    let w = v .walk in
+    let p = node-parts fanout n m lo k (w .node) (w .reads) in
+    let s = row-length (readNode fanout n m) lo k (childrenIn (part m k)) (w .node .child) (p .row) in
+    let t = children-count (suc n) m lo k w in
+    let u = v .place-in in
+    record {
+      i-le = omega arith;
+      here = v;
+      row = record { right = w .right; row = w .node .child; reads = p .row };
+      grid = flatMap-all _ (held (planeSpace fanout) (suc n)) (w .node .child) (subst OnGrid (held-read (suc n) m lo k (w .node) (w .reads)) (v .grid));
+      long = h;
+      before = λ g. refl;
+      after = λ g. absurd (omega arith);
+      each = tt;
+      list = rw (w .reads) (ap (map boundsOf) (from-start n place (rankLine below) (entryOf c 0) 0 place (w .node .child) (omega arith) (omega arith)));
+    }
+
+pub branch-start : (m : List ℕ) (level lo k place below : ℕ) (c : Cell) (l : List ℕ) → NodeHere m level lo k place below c → length l ≡ 36 → AtBranch (level - 1) m level lo k place below c 0 lo l 0
+branch-start m zero lo k place below c l v h = let r = v .routing in absurd (omega arith)
+branch-start m (suc n) lo k place below c l v h = let e : suc n - 1 ≡ n = omega arith in rw e (start-at n m lo k place below c l v h)
+
+map-cond : {A B : Type 0} (f : A → B) (b : Bool) (x y : List A) → cond b (map f x) (map f y) ≡ map f (cond b x y)
+map-cond f true x y = refl
+map-cond f false x y = refl
+
+all-cond : {A : Type 0} (P : A → Type 0) (b : Bool) (x y : List A) → All P x → All P y → All P (cond b x y)
+all-cond P true x y p q = p
+all-cond P false x y p q = q
+
+-- the bounds of a branch by the entries it holds
+module _ (n : ℕ) (m : List ℕ) (lo k : ℕ) (halved : Bool) (below : ℕ) (c : Cell) where
+  branch-groups : branchBounds n m lo k halved below c ≡ map boundsOf (cond halved (halvesOf (rankLine below) (heldUnder n m lo k ++ (entryOf c 0 ∷ []))) (heldUnder n m lo k ∷ []))
+  unfolding branchBounds sideBounds
+  branch-groups = map-cond boundsOf halved (halvesOf (rankLine below) (heldUnder n m lo k ++ (entryOf c 0 ∷ []))) (heldUnder n m lo k ∷ [])
+
+  branch-valid : OnGrid (heldUnder n m lo k) → onGrid c ≡ true → All (λ r. valid r ≡ true) (branchBounds n m lo k halved below c)
+  unfolding branchBounds sideBounds All
+  branch-valid g h =
+      let more = all-append (λ e. onGrid (e .cell) ≡ true) (heldUnder n m lo k) (entryOf c 0 ∷ []) g (h, tt) in
+      all-cond (λ r. valid r ≡ true) halved _ _ (bounds-valid _ (grid-kept _ _ more), (bounds-valid _ (grid-kept _ _ more), tt)) (bounds-valid _ g, tt)
+
+module _ (n : ℕ) (m : List ℕ) (level lo k place below : ℕ) (c : Cell) (i low : ℕ) (l : List ℕ) (next : ℕ) (a : AtBranch n m level lo k place below c i low l next) where
+  pub branch-end : countAt m k ≤ i → GroupBounds m level lo k place below c l next
+  unfolding groupsFrom
+  branch-end h =
+      let w = a .here .walk in
+      let s = children-count level m lo k w in
+      let d : length (childrenIn (part m k)) ≤ i = omega arith in
+      let z : a .row .row ≡ [] = row-none (readNode fanout n m) low k (a .row .row) (rw (drop-of-length-le (childrenIn (part m k)) d) at (a .row .reads)) in
+      let p = a .here .place-in in
+      let q = a .after (omega arith) in
+      let f = w .few in
+      let g = a .i-le in
+      let r = a .long in
+      record {
+        list = record { few = omega arith; room = omega arith; each = a .each };
+        is = sym (append-nil (rectsIn l next)) ∙ (rw z at (a .list));
+      }
+
+  module _ (h : i < countAt m k) where
+    parts : RowParts (readNode fanout n m) low k (childAt m k i) (drop (i + 1) (childrenIn (part m k))) (a .row .row)
+    parts = row-parts (readNode fanout n m) low k (childAt m k i) _ (a .row .row) (rw (next-child level m lo k (a .here .walk) i h) at (a .row .reads))
+
+    held-is : heldUnder n m low (childAt m k i) ≡ held (planeSpace fanout) (suc n) (parts .first)
+    held-is = held-read n m low (childAt m k i) (parts .first) (parts .head)
+
+    grids : All (λ b. OnGrid (held (planeSpace fanout) (suc n) b)) (parts .first ∷ parts .others)
+    grids = rw (parts .whole) (a .grid)
+
+    branch-grid : OnGrid (heldUnder n m low (childAt m k i))
+    branch-grid = subst OnGrid (sym held-is) (all-head _ (parts .first) (parts .others) grids)
+
+    pub branch-below : childAt m k i < k
+    branch-below = parts .below
+
+    pub branch-fits : Fits w32 (childAt m k i + 1)
+    branch-fits = let b = branch-below in let v = a .here .walk .below in omega arith
+
+    room-is : (b : Bool) → eqb i place ≡ b → next + cond b 2 1 ≤ 9
+    room-is true e =
+        let q = eqb-true i place e in
+        let z = a .before (omega arith) in
+        let f = a .here .walk .few in
+        omega arith
+    room-is false e = let f = a .here .walk .few in let z = next-most in omega arith
+      where
+        next-most : next ≤ i + 1
+        next-most = go (decLe i place)
+          where
+            go : Dec (i ≤ place) → next ≤ i + 1
+            go (yes y) = let z = a .before y in omega arith
+            go (no y) = let z = a .after (omega arith) in omega arith
+
+    pub branch-here : BranchHere n m low (childAt m k i) (eqb i place) below c l next
+    branch-here =
+        let r = room-is (eqb i place) refl in
+        let s = a .long in
+        record {
+          branch = record { walk = walkable n m low (childAt m k i) (parts .first) (a .row .right) (parts .from) (parts .head); grid = branch-grid };
+          line = a .here .line;
+          cell = a .here .cell;
+          room = omega arith;
+          few = some-few (eqb i place) r;
+        }
+      where
+        some-few : (b : Bool) → next + cond b 2 1 ≤ 9 → next ≤ 8
+        some-few true r = omega arith
+        some-few false r = omega arith
+
+    module _ (l′ : List ℕ) (next′ : ℕ) (x : Appended l next (branchBounds n m low (childAt m k i) (eqb i place) below c) 2 l′ next′) where
+      groups : List (List CellEntry)
+      groups = cond (eqb i place) (halvesOf (rankLine below) (held (planeSpace fanout) (suc n) (parts .first) ++ (entryOf c 0 ∷ []))) (held (planeSpace fanout) (suc n) (parts .first) ∷ [])
+
+      bounds-are : branchBounds n m low (childAt m k i) (eqb i place) below c ≡ map boundsOf groups
+      unfolding groups
+      bounds-are = branch-groups n m low (childAt m k i) (eqb i place) below c ∙ rw held-is
+
+      count : (b : Bool) → eqb i place ≡ b → next′ ≡ next + cond b 2 1
+      unfolding branchBounds
+      count true e = append-count l next _ 2 l′ next′ (rw e at x)
+      count false e = append-count l next _ 2 l′ next′ (rw e at x)
+
+      pub branch-again : AtBranch n m level lo k place below c (i + 1) (childAt m k i + 1) l′ next′
+      unfolding groupsFrom groups
+      branch-again = record {
+        i-le = omega arith;
+        here = a .here;
+        row = record { right = a .row .right; row = parts .others; reads = parts .tail };
+        grid = all-tail _ (parts .first) (parts .others) grids;
+        long = x .same-length ∙ a .long;
+        before = λ g. let e = count false (ne-eqb i place (λ q. omega arith)) in let z = a .before (omega arith) in omega arith;
+        after = λ g. later (ℕ-discrete i place) g;
+        each = rw (x .list) (all-append _ (rectsIn l next) _ (a .each) (branch-valid n m low (childAt m k i) (eqb i place) below c branch-grid (a .here .cell)));
+        list =
+            ap (λ q. q ++ map boundsOf (groupsFrom n place (rankLine below) (entryOf c 0) (i + 1) (parts .others))) (x .list ∙ ap (λ q. rectsIn l next ++ q) bounds-are)
+            ∙ append-assoc (rectsIn l next) _ _
+            ∙ ap (λ q. rectsIn l next ++ q) (sym (map-append boundsOf groups (groupsFrom n place (rankLine below) (entryOf c 0) (i + 1) (parts .others))))
+            ∙ (rw (← (parts .whole)) at (a .list));
+      }
+        where
+          later : Dec (i ≡ place) → place < i + 1 → next′ ≡ i + 1 + 1
+          later (yes q) g = let e = count true (eq-eqb i place q) in let z = a .before (omega arith) in omega arith
+          later (no q) g = let e = count false (ne-eqb i place q) in let z = a .after (omega arith) in omega arith

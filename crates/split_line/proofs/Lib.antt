@@ -1,0 +1,9 @@
+pub mod ReachLaws
+pub mod ReachWalk
+pub mod SumLaws
+pub mod LineTests
+pub mod CandidateLoops
+pub mod BoundsLaws
+pub mod BranchPuts
+pub mod GroupLoop
+pub mod NodeLaws

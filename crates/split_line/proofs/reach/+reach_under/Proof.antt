@@ -1,0 +1,402 @@
+-- `reach::reach_under` meets its contract, with the level as its measure; its loop is in ReachWalk.
+use Prim.Native.Nat.{ℕ, _-_, _<_}
+use native.Mathlib.Omega.{arith}
+use borrow.Author.Needs.{needs}
+use Rattle.index.proofs.WalkRows.{items-fit}
+use Rattle.index.proofs.WalkLoop.{child-fits}
+use Rattle.split_line.proofs.ReachWalk.{ReachLoop, reach-leaf, reach-of-leaf, reach-start, reach-child, reach-again, reach-end}
+use borrow.Fn.Kinds.{In}
+use borrow.Fn.PlainCycle.{Measures, is, falls, and}
+use Rattle.split_line.proofs.reach.reach_under.Reads as reach-under
+use Rattle.split_line.proofs.reach.reach_under.Kinds as reach-under-kinds
+use Rattle.split_line.proofs.reach.+reach_under.Lts-reach_under as reach-under-lts
+use Rattle.split_line.proofs.reach.Reach.join.Reads as join-reads
+use Rattle.split_line.proofs.reach.Reach.empty.Reads as empty-reads
+use Rattle.split_line.proofs.reach.reach_in_leaf.Reads as reach-in-leaf-reads
+use Rattle.split_line.proofs.reach.+reach_under.{statement}
+use Rattle.split_line.proofs.reach.+reach_under.Tie.{close}
+
+abbrev μ-reach-under : Measures 2 reach-under-kinds.ps ℕ
+μ-reach-under κs a = a .1 .0
+
+abbrev reach-under-at : ℕ → In 2 reach-under-kinds.ps
+reach-under-at t =
+    and 2 reach-under-kinds.ps (is 2 reach-under-kinds.ps μ-reach-under t) reach-under.Pre
+
+abbrev reach-under-below : ℕ → In 2 reach-under-kinds.ps
+reach-under-below t =
+    and 2 reach-under-kinds.ps (falls 2 reach-under-kinds.ps _<_ μ-reach-under t) reach-under.Pre
+
+abbrev reach-under-Inv-loop : reach-under-lts.InvT-loop
+reach-under-Inv-loop m level lo k sides a e n reach₀ low₀ i₀ reach low i = ReachLoop sides level m lo k i low reach
+
+abbrev reach-under-μ-loop : reach-under-lts.MeasureT-loop
+reach-under-μ-loop m level lo k sides a e n reach₀ low₀ i₀ reach low i = n - i
+
+reach-under-mul-a : (t : ℕ) → reach-under-lts.Need-mul-a (
+  reach-in-leaf-reads.Asked,
+  reach-in-leaf-reads.Learnt,
+  empty-reads.Asked,
+  empty-reads.Learnt,
+  reach-under-below t,
+  reach-under.Post,
+  join-reads.Asked,
+  join-reads.Learnt,
+) (reach-under-at t) reach-under.Post reach-under-Inv-loop reach-under-μ-loop
+reach-under-mul-a t c = search needs
+
+reach-under-add-a : (t : ℕ) → reach-under-lts.Need-add-a (
+  reach-in-leaf-reads.Asked,
+  reach-in-leaf-reads.Learnt,
+  empty-reads.Asked,
+  empty-reads.Learnt,
+  reach-under-below t,
+  reach-under.Post,
+  join-reads.Asked,
+  join-reads.Learnt,
+) (reach-under-at t) reach-under.Post reach-under-Inv-loop reach-under-μ-loop
+reach-under-add-a t c = search needs
+
+reach-under-add-e : (t : ℕ) → reach-under-lts.Need-add-e (
+  reach-in-leaf-reads.Asked,
+  reach-in-leaf-reads.Learnt,
+  empty-reads.Asked,
+  empty-reads.Learnt,
+  reach-under-below t,
+  reach-under.Post,
+  join-reads.Asked,
+  join-reads.Learnt,
+) (reach-under-at t) reach-under.Post reach-under-Inv-loop reach-under-μ-loop
+reach-under-add-e t c = search needs
+
+reach-under-mul-reach-in-leaf : (t : ℕ) → reach-under-lts.Need-mul-reach-in-leaf (
+  reach-in-leaf-reads.Asked,
+  reach-in-leaf-reads.Learnt,
+  empty-reads.Asked,
+  empty-reads.Learnt,
+  reach-under-below t,
+  reach-under.Post,
+  join-reads.Asked,
+  join-reads.Learnt,
+) (reach-under-at t) reach-under.Post reach-under-Inv-loop reach-under-μ-loop
+reach-under-mul-reach-in-leaf t c = search needs
+
+reach-under-sub-reach-in-leaf : (t : ℕ) → reach-under-lts.Need-sub-reach-in-leaf (
+  reach-in-leaf-reads.Asked,
+  reach-in-leaf-reads.Learnt,
+  empty-reads.Asked,
+  empty-reads.Learnt,
+  reach-under-below t,
+  reach-under.Post,
+  join-reads.Asked,
+  join-reads.Learnt,
+) (reach-under-at t) reach-under.Post reach-under-Inv-loop reach-under-μ-loop
+reach-under-sub-reach-in-leaf t c = search needs
+
+reach-under-part-reach-in-leaf-start : (t : ℕ) → reach-under-lts.Need-part-reach-in-leaf-start (
+  reach-in-leaf-reads.Asked,
+  reach-in-leaf-reads.Learnt,
+  empty-reads.Asked,
+  empty-reads.Learnt,
+  reach-under-below t,
+  reach-under.Post,
+  join-reads.Asked,
+  join-reads.Learnt,
+) (reach-under-at t) reach-under.Post reach-under-Inv-loop reach-under-μ-loop
+reach-under-part-reach-in-leaf-start t c = search needs
+
+reach-under-part-reach-in-leaf-end : (t : ℕ) → reach-under-lts.Need-part-reach-in-leaf-end (
+  reach-in-leaf-reads.Asked,
+  reach-in-leaf-reads.Learnt,
+  empty-reads.Asked,
+  empty-reads.Learnt,
+  reach-under-below t,
+  reach-under.Post,
+  join-reads.Asked,
+  join-reads.Learnt,
+) (reach-under-at t) reach-under.Post reach-under-Inv-loop reach-under-μ-loop
+reach-under-part-reach-in-leaf-end t c = search needs
+
+reach-under-reach-in-leaf-requires : (t : ℕ) → reach-under-lts.Need-reach-in-leaf-requires (
+  reach-in-leaf-reads.Asked,
+  reach-in-leaf-reads.Learnt,
+  empty-reads.Asked,
+  empty-reads.Learnt,
+  reach-under-below t,
+  reach-under.Post,
+  join-reads.Asked,
+  join-reads.Learnt,
+) (reach-under-at t) reach-under.Post reach-under-Inv-loop reach-under-μ-loop
+reach-under-reach-in-leaf-requires t c κs = search reach-leaf
+
+reach-under-returns : (t : ℕ) → reach-under-lts.Need-returns (
+  reach-in-leaf-reads.Asked,
+  reach-in-leaf-reads.Learnt,
+  empty-reads.Asked,
+  empty-reads.Learnt,
+  reach-under-below t,
+  reach-under.Post,
+  join-reads.Asked,
+  join-reads.Learnt,
+) (reach-under-at t) reach-under.Post reach-under-Inv-loop reach-under-μ-loop
+reach-under-returns t c = search reach-of-leaf
+
+reach-under-add-n : (t : ℕ) → reach-under-lts.Need-add-n (
+  reach-in-leaf-reads.Asked,
+  reach-in-leaf-reads.Learnt,
+  empty-reads.Asked,
+  empty-reads.Learnt,
+  reach-under-below t,
+  reach-under.Post,
+  join-reads.Asked,
+  join-reads.Learnt,
+) (reach-under-at t) reach-under.Post reach-under-Inv-loop reach-under-μ-loop
+reach-under-add-n t c = search needs
+
+reach-under-mul-n : (t : ℕ) → reach-under-lts.Need-mul-n (
+  reach-in-leaf-reads.Asked,
+  reach-in-leaf-reads.Learnt,
+  empty-reads.Asked,
+  empty-reads.Learnt,
+  reach-under-below t,
+  reach-under.Post,
+  join-reads.Asked,
+  join-reads.Learnt,
+) (reach-under-at t) reach-under.Post reach-under-Inv-loop reach-under-μ-loop
+reach-under-mul-n t c = search needs
+
+reach-under-shared-slice-read-n : (t : ℕ) → reach-under-lts.Need-shared-slice-read-n (
+  reach-in-leaf-reads.Asked,
+  reach-in-leaf-reads.Learnt,
+  empty-reads.Asked,
+  empty-reads.Learnt,
+  reach-under-below t,
+  reach-under.Post,
+  join-reads.Asked,
+  join-reads.Learnt,
+) (reach-under-at t) reach-under.Post reach-under-Inv-loop reach-under-μ-loop
+reach-under-shared-slice-read-n t c = search needs
+
+reach-under-cast-n : (t : ℕ) → reach-under-lts.Need-cast-n (
+  reach-in-leaf-reads.Asked,
+  reach-in-leaf-reads.Learnt,
+  empty-reads.Asked,
+  empty-reads.Learnt,
+  reach-under-below t,
+  reach-under.Post,
+  join-reads.Asked,
+  join-reads.Learnt,
+) (reach-under-at t) reach-under.Post reach-under-Inv-loop reach-under-μ-loop
+reach-under-cast-n t c = search items-fit
+
+reach-under-empty-requires : (t : ℕ) → reach-under-lts.Need-empty-requires (
+  reach-in-leaf-reads.Asked,
+  reach-in-leaf-reads.Learnt,
+  empty-reads.Asked,
+  empty-reads.Learnt,
+  reach-under-below t,
+  reach-under.Post,
+  join-reads.Asked,
+  join-reads.Learnt,
+) (reach-under-at t) reach-under.Post reach-under-Inv-loop reach-under-μ-loop
+reach-under-empty-requires t c κs = search needs
+
+reach-under-loop-holds : (t : ℕ) → reach-under-lts.Need-loop-holds (
+  reach-in-leaf-reads.Asked,
+  reach-in-leaf-reads.Learnt,
+  empty-reads.Asked,
+  empty-reads.Learnt,
+  reach-under-below t,
+  reach-under.Post,
+  join-reads.Asked,
+  join-reads.Learnt,
+) (reach-under-at t) reach-under.Post reach-under-Inv-loop reach-under-μ-loop
+reach-under-loop-holds t c = search reach-start
+
+reach-under-add-j : (t : ℕ) → reach-under-lts.Need-add-j (
+  reach-in-leaf-reads.Asked,
+  reach-in-leaf-reads.Learnt,
+  empty-reads.Asked,
+  empty-reads.Learnt,
+  reach-under-below t,
+  reach-under.Post,
+  join-reads.Asked,
+  join-reads.Learnt,
+) (reach-under-at t) reach-under.Post reach-under-Inv-loop reach-under-μ-loop
+reach-under-add-j t c = search needs
+
+reach-under-add-j-2 : (t : ℕ) → reach-under-lts.Need-add-j-2 (
+  reach-in-leaf-reads.Asked,
+  reach-in-leaf-reads.Learnt,
+  empty-reads.Asked,
+  empty-reads.Learnt,
+  reach-under-below t,
+  reach-under.Post,
+  join-reads.Asked,
+  join-reads.Learnt,
+) (reach-under-at t) reach-under.Post reach-under-Inv-loop reach-under-μ-loop
+reach-under-add-j-2 t c = search needs
+
+reach-under-mul-j : (t : ℕ) → reach-under-lts.Need-mul-j (
+  reach-in-leaf-reads.Asked,
+  reach-in-leaf-reads.Learnt,
+  empty-reads.Asked,
+  empty-reads.Learnt,
+  reach-under-below t,
+  reach-under.Post,
+  join-reads.Asked,
+  join-reads.Learnt,
+) (reach-under-at t) reach-under.Post reach-under-Inv-loop reach-under-μ-loop
+reach-under-mul-j t c = search needs
+
+reach-under-shared-slice-read-j : (t : ℕ) → reach-under-lts.Need-shared-slice-read-j (
+  reach-in-leaf-reads.Asked,
+  reach-in-leaf-reads.Learnt,
+  empty-reads.Asked,
+  empty-reads.Learnt,
+  reach-under-below t,
+  reach-under.Post,
+  join-reads.Asked,
+  join-reads.Learnt,
+) (reach-under-at t) reach-under.Post reach-under-Inv-loop reach-under-μ-loop
+reach-under-shared-slice-read-j t c = search needs
+
+reach-under-sub-reach-under : (t : ℕ) → reach-under-lts.Need-sub-reach-under (
+  reach-in-leaf-reads.Asked,
+  reach-in-leaf-reads.Learnt,
+  empty-reads.Asked,
+  empty-reads.Learnt,
+  reach-under-below t,
+  reach-under.Post,
+  join-reads.Asked,
+  join-reads.Learnt,
+) (reach-under-at t) reach-under.Post reach-under-Inv-loop reach-under-μ-loop
+reach-under-sub-reach-under t c = search needs
+
+reach-under-reach-under-requires : (t : ℕ) → reach-under-lts.Need-reach-under-requires (
+  reach-in-leaf-reads.Asked,
+  reach-in-leaf-reads.Learnt,
+  empty-reads.Asked,
+  empty-reads.Learnt,
+  reach-under-below t,
+  reach-under.Post,
+  join-reads.Asked,
+  join-reads.Learnt,
+) (reach-under-at t) reach-under.Post reach-under-Inv-loop reach-under-μ-loop
+reach-under-reach-under-requires t c κs =
+    (omega arith, reach-child _ _ _ _ _ _ _ _ (c .before .before .loop .inv) (c .before .loop-test .taken))
+
+reach-under-join-requires : (t : ℕ) → reach-under-lts.Need-join-requires (
+  reach-in-leaf-reads.Asked,
+  reach-in-leaf-reads.Learnt,
+  empty-reads.Asked,
+  empty-reads.Learnt,
+  reach-under-below t,
+  reach-under.Post,
+  join-reads.Asked,
+  join-reads.Learnt,
+) (reach-under-at t) reach-under.Post reach-under-Inv-loop reach-under-μ-loop
+reach-under-join-requires t c κs = search needs
+
+reach-under-add-low : (t : ℕ) → reach-under-lts.Need-add-low (
+  reach-in-leaf-reads.Asked,
+  reach-in-leaf-reads.Learnt,
+  empty-reads.Asked,
+  empty-reads.Learnt,
+  reach-under-below t,
+  reach-under.Post,
+  join-reads.Asked,
+  join-reads.Learnt,
+) (reach-under-at t) reach-under.Post reach-under-Inv-loop reach-under-μ-loop
+reach-under-add-low t c = search child-fits
+
+reach-under-add-i : (t : ℕ) → reach-under-lts.Need-add-i (
+  reach-in-leaf-reads.Asked,
+  reach-in-leaf-reads.Learnt,
+  empty-reads.Asked,
+  empty-reads.Learnt,
+  reach-under-below t,
+  reach-under.Post,
+  join-reads.Asked,
+  join-reads.Learnt,
+) (reach-under-at t) reach-under.Post reach-under-Inv-loop reach-under-μ-loop
+reach-under-add-i t c = search needs
+
+reach-under-loop-less : (t : ℕ) → reach-under-lts.Need-loop-less (
+  reach-in-leaf-reads.Asked,
+  reach-in-leaf-reads.Learnt,
+  empty-reads.Asked,
+  empty-reads.Learnt,
+  reach-under-below t,
+  reach-under.Post,
+  join-reads.Asked,
+  join-reads.Learnt,
+) (reach-under-at t) reach-under.Post reach-under-Inv-loop reach-under-μ-loop
+reach-under-loop-less t c = search needs
+
+reach-under-loop-again : (t : ℕ) → reach-under-lts.Need-loop-again (
+  reach-in-leaf-reads.Asked,
+  reach-in-leaf-reads.Learnt,
+  empty-reads.Asked,
+  empty-reads.Learnt,
+  reach-under-below t,
+  reach-under.Post,
+  join-reads.Asked,
+  join-reads.Learnt,
+) (reach-under-at t) reach-under.Post reach-under-Inv-loop reach-under-μ-loop
+reach-under-loop-again t c = search reach-again
+
+reach-under-returns-2 : (t : ℕ) → reach-under-lts.Need-returns-2 (
+  reach-in-leaf-reads.Asked,
+  reach-in-leaf-reads.Learnt,
+  empty-reads.Asked,
+  empty-reads.Learnt,
+  reach-under-below t,
+  reach-under.Post,
+  join-reads.Asked,
+  join-reads.Learnt,
+) (reach-under-at t) reach-under.Post reach-under-Inv-loop reach-under-μ-loop
+reach-under-returns-2 t c = search reach-end
+
+pub +reach-under-spec : {M : Type 1} → statement M
++reach-under-spec = close μ-reach-under λ t. reach-under-lts.spec (
+  reach-in-leaf-reads.Asked,
+  reach-in-leaf-reads.Learnt,
+  empty-reads.Asked,
+  empty-reads.Learnt,
+  reach-under-below t,
+  reach-under.Post,
+  join-reads.Asked,
+  join-reads.Learnt,
+)
+    (reach-under-at t)
+    reach-under.Post
+    reach-under-Inv-loop
+    reach-under-μ-loop
+    (reach-under-mul-a t)
+    (reach-under-add-a t)
+    (reach-under-add-e t)
+    (reach-under-mul-reach-in-leaf t)
+    (reach-under-sub-reach-in-leaf t)
+    (reach-under-part-reach-in-leaf-start t)
+    (reach-under-part-reach-in-leaf-end t)
+    (reach-under-reach-in-leaf-requires t)
+    (reach-under-returns t)
+    (reach-under-add-n t)
+    (reach-under-mul-n t)
+    (reach-under-shared-slice-read-n t)
+    (reach-under-cast-n t)
+    (reach-under-empty-requires t)
+    (reach-under-loop-holds t)
+    (reach-under-add-j t)
+    (reach-under-add-j-2 t)
+    (reach-under-mul-j t)
+    (reach-under-shared-slice-read-j t)
+    (reach-under-sub-reach-under t)
+    (reach-under-reach-under-requires t)
+    (reach-under-join-requires t)
+    (reach-under-add-low t)
+    (reach-under-add-i t)
+    (reach-under-loop-less t)
+    (reach-under-loop-again t)
+    (reach-under-returns-2 t)

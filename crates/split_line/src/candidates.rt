@@ -1,0 +1,160 @@
+// The line of a routing node, from the extents of its branches: only lines just behind an extreme coordinate of a branch are tried. The
+// extents are rectangles in a list, four numbers each.
+ghost use mathlib.Core.Path.{_≡_};
+ghost use mathlib.Core.Bool.{true};
+ghost use Prim.Native.Nat.{_<_, _≤_};
+ghost use Rattle.geometry.specs.Cells.{valid};
+ghost use Rattle.tree.specs.Space.{left, right};
+ghost use Rattle.plane.specs.Candidates.{extentOn, rank, tried};
+ghost use Rattle.index.specs.Answers.{fanout};
+ghost use Rattle.split_line.specs.Bounds.{rectExtent, extentsIn, BoundsList, TriedLine, countsOf, addedCounts, countsFit, triedAt, bestRank};
+use geometry::Line;
+use geometry::Rect;
+use geometry::rect_at;
+
+// How many branches hold entries left of a line, right of it, and on both sides.
+struct Counts {
+    lefts: u32,
+    rights: u32,
+    both: u32,
+}
+
+impl Counts {
+    // With one more branch.
+    fn add(self, before: bool, behind: bool) -> Counts
+        requires { ⌜ (self .lefts ≤ 8) × (self .rights ≤ 8) × (self .both ≤ 8) ⌝ }
+        ensures { λ r. ⌜ r ≡ addedCounts self before behind ⌝ }
+    {
+        if before {
+            if behind {
+                return Counts {
+                    lefts: self.lefts + 1,
+                    rights: self.rights + 1,
+                    both: self.both + 1,
+                };
+            }
+            return Counts {
+                lefts: self.lefts + 1,
+                rights: self.rights,
+                both: self.both,
+            };
+        }
+        if behind {
+            return Counts {
+                lefts: self.lefts,
+                rights: self.rights + 1,
+                both: self.both,
+            };
+        }
+        self
+    }
+
+    // Whether each side receives 1 to 8 branches.
+    fn fit(self) -> bool
+        ensures { λ b. ⌜ b ≡ countsFit self ⌝ }
+    {
+        if self.lefts == 0 {
+            return false;
+        }
+        if 8 < self.lefts {
+            return false;
+        }
+        if self.rights == 0 {
+            return false;
+        }
+        self.rights <= 8
+    }
+}
+
+// Whether a branch with these bounds holds entries left of the line.
+fn is_left(r: Rect, line: Line) -> bool
+    ensures { λ b. ⌜ b ≡ extentOn (left line) (rectExtent r) ⌝ }
+{
+    match line {
+        Line::AtX(l) => r.llx < l,
+        Line::AtY(l) => r.lly < l,
+    }
+}
+
+// Whether a branch with these bounds holds entries right of the line.
+fn is_right(r: Rect, line: Line) -> bool
+    requires { ⌜ valid r ≡ true ⌝ }
+    ensures { λ b. ⌜ b ≡ extentOn (right line) (rectExtent r) ⌝ }
+{
+    match line {
+        Line::AtX(l) => l < r.urx,
+        Line::AtY(l) => l < r.ury,
+    }
+}
+
+// The place of the line in document 01's order of lines.
+fn rank_of(line: Line) -> u32
+    requires { ⌜ rank line ≤ 131072 ⌝ }
+    ensures { λ r. ⌜ r ≡ rank line ⌝ }
+{
+    match line {
+        Line::AtX(l) => l,
+        Line::AtY(l) => 65536 + l,
+    }
+}
+
+// Counts the branches on the sides of the line.
+fn count_sides(bounds: &[u32], n: usize, line: Line) -> Counts
+    requires { ⌜ BoundsList (now bounds) n ⌝ }
+    ensures { λ r. ⌜ r ≡ countsOf (extentsIn (now (bounds .entry)) n) line ⌝ }
+{
+    let mut counts = Counts {
+        lefts: 0,
+        rights: 0,
+        both: 0,
+    };
+    let mut i = 0;
+    while i < n {
+        let r = rect_at(bounds, i);
+        counts = counts.add(is_left(r, line), is_right(r, line));
+        i += 1;
+    }
+    counts
+}
+
+// The least key so far after the line was tried: the key counts the branches on both sides first, then the place of the line.
+fn try_line(bounds: &[u32], n: usize, line: Line, key: u32) -> u32
+    requires { ⌜ TriedLine (now bounds) n line ⌝ }
+    ensures { λ r. ⌜ r ≡ tried fanout (extentsIn (now (bounds .entry)) n) key line ⌝ }
+{
+    let counts = count_sides(bounds, n, line);
+    if !counts.fit() {
+        return key;
+    }
+    let next = counts.both * 131072 + rank_of(line);
+    if next < key {
+        return next;
+    }
+    key
+}
+
+// The least key so far after the four lines behind the extremes of the i-th branch were tried.
+fn try_branch(bounds: &[u32], n: usize, i: usize, key: u32) -> u32
+    requires { ⌜ BoundsList (now bounds) n × (i < n) ⌝ }
+    ensures { λ r. ⌜ r ≡ triedAt (now (bounds .entry)) n i key ⌝ }
+{
+    let r = rect_at(bounds, i);
+    let first = try_line(bounds, n, Line::AtX(r.llx + 1), key);
+    let second = try_line(bounds, n, Line::AtX(r.urx), first);
+    let third = try_line(bounds, n, Line::AtY(r.lly + 1), second);
+    try_line(bounds, n, Line::AtY(r.ury), third)
+}
+
+// The number of the fitting line with fewest branches on both sides, ties to x, then to the smaller line.
+pub fn best_line(bounds: &[u32], n: usize) -> u32
+    requires { ⌜ BoundsList (now bounds) n ⌝ }
+    ensures { λ r. ⌜ r ≡ bestRank (extentsIn (now (bounds .entry)) n) ⌝ }
+{
+    let mut key: u32 = 4294967295;
+    let mut i = 0;
+    while i < n {
+        key = try_branch(bounds, n, i, key);
+        i += 1;
+    }
+    key % 131072
+}

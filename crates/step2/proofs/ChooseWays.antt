@@ -1,0 +1,139 @@
+-- The ways out of the choice: a branch that has the cell, the branch of least extra area, and refusal 7.
+use Prim.Native.Nat.{ℕ, suc, _≤_, _<_}
+use mathlib.Core.Path.{_≡_, sym, ap, subst, _∙_}
+use mathlib.Core.Bool.{true, false}
+use mathlib.Core.List.{List, [], _∷_, map}
+use mathlib.Core.Option.{none, some, bind}
+use native.Mathlib.Omega.{arith}
+use native.Mathlib.Numerals.{add-one}
+use lib.ListN.{length, take, drop, getD}
+use lib.Seq.{split-at, length-take-le, take-all}
+use Rattle.geometry.specs.declared.rect.Cell.{Cell}
+use Rattle.geometry.specs.declared.rect.Rect.{Rect}
+use Rattle.geometry.specs.declared.polygon.Polygon.{Polygon}
+use Rattle.geometry.specs.declared.cut.Count.{Count}
+use Rattle.geometry.specs.declared.cut.Count.the-variants.{Rects, Over}
+use Rattle.geometry.specs.Cells.{onGrid}
+use Rattle.geometry.specs.Numbers.{rectsIn, rectsOf, counted, Written, PolygonOf}
+use Rattle.geometry.proofs.NumberLaws.{length-rects}
+use Rattle.tree.specs.Lists.{All}
+use Rattle.tree.specs.Nodes.{Item}
+use Rattle.tree.specs.Step2.{choose}
+use Rattle.plane.specs.Plane.{plane, planeSpace}
+use Rattle.memory.specs.Layout.{part, polygonIn}
+use Rattle.index.specs.Answers.{fanout}
+use Rattle.index.specs.Walks.{hasTest, countAt, childAt}
+use Rattle.step2.specs.declared.extra.Nearest.{Nearest}
+use Rattle.step2.specs.Branches.{polygonsIn, Branches, firstPlace}
+use Rattle.step2.specs.Choose.{ChosenBranch, ChosenAt, NoneChosen}
+use Rattle.step2.specs.Extra.{noneYet, nearestFrom}
+use Rattle.step2.specs.Pieces.{grownAt}
+use Rattle.step2.proofs.ChildParts.{next-polygon, polygon-there}
+use Rattle.step2.proofs.ReadBranches.{polygons-read}
+use Rattle.step2.proofs.FirstLoop.{none-before, passes-at}
+use Rattle.step2.proofs.NearestLaws.{Least, nearest-least}
+use Rattle.step2.proofs.PieceLaws.{grown-few}
+use Rattle.step2.proofs.ChooseLaws.{BranchAt, branch-at, choose-has, choose-grown, place-below, polygon-at, rect-below}
+
+-- a chosen branch, from its place in the row
+chosen-branch : (n : ℕ) (b : Item (planeSpace fanout) (suc (suc n))) (p : List Rect) (c : Cell) (i : ℕ) (before after : List (List Rect)) (x q : List Rect)
+    (s : BranchAt (b .child) i before x after)
+    → choose (plane fanout) p (b .child) c ≡ some (record { before = take i (b .child); old = s .old; grown = q; after = drop (suc i) (b .child) })
+    → ChosenBranch n b p c i q
+chosen-branch n b p c i before after x q s e = record {
+  old = s .old;
+  below = s .below;
+  row = rw (add-one i) (s .row);
+  chosen = rw (add-one i) e;
+}
+
+module _ (m : List ℕ) (k : ℕ) (p : List Rect) (c : Cell) (v : Branches m k) where
+  -- the first branch that has the cell
+  pub has-way : (place : ℕ) (q : Polygon) → place ≡ firstPlace (hasTest c) (polygonsIn m k) → place < countAt m k
+      → PolygonOf (polygonIn (part m (childAt m k place))) q → ChosenAt m k p c place q
+  has-way place q e h w = record { few = w .fits; each = λ n lo b r. one n b (polygons-read n m lo k b r) }
+    where
+      one : (n : ℕ) (b : Item (planeSpace fanout) (suc (suc n))) → map (λ x. x .poly) (b .child) ≡ polygonsIn m k → ChosenBranch n b p c place (rectsOf q)
+      one n b r =
+          let ps = polygonsIn m k in
+          let l : place < length ps = let z = v .count in omega arith in
+          let at : getD ps place [] ≡ rectsOf q = polygon-there m k v place h ∙ sym (w .list) in
+          let len : length (take place ps) ≡ place = length-take-le place ps (omega arith) in
+          let none-has : All (λ x. hasTest c x ≡ false) (take place ps) = rw e (none-before (hasTest c) ps) in
+          let has : hasTest c (getD ps place []) ≡ true = rw e (passes-at (hasTest c) ps [] (rw (← e) l)) in
+          let s : BranchAt (b .child) place (take place ps) (getD ps place []) (drop (suc place) ps) =
+          subst (λ (i : ℕ). BranchAt (b .child) i (take place ps) (getD ps place []) (drop (suc place) ps)) len
+          (branch-at (b .child) (take place ps) (getD ps place []) (drop (suc place) ps) (r ∙ split-at ps place [] l)) in
+          subst (λ (x : List Rect). ChosenBranch n b p c place x) at
+          (chosen-branch n b p c place (take place ps) (drop (suc place) ps) (getD ps place []) (getD ps place []) s
+          (choose-has p c (b .child) place (take place ps) (drop (suc place) ps) (getD ps place []) s none-has has))
+
+  module _ (g : onGrid c ≡ true) (x : Nearest) (e : x ≡ nearestFrom c 0 noneYet (polygonsIn m k)) where
+    found : Least c (polygonsIn m k) x
+    found =
+        let s = v .some in
+        let q : polygonsIn m k ≡ polygonIn (part m (childAt m k 0)) ∷ drop 1 (polygonsIn m k) = next-polygon m k v 0 s in
+        let o = v .good 0 s in
+        let l : 1 ≤ length (polygonIn (part m (childAt m k 0))) = rw (length-rects _ _) (o .some-rects) in
+        rw q (nearest-least c (polygonIn (part m (childAt m k 0))) (drop 1 (polygonsIn m k)) x l (o .valid) g (rw q at e))
+
+    pub nearest-place : x .branch < countAt m k
+    nearest-place =
+        let a = place-below c (polygonsIn m k) _ (found .first) in
+        let b = found .branch in
+        let z = v .count in
+        omega arith
+
+    pub nearest-rect : x .rect < length (getD (polygonsIn m k) (x .branch) [])
+    nearest-rect =
+        let f = found .first in
+        let a = rect-below c (polygonsIn m k) _ f in
+        let b = found .rect in
+        let q : getD (polygonsIn m k) (x .branch) [] ≡ f .polygon = ap (λ i. getD (polygonsIn m k) i []) (found .branch) ∙ polygon-at c (polygonsIn m k) _ f in
+        rw q (omega arith)
+
+    module _ (h : firstPlace (hasTest c) (polygonsIn m k) ≡ countAt m k) where
+      none-has : All (λ y. hasTest c y ≡ false) (polygonsIn m k)
+      none-has =
+          let z = v .count in
+          subst (λ (l : List (List Rect)). All (λ y. hasTest c y ≡ false) l) (take-all (firstPlace (hasTest c) (polygonsIn m k)) (polygonsIn m k) (omega arith)) (none-before (hasTest c) (polygonsIn m k))
+
+      -- what the choice among the branches gives, by the grown polygon
+      module _ (n : ℕ) (b : Item (planeSpace fanout) (suc (suc n))) (r : map (λ y. y .poly) (b .child) ≡ polygonsIn m k) where
+        taken : BranchAt (b .child) (length (found .first .before)) (found .first .before) (found .first .polygon) (found .first .after)
+        taken = branch-at (b .child) (found .first .before) (found .first .polygon) (found .first .after) (r ∙ found .first .row)
+
+        choice : choose (plane fanout) p (b .child) c
+            ≡ bind (grownAt p (polygonsIn m k) (length (found .first .before)) (length (found .first .inside .left)) c)
+            (λ q. some (record { before = take (length (found .first .before)) (b .child); old = taken .old; grown = q; after = drop (suc (length (found .first .before))) (b .child) }))
+        choice = choose-grown c (polygonsIn m k) _ (found .first) p (b .child) taken r none-has
+
+        one-none : grownAt p (polygonsIn m k) (x .branch) (x .rect) c ≡ none → choose (plane fanout) p (b .child) c ≡ none
+        unfolding bind
+        one-none o =
+            let w : grownAt p (polygonsIn m k) (length (found .first .before)) (length (found .first .inside .left)) c ≡ none = rw (← (found .branch), ← (found .rect)) o in
+            choice ∙ rw w
+
+        one-some : (q : List Rect) → grownAt p (polygonsIn m k) (x .branch) (x .rect) c ≡ some q → ChosenBranch n b p c (x .branch) q
+        unfolding bind
+        one-some q o =
+            let w : grownAt p (polygonsIn m k) (length (found .first .before)) (length (found .first .inside .left)) c ≡ some q = rw (← (found .branch), ← (found .rect)) o in
+            rw (found .branch) (chosen-branch n b p c (length (found .first .before)) (found .first .before) (found .first .after) (found .first .polygon) q taken (choice ∙ rw w))
+
+      module _ (l₀ l : List ℕ) (a : Count) (w : Written l₀ (grownAt p (polygonsIn m k) (x .branch) (x .rect) c) a l) where
+        pub over-way : a ≡ Over → NoneChosen m k p c
+        unfolding counted
+        over-way o =
+            let z : grownAt p (polygonsIn m k) (x .branch) (x .rect) c ≡ none = sym (w .list) ∙ rw o in
+            record { each = λ n lo b r. one-none n b (polygons-read n m lo k b r) z }
+
+        module _ (n : ℕ) (o : a ≡ Rects n) where
+          grown : grownAt p (polygonsIn m k) (x .branch) (x .rect) c ≡ some (rectsIn l n)
+          unfolding counted
+          grown = sym (w .list) ∙ rw o
+
+          pub rects-few : n ≤ 16
+          rects-few = rw (length-rects l n) at (grown-few p (polygonsIn m k) (x .branch) (x .rect) c (rectsIn l n) grown)
+
+          pub grown-way : (q : Polygon) → PolygonOf (rectsIn l n) q → ChosenAt m k p c (x .branch) q
+          grown-way q u = record { few = u .fits; each = λ i lo b r. one-some i b (polygons-read i m lo k b r) (rectsOf q) (grown ∙ ap some (sym (u .list))) }

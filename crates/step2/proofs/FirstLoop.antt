@@ -1,0 +1,81 @@
+-- The loop that looks for the first child whose polygon has the cell, and what its place says.
+use Prim.Native.Nat.{ℕ, zero, suc, _+_, _≤_, _<_}
+use mathlib.Core.Path.{_≡_, refl}
+use mathlib.Core.Bool.{Bool, true, false, cond}
+use mathlib.Core.List.{List, [], _∷_}
+use native.Mathlib.Omega.{arith}
+use lib.ListN.{length, take, drop, getD}
+use Rattle.geometry.specs.declared.rect.Cell.{Cell}
+use Rattle.tree.specs.Lists.{All}
+use Rattle.memory.specs.Layout.{part, polygonIn}
+use Rattle.index.specs.Walks.{hasTest, countAt, childAt}
+use Rattle.step2.specs.Branches.{polygonsIn, Branches, firstPlace}
+use Rattle.step2.proofs.ChildParts.{next-polygon, no-polygon}
+
+-- The first i children do not have the cell.
+pub record Looking (m : List ℕ) (k : ℕ) (c : Cell) (i : ℕ) : Type 0 where
+  pub branches : Branches m k
+  pub i-le : i ≤ countAt m k
+  pub rest : firstPlace (hasTest c) (polygonsIn m k) ≡ i + firstPlace (hasTest c) (drop i (polygonsIn m k))
+
+module _ (m : List ℕ) (k : ℕ) (c : Cell) where
+  pub look-start : Branches m k → Looking m k c 0
+  look-start v = record { branches = v; i-le = omega arith; rest = omega arith }
+
+  module _ (i : ℕ) (v : Looking m k c i) where
+    pub look-hit : (b : Bool) → i < countAt m k → b ≡ hasTest c (polygonIn (part m (childAt m k i))) → b ≡ true
+        → i ≡ firstPlace (hasTest c) (polygonsIn m k)
+    unfolding firstPlace
+    look-hit b h e f = rw (v .rest, next-polygon m k (v .branches) i h, ← e, f) (omega arith)
+
+    pub look-again : (b : Bool) → i < countAt m k → b ≡ hasTest c (polygonIn (part m (childAt m k i))) → b ≡ false → Looking m k c (i + 1)
+    unfolding firstPlace
+    look-again b h e f = record {
+      branches = v .branches;
+      i-le = omega arith;
+      rest = rw (v .rest, next-polygon m k (v .branches) i h, ← e, f) (omega arith);
+    }
+
+    pub look-end : countAt m k ≤ i → countAt m k ≡ firstPlace (hasTest c) (polygonsIn m k)
+    unfolding firstPlace
+    look-end h = rw (v .rest, no-polygon m k (v .branches) i h) (let l = v .i-le in omega arith)
+
+-- What the first place says of a list.
+module _ {A : Type 0} (t : A → Bool) where
+  place-le : (l : List A) → firstPlace t l ≤ length l
+  unfolding firstPlace
+  place-le [] = omega arith
+  place-le (a ∷ l) = go (t a) (place-le l)
+    where
+      go : (b : Bool) → firstPlace t l ≤ length l → cond b zero (suc (firstPlace t l)) ≤ suc (length l)
+      go true h = omega arith
+      go false h = omega arith
+
+  -- none before it passes
+  pub none-before : (l : List A) → All (λ a. t a ≡ false) (take (firstPlace t l) l)
+  unfolding firstPlace All
+  none-before [] = tt
+  none-before (a ∷ l) = go (t a) refl (none-before l)
+    where
+      go : (b : Bool) → t a ≡ b → All (λ x. t x ≡ false) (take (firstPlace t l) l) → All (λ x. t x ≡ false) (take (cond b zero (suc (firstPlace t l))) (a ∷ l))
+      go true e h = tt
+      go false e h = (e, h)
+
+  -- the one at it passes
+  pub passes-at : (l : List A) (d : A) → firstPlace t l < length l → t (getD l (firstPlace t l) d) ≡ true
+  unfolding firstPlace
+  passes-at [] d h = absurd (omega arith)
+  passes-at (a ∷ l) d h = go (t a) refl (passes-at l d) h
+    where
+      go : (b : Bool) → t a ≡ b → (firstPlace t l < length l → t (getD l (firstPlace t l) d) ≡ true)
+          → cond b zero (suc (firstPlace t l)) < suc (length l) → t (getD (a ∷ l) (cond b zero (suc (firstPlace t l))) d) ≡ true
+      go true e f h = e
+      go false e f h = f (omega arith)
+
+-- no child has the cell
+pub none-first : (m : List ℕ) (k : ℕ) (c : Cell) (place : ℕ) → Branches m k → place ≡ firstPlace (hasTest c) (polygonsIn m k) → countAt m k ≤ place
+    → firstPlace (hasTest c) (polygonsIn m k) ≡ countAt m k
+none-first m k c place v e h =
+    let l = place-le (hasTest c) (polygonsIn m k) in
+    let n = v .count in
+    omega arith

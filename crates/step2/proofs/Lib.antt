@@ -1,0 +1,12 @@
+pub mod ChoiceCases
+pub mod ChildParts
+pub mod ReadBranches
+pub mod FirstLoop
+pub mod ExtraLoops
+pub mod NearestLaws
+pub mod PutLoop
+pub mod PieceLaws
+pub mod SiblingLoop
+pub mod GrownWays
+pub mod ChooseLaws
+pub mod ChooseWays

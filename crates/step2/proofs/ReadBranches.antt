@@ -1,0 +1,84 @@
+-- A routing node that reads: the polygons of its branches are those of its children's parts, and what the code relies on.
+use Prim.Native.Nat.{ℕ, zero, suc, _+_, _≤_, _<_}
+use mathlib.Core.Path.{_≡_, sym, ap, subst, _∙_}
+use mathlib.Core.Bool.{true}
+use mathlib.Core.List.{List, [], _∷_, map}
+use mathlib.Core.Option.{some}
+use native.Mathlib.Omega.{arith}
+use lib.ListN.{length, getD, length-map}
+use Rattle.geometry.specs.declared.rect.Rect.{Rect}
+use Rattle.geometry.proofs.NumberLaws.{length-rects}
+use Rattle.tree.specs.Lists.{All}
+use Rattle.tree.specs.Nodes.{Item}
+use Rattle.plane.specs.Plane.{planeSpace}
+use Rattle.memory.specs.Layout.{rightLength, part, rectCount, polygonIn, childrenIn}
+use Rattle.memory.specs.Reading.{readRow, readNode}
+use Rattle.memory.proofs.ReadingLaws.{row-none, row-parts, node-parts, node-below, fits-as, children-length}
+use Rattle.memory.proofs.SoundTested.{valid-of-fine}
+use Rattle.index.specs.Answers.{fanout}
+use Rattle.index.specs.Walks.{countAt}
+use Rattle.index.proofs.WalkParts.{part-at}
+use Rattle.index.proofs.WalkRows.{polygon-is, walkable, walk-polygon}
+use Rattle.step2.specs.Branches.{polygonsIn, GoodPart, Branches}
+use Rattle.step2.specs.Choose.{Routing}
+use Rattle.step2.proofs.ChildParts.{child-is}
+
+module _ (n : ℕ) (m : List ℕ) where
+  row-polygons : (lo hi : ℕ) (ks : List ℕ) (bs : List (Item (planeSpace fanout) (suc n))) → readRow (readNode fanout n m) lo hi ks ≡ some bs
+      → map (λ b. b .poly) bs ≡ map (λ j. polygonIn (part m j)) ks
+  row-polygons lo hi [] bs e = rw (row-none (readNode fanout n m) lo hi bs e)
+  row-polygons lo hi (k ∷ ks) bs e =
+      let r = row-parts (readNode fanout n m) lo hi k ks bs e in
+      let q = polygon-is n m lo k (r .first) (r .head) in
+      ap (map (λ b. b .poly)) (sym (r .whole)) ∙ rw (q, row-polygons (k + 1) hi ks (r .others) (r .tail))
+
+  row-good : (lo hi : ℕ) (ks : List ℕ) (bs : List (Item (planeSpace fanout) (suc n))) → rightLength m ≡ true
+      → readRow (readNode fanout n m) lo hi ks ≡ some bs → All (λ b. planeSpace fanout .Fine (b .poly)) bs → All (GoodPart m) ks
+  unfolding All
+  row-good lo hi [] bs z e f = tt
+  row-good lo hi (k ∷ ks) bs z e f =
+      let r = row-parts (readNode fanout n m) lo hi k ks bs e in
+      let q = polygon-is n m lo k (r .first) (r .head) in
+      let g : All (λ b. planeSpace fanout .Fine (b .poly)) (r .first ∷ r .others) = subst (λ (l : List (Item (planeSpace fanout) (suc n))). All (λ b. planeSpace fanout .Fine (b .poly)) l) (sym (r .whole)) f in
+      let h : planeSpace fanout .Fine (polygonIn (part m k)) = subst (λ (p : List Rect). planeSpace fanout .Fine p) q (g .0) in
+      let l : 1 ≤ length (polygonIn (part m k)) = h .lower in (
+        record {
+          polygon = walk-polygon n m lo k (walkable n m lo k (r .first) z (r .from) (r .head));
+          some-rects = rw (length-rects _ (rectCount (part m k))) at l;
+          valid = valid-of-fine fanout (polygonIn (part m k)) h;
+        },
+        row-good (k + 1) hi ks (r .others) z (r .tail) (g .1),
+      )
+
+-- the polygons of the branches, whichever way the node is read
+pub polygons-read : (n : ℕ) (m : List ℕ) (lo k : ℕ) (b : Item (planeSpace fanout) (suc (suc n))) → readNode fanout (suc n) m lo k ≡ some b
+    → map (λ x. x .poly) (b .child) ≡ polygonsIn m k
+unfolding polygonsIn
+polygons-read n m lo k b e = row-polygons n m lo k (childrenIn (part m k)) (b .child) (node-parts fanout n m lo k b e .row)
+
+all-at : {A : Type 0} (P : A → Type 0) (l : List A) (i : ℕ) (d : A) → All P l → i < length l → P (getD l i d)
+unfolding All
+all-at P [] i d h g = absurd (omega arith)
+all-at P (a ∷ l) zero d h g = h .0
+all-at P (a ∷ l) (suc i) d h g = all-at P l i d (h .1) (omega arith)
+
+pub branches-of : (m : List ℕ) (k : ℕ) → Routing m k → Branches m k
+unfolding polygonsIn
+branches-of m k v =
+    let w = walkable (suc (v .n)) m (v .lo) k (v .node) (v .right) (v .from) (v .reads) in
+    let b = node-below fanout m (suc (v .n)) (v .lo) k (v .node) (v .reads) in
+    let p = node-parts fanout (v .n) m (v .lo) k (v .node) (v .reads) in
+    let f = fits-as fanout 1 m k (p .fits) in
+    let s = f .some-items in
+    let t = f .few-items in
+    let e = part-at m k 1 (omega arith) in
+    let few : countAt m k ≤ 8 = w .few in
+    let c : length (childrenIn (part m k)) ≡ countAt m k = children-length fanout m k b (omega arith) ∙ e in
+    let g = row-good (v .n) m (v .lo) k (childrenIn (part m k)) (v .node .child) (v .right) (p .row) (v .fine) in
+    record {
+      below = b;
+      some = omega arith;
+      few = few;
+      count = length-map (childrenIn (part m k)) (λ j. polygonIn (part m j)) ∙ c;
+      good = λ i h. rw (child-is m k i few h) at (all-at (GoodPart m) (childrenIn (part m k)) i 0 g (omega arith));
+    }

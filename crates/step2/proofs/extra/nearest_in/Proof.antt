@@ -1,0 +1,48 @@
+-- `extra::nearest_in` meets its contract; its loop is in ExtraLoops.
+use Prim.Native.Nat.{_-_}
+use mathlib.Core.Logic.{⊎-elim}
+use borrow.Author.Needs.{needs}
+use Rattle.step2.proofs.ExtraLoops.{Comparing, compare-start, compared-valid, compare-nearer, compare-same, compare-end}
+use Rattle.step2.proofs.extra.nearest_in.Statement.{statement}
+use Rattle.step2.proofs.extra.nearest_in.Tie as tie
+
+abbrev Inv-loop : tie.InvT-loop
+Inv-loop list n branch c best₀ i₀ best i = Comparing c list n branch best₀ best i
+
+abbrev μ-loop : tie.MeasureT-loop
+μ-loop list n branch c best₀ i₀ best i = n - i
+
+loop-holds : tie.Need-loop-holds Inv-loop μ-loop
+loop-holds c = search compare-start
+
+rect-at-requires : tie.Need-rect-at-requires Inv-loop μ-loop
+rect-at-requires c κs = search needs
+
+extra-area-requires : tie.Need-extra-area-requires Inv-loop μ-loop
+extra-area-requires c κs = (search compared-valid, search needs)
+
+add-i : tie.Need-add-i Inv-loop μ-loop
+add-i c = search needs
+
+loop-less : tie.Need-loop-less Inv-loop μ-loop
+loop-less c = search needs
+
+loop-again : tie.Need-loop-again Inv-loop μ-loop
+loop-again c = ⊎-elim (λ w. search compare-nearer) (λ w. search compare-same) (c .if1 .came)
+
+returns : tie.Need-returns Inv-loop μ-loop
+returns c = search compare-end
+
+pub nearest-in-spec : {M : Type 1} → statement M
+nearest-in-spec =
+    tie.close
+    (tie.spec
+    Inv-loop
+    μ-loop
+    loop-holds
+    rect-at-requires
+    extra-area-requires
+    add-i
+    loop-less
+    loop-again
+    returns)

@@ -1,0 +1,80 @@
+-- `pieces::put_grown` meets its contract; its ways out are in GrownWays.
+use borrow.Author.Needs.{needs}
+use Rattle.geometry.proofs.CutLoops.{few-of}
+use Rattle.step2.proofs.ChildParts.{child-polygon}
+use Rattle.step2.proofs.GrownWays.{counted-room, rect-counted, grown-over, grown-put}
+use Rattle.step2.proofs.pieces.put_grown.Statement.{statement}
+use Rattle.step2.proofs.pieces.put_grown.Tie as tie
+
+mul-j : tie.Need-mul-j
+mul-j c = search needs
+
+add-j : tie.Need-add-j
+add-j c = search needs
+
+add-j-2 : tie.Need-add-j-2
+add-j-2 c = search needs
+
+add-j-3 : tie.Need-add-j-3
+add-j-3 c = search needs
+
+mul-j-2 : tie.Need-mul-j-2
+mul-j-2 c = search needs
+
+shared-slice-read-j : tie.Need-shared-slice-read-j
+shared-slice-read-j c = search needs
+
+grown-rect-requires : tie.Need-grown-rect-requires
+grown-rect-requires c κs = (search child-polygon, search rect-counted, search needs)
+
+put-inner-requires : tie.Need-put-inner-requires
+put-inner-requires c κs = search needs
+
+enum-known-inner : tie.Need-enum-known-inner
+enum-known-inner c = search needs
+
+enum-told : tie.Need-enum-told
+enum-told c = search needs
+
+same-length : tie.Need-same-length
+same-length c = search needs
+
+same-length-2 : tie.Need-same-length-2
+same-length-2 c = search needs
+
+returns : tie.Need-returns
+returns c = search grown-over
+
+put-polygon-requires : tie.Need-put-polygon-requires
+put-polygon-requires c κs = (search child-polygon, search rect-counted, search few-of, search counted-room, search needs)
+
+same-length-3 : tie.Need-same-length-3
+same-length-3 c = search needs
+
+same-length-4 : tie.Need-same-length-4
+same-length-4 c = search needs
+
+returns-2 : tie.Need-returns-2
+returns-2 c = search grown-put
+
+pub put-grown-spec : {M : Type 1} → statement M
+put-grown-spec =
+    tie.close
+    (tie.spec
+    mul-j
+    add-j
+    add-j-2
+    add-j-3
+    mul-j-2
+    shared-slice-read-j
+    grown-rect-requires
+    put-inner-requires
+    enum-known-inner
+    enum-told
+    same-length
+    same-length-2
+    returns
+    put-polygon-requires
+    same-length-3
+    same-length-4
+    returns-2)

@@ -1,0 +1,59 @@
+-- `pieces::put_inner` meets its contract; its ways out are in GrownWays.
+use Prim.Native.Nat.{_≤_}
+use native.Mathlib.Omega.{arith}
+use borrow.Author.Needs.{needs}
+use Rattle.geometry.proofs.CutLoops.{few-of}
+use Rattle.step2.proofs.GrownWays.{list-length, inner-over, inner-parts}
+use Rattle.step2.proofs.pieces.put_inner.Statement.{statement}
+use Rattle.step2.proofs.pieces.put_inner.Tie as tie
+
+put-rect-requires : tie.Need-put-rect-requires
+put-rect-requires c κs = search needs
+
+cut-by-siblings-requires : tie.Need-cut-by-siblings-requires
+cut-by-siblings-requires c κs = search needs
+
+enum-known-cut : tie.Need-enum-known-cut
+enum-known-cut c = search needs
+
+enum-told : tie.Need-enum-told
+enum-told c = search needs
+
+same-length : tie.Need-same-length
+same-length c = search needs
+
+same-length-2 : tie.Need-same-length-2
+same-length-2 c = search needs
+
+returns : tie.Need-returns
+returns c = (search inner-over, search list-length)
+
+common-parts-requires : tie.Need-common-parts-requires
+common-parts-requires c κs =
+    let f : c .before .before .before .cut .given .0 .0 ≤ 256 = search few-of in
+    (omega arith, search needs, search needs)
+
+same-length-3 : tie.Need-same-length-3
+same-length-3 c = search needs
+
+same-length-4 : tie.Need-same-length-4
+same-length-4 c = search needs
+
+returns-2 : tie.Need-returns-2
+returns-2 c = (search inner-parts, search list-length)
+
+pub put-inner-spec : {M : Type 1} → statement M
+put-inner-spec =
+    tie.close
+    (tie.spec
+    put-rect-requires
+    cut-by-siblings-requires
+    enum-known-cut
+    enum-told
+    same-length
+    same-length-2
+    returns
+    common-parts-requires
+    same-length-3
+    same-length-4
+    returns-2)

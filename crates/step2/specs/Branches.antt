@@ -1,0 +1,34 @@
+-- What step 2 reads of a routing node's part and of its children's parts.
+use Prim.Native.Nat.{ℕ, zero, suc, _≤_, _<_}
+use mathlib.Core.Bool.{Bool, true, cond}
+use mathlib.Core.List.{List, [], _∷_, map}
+use mathlib.Core.Path.{_≡_}
+use lib.ListN.{length}
+use Rattle.geometry.specs.declared.rect.Rect.{Rect}
+use Rattle.geometry.specs.Cells.{allValid}
+use Rattle.memory.specs.Layout.{partsOf, part, rectCount, polygonIn, childrenIn}
+use Rattle.index.specs.Check.{PolygonPart}
+use Rattle.index.specs.Walks.{countAt, childAt}
+
+-- the polygons of the children of the node at part k, in order
+unfoldable pub polygonsIn : List ℕ → ℕ → List (List Rect)
+polygonsIn m k = map (λ j. polygonIn (part m j)) (childrenIn (part m k))
+
+-- A child's part has a good polygon.
+pub record GoodPart (m : List ℕ) (j : ℕ) : Type 0 where
+  pub polygon : PolygonPart m j
+  pub some-rects : 1 ≤ rectCount (part m j)
+  pub valid : allValid (polygonIn (part m j)) ≡ true
+
+-- Part k has children, and each has a good polygon. A routing node has this (the law branches-of).
+pub record Branches (m : List ℕ) (k : ℕ) : Type 0 where
+  pub below : k < partsOf m
+  pub some : 1 ≤ countAt m k
+  pub few : countAt m k ≤ 8
+  pub count : length (polygonsIn m k) ≡ countAt m k
+  pub good : (i : ℕ) → i < countAt m k → GoodPart m (childAt m k i)
+
+-- the place of the first element that passes the test; the length where none does
+unfoldable pub firstPlace : {A : Type 0} → (A → Bool) → List A → ℕ
+firstPlace t [] = zero
+firstPlace t (a ∷ l) = let later = firstPlace t l in cond (t a) zero (suc later)

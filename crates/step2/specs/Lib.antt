@@ -1,0 +1,4 @@
+pub mod Choose
+pub mod Branches
+pub mod Extra
+pub mod Pieces

@@ -1,0 +1,74 @@
+// Which branch of a routing node insertion goes to, and the polygon that the branch gets.
+ghost use mathlib.Core.Path.{_≡_};
+ghost use mathlib.Core.Bool.{true};
+ghost use Prim.Native.Nat.{_≤_};
+ghost use Rattle.geometry.specs.Cells.{onGrid};
+ghost use Rattle.geometry.specs.Numbers.{rectsOf};
+ghost use Rattle.index.specs.Walks.{hasTest, countAt};
+ghost use Rattle.step2.specs.Branches.{polygonsIn, Branches, firstPlace};
+ghost use Rattle.step2.specs.Choose.{Routing, ChoiceIs};
+use crate::branch::first_with;
+use crate::branch::polygon_at;
+use crate::extra::find_nearest;
+use crate::pieces::put_grown;
+use geometry::Cell;
+use geometry::Count;
+use geometry::Polygon;
+
+// The branch at a place of the node's row, or refusal 7.
+pub enum Taken {
+    Branch(usize),
+    Over,
+}
+
+// The branch that insertion goes to, and its polygon from now on. Over: the polygon means nothing.
+pub struct Choice {
+    pub taken: Taken,
+    pub polygon: Polygon,
+}
+
+// The branch of least extra area, where none has the cell, with its polygon grown.
+fn choose_nearest(m: &[u32], k: u32, p: Polygon, c: Cell) -> Choice
+    requires { ⌜ Branches (now m) k × (firstPlace (hasTest c) (polygonsIn (now m) k) ≡ countAt (now m) k) × (p .count ≤ 16) × (onGrid c ≡ true) ⌝ }
+    ensures { λ r. ⌜ ChoiceIs (now (m .entry)) k (rectsOf p) c r ⌝ }
+{
+    let found = find_nearest(m, k, c);
+    let place = found.branch;
+    let rect = found.rect;
+    let mut list = [0u32; 1088];
+    let mut spare = [0u32; 1088];
+    let grown = put_grown(m, k, place, rect, p, c, &mut list, &mut spare);
+    let Count::Rects(n) = grown else {
+        let taken = Taken::Over;
+        return Choice { taken, polygon: p };
+    };
+    let polygon = Polygon::load(&list, n);
+    let taken = Taken::Branch(place);
+    Choice { taken, polygon }
+}
+
+// The branch that has the cell, or the one of least extra area.
+fn choose_branch(m: &[u32], k: u32, p: Polygon, c: Cell) -> Choice
+    requires { ⌜ Branches (now m) k × (p .count ≤ 16) × (onGrid c ≡ true) ⌝ }
+    ensures { λ r. ⌜ ChoiceIs (now (m .entry)) k (rectsOf p) c r ⌝ }
+{
+    let a = 64 + 128 * (k as usize);
+    let n = m[a + 1] as usize;
+    let place = first_with(m, k, c);
+    if n <= place {
+        return choose_nearest(m, k, p, c);
+    }
+    let j = m[a + 66 + place];
+    let polygon = polygon_at(m, j);
+    let taken = Taken::Branch(place);
+    Choice { taken, polygon }
+}
+
+// The branch of the routing node at part k for the cell; p is the node's own polygon, as grown in this
+// insertion.
+pub fn choose(m: &[u32], k: u32, p: Polygon, c: Cell) -> Choice
+    requires { ⌜ Routing (now m) k × (p .count ≤ 16) × (onGrid c ≡ true) ⌝ }
+    ensures { λ r. ⌜ ChoiceIs (now (m .entry)) k (rectsOf p) c r ⌝ }
+{
+    choose_branch(m, k, p, c)
+}

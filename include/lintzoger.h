@@ -1,0 +1,106 @@
+/*
+ * The index of calibration cells in lent memory: insertion, removal, clearing
+ * and the two queries.
+ *
+ * A cell is a pair (x, y), each from 0 to 65535. An entry is a cell and a tag,
+ * which is any 32-bit number; a cell has at most one entry. A window has a lower
+ * left corner (llx, lly) and an upper right corner (urx, ury); it contains a cell
+ * exactly if llx <= x < urx and lly <= y < ury. So ll < ur in both dimensions,
+ * and ur is at most 65536.
+ *
+ * An index is a list of 32-bit numbers: 64, then 128 for each of N parts, N from
+ * 1 to 256. All zeros is the fresh, empty index. docs/LAYOUT.md says what each
+ * number holds. The lengths count numbers.
+ *
+ * Each call returns 0 where it accepts, or the number of its refusal:
+ *   LINTZOGER_WRONG_LENGTH    index_len is not 64 + 128 * N for an N from 1 to 256;
+ *   LINTZOGER_WORK_LENGTH     work_len differs from index_len (insertion);
+ *   LINTZOGER_INVALID         a coordinate over 65535, or a window with ll >= ur in
+ *                             a dimension or ur over 65536;
+ *   LINTZOGER_NO_SOUND_TREE   the index reads as no sound tree;
+ *   LINTZOGER_HELD            the cell already has an entry (insertion);
+ *   LINTZOGER_NOT_HELD        the cell has no entry (removal);
+ *   LINTZOGER_OVER_LIMIT      a polygon would be over its limit: over 256 pieces on
+ *                             the way, or over 16 rectangles (insertion);
+ *   LINTZOGER_TOO_MANY_NODES  the tree after would have more than N nodes
+ *                             (insertion);
+ *   LINTZOGER_SHORT_LIST      list_len is less than 3 * matches (window query).
+ * They are tested in the order of their numbers, and the first that applies is
+ * returned.
+ *
+ * What is not named as written or stored stays as it was. So after a refusal all
+ * that is lent is as it was, with two exceptions: *matches after
+ * LINTZOGER_SHORT_LIST, and the work area, which is all zeros after
+ * LINTZOGER_OVER_LIMIT and LINTZOGER_TOO_MANY_NODES.
+ *
+ * No pointer is null, and what a call writes to shares no memory with anything
+ * else that is lent to it.
+ */
+#ifndef LINTZOGER_H
+#define LINTZOGER_H
+
+#include <stddef.h>
+#include <stdint.h>
+
+#define LINTZOGER_WRONG_LENGTH 1
+#define LINTZOGER_WORK_LENGTH 2
+#define LINTZOGER_INVALID 3
+#define LINTZOGER_NO_SOUND_TREE 4
+#define LINTZOGER_HELD 5
+#define LINTZOGER_NOT_HELD 6
+#define LINTZOGER_OVER_LIMIT 7
+#define LINTZOGER_TOO_MANY_NODES 8
+#define LINTZOGER_SHORT_LIST 9
+
+/* The most parts of an index, and the length of an index of n parts. */
+#define LINTZOGER_PART_LIMIT 256
+#define LINTZOGER_INDEX_LEN(n) (64 + 128 * (n))
+
+#ifdef __cplusplus
+extern "C" {
+#endif
+
+/* Puts an entry into the index. Stores the entries held after the call to *held.
+   The work area is as long as the index and may hold anything before the call;
+   afterwards it is all zeros. Refuses with
+     1 to 5: index, work and *held are as they were;
+     7, 8:   index and *held are as they were, work is all zeros. */
+uint32_t lintzoger_insert(uint32_t *index, size_t index_len,
+                          uint32_t *work, size_t work_len,
+                          uint32_t x, uint32_t y, uint32_t tag,
+                          uint32_t *held);
+
+/* Takes the cell's entry out of the index. Stores the entries held after the call
+   to *held. After the last removal the index is all zeros. Refuses with 1, 3, 4
+   and 6: index and *held are as they were. */
+uint32_t lintzoger_remove(uint32_t *index, size_t index_len,
+                          uint32_t x, uint32_t y,
+                          uint32_t *held);
+
+/* Empties the index, whatever it holds: all its numbers become zero, and *held,
+   the entries held after the call, 0. Refuses only a wrong length, with 1: index
+   and *held are as they were. */
+uint32_t lintzoger_clear(uint32_t *index, size_t index_len, uint32_t *held);
+
+/* Looks the cell up. Stores 1 to *held if the cell has an entry, else 0; to
+   *visits the number of nodes whose polygon has the cell; and to *tag the
+   entry's tag, only if it is held. Refuses with 1, 3 and 4: nothing is stored. */
+uint32_t lintzoger_point(const uint32_t *index, size_t index_len,
+                         uint32_t x, uint32_t y,
+                         uint32_t *held, uint32_t *visits, uint32_t *tag);
+
+/* Writes x, y, tag of each entry in the window to list, in the tree's order.
+   Stores the number of these entries to *matches, and to *visits the number of
+   nodes whose polygon shares a cell with the window. The list past 3 * *matches
+   stays as it was. Refuses with 1, 3 and 4, where nothing is written or stored,
+   and with 9, where *matches alone is stored. */
+uint32_t lintzoger_window(const uint32_t *index, size_t index_len,
+                          uint32_t llx, uint32_t lly, uint32_t urx, uint32_t ury,
+                          uint32_t *list, size_t list_len,
+                          uint32_t *matches, uint32_t *visits);
+
+#ifdef __cplusplus
+}
+#endif
+
+#endif

@@ -1,0 +1,125 @@
+//! Indexes and the calls that are timed on them.
+
+use reference::geometry::Cell;
+use reference::memory::image;
+use reference::random::Random;
+use reference::tree::{Index, Tree};
+
+/// Different calls of each kind.
+pub const CALLS: usize = 16;
+
+/// How the points lie: anywhere in any order, anywhere from left to right, or in a square with room
+/// for few more than the index holds.
+#[derive(Clone, Copy, PartialEq, Eq)]
+pub enum Points {
+    Random,
+    Sorted,
+    Crowded,
+}
+
+impl Points {
+    pub fn name(self) -> &'static str {
+        match self {
+            Points::Random => "random",
+            Points::Sorted => "sorted",
+            Points::Crowded => "crowded",
+        }
+    }
+
+    /// The side of the square for an index of n parts. Its first row and column stay free.
+    fn side(self, n: usize) -> u32 {
+        match self {
+            Points::Random | Points::Sorted => 65534,
+            Points::Crowded => (1..).find(|s| s * s >= 12 * n as u32).unwrap_or(1),
+        }
+    }
+
+    fn cell(self, n: usize, random: &mut Random) -> Cell {
+        [0, 1].map(|_| random.between(1, self.side(n)))
+    }
+}
+
+/// An index with insertions until it has no room for a split, or half of its parts in use.
+pub fn filled(n: usize, is_full: bool, points: Points, random: &mut Random) -> Index {
+    let mut cells: Vec<Cell> = (0..40 * n).map(|_| points.cell(n, random)).collect();
+    if points == Points::Sorted {
+        cells.sort_unstable();
+    }
+    let mut index = Index::new(n);
+    let mut refused = 0;
+    for cell in cells {
+        let nodes = index.tree().map_or(0, Tree::nodes);
+        if refused == 40 || (!is_full && 2 * nodes >= n) {
+            break;
+        }
+        match index.insert(cell, random.number() as u32) {
+            Ok(_) => refused = 0,
+            Err(_) => refused += 1,
+        }
+    }
+    index
+}
+
+/// An index, the arguments of the calls, and the lists lent to them.
+pub struct Input {
+    pub index: Vec<u32>,
+    /// What a call changes: before it, the index.
+    pub changed: Vec<u32>,
+    pub work: Vec<u32>,
+    pub list: Vec<u32>,
+    /// What the last call stored.
+    pub stored: [u32; 3],
+    /// Held cells.
+    pub held: Vec<Cell>,
+    /// Windows around held cells.
+    pub windows: Vec<[u32; 4]>,
+    /// Cells whose insertion is accepted without a split, and with one; perhaps none.
+    pub fitting: Vec<Cell>,
+    pub splitting: Vec<Cell>,
+}
+
+impl Input {
+    pub fn new(index: &Index, points: Points, random: &mut Random) -> Input {
+        let tree = index.tree().expect("insertions were accepted");
+        let parts: Vec<usize> = (0..tree.nodes()).collect();
+        let memory = image(index.n(), Some(tree), &parts);
+        let entries = tree.entries();
+        let held: Vec<Cell> = (0..CALLS).map(|_| random.pick(&entries).cell).collect();
+        let reach = if points == Points::Crowded { 3 } else { 3000 };
+        Input {
+            windows: held.iter().map(|&cell| around(cell, reach)).collect(),
+            fitting: accepted_cells(index, points, false, random),
+            splitting: accepted_cells(index, points, true, random),
+            changed: memory.clone(),
+            work: vec![0; memory.len()],
+            list: vec![0; 3 * entries.len()],
+            stored: [0; 3],
+            index: memory,
+            held,
+        }
+    }
+}
+
+fn around(cell: Cell, reach: u32) -> [u32; 4] {
+    let [llx, lly] = cell.map(|v| v.saturating_sub(reach));
+    let [urx, ury] = cell.map(|v| (v + reach + 1).min(65536));
+    [llx, lly, urx, ury]
+}
+
+/// Cells whose insertion is accepted and makes new nodes, or none; no cell where they are too rare.
+fn accepted_cells(index: &Index, points: Points, splits: bool, random: &mut Random) -> Vec<Cell> {
+    let nodes = |index: &Index| index.tree().map_or(0, Tree::nodes);
+    let mut cells = Vec::new();
+    for _ in 0..4000 {
+        let cell = points.cell(index.n(), random);
+        let mut after = index.clone();
+        let accepted = after.insert(cell, 0).is_ok();
+        if accepted && splits == (nodes(&after) > nodes(index)) {
+            cells.push(cell);
+        }
+        if cells.len() == CALLS {
+            return cells;
+        }
+    }
+    Vec::new()
+}
