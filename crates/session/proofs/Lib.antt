@@ -1,0 +1,3 @@
+pub mod ResponseWays
+pub mod StreamLaws
+pub mod StreamLoops
