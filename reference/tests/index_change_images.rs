@@ -5,18 +5,19 @@ mod memory_support;
 mod support;
 
 use memory_support::built::{built_trees, chain, chain_of_sixteens};
+use memory_support::changes::{change, change_images, change_singly};
 use memory_support::histories::random_history;
 use memory_support::images::{any_image, any_tree, first_parts, last_parts, nodes};
 use memory_support::ragged::{ragged, Ragged};
 use memory_support::session::Session;
-use memory_support::steep::steep_tree;
-use memory_support::trees::{cell_of, random_tree, tree_of};
-use memory_support::work::{Dirt, DIRTS};
+use memory_support::steep::{full_leaf_cells, steep_tree};
+use memory_support::trees::{random_tree, tree_of};
+use memory_support::work::DIRTS;
 use memory_support::MOST_PARTS;
-use reference::geometry::{Cell, Rectangle};
+use reference::geometry::Rectangle;
 use reference::memory::image;
 use reference::random::Random;
-use reference::tree::{Entry, Node, PolygonLimit, Tree};
+use reference::tree::{Entry, PolygonLimit};
 use support::checked::Command;
 use support::tally::Tally;
 use support::trace::{trace, Trace};
@@ -26,70 +27,6 @@ const GRID: Rectangle = Rectangle {
     ll: [0, 0],
     ur: [65536, 65536],
 };
-
-/// A cell in a polygon of the tree, near it, or anywhere.
-fn any_cell(tree: Option<&Tree>, random: &mut Random) -> Cell {
-    let Some(tree) = tree else {
-        return [0, 1].map(|_| random.between(0, 65535));
-    };
-    let polygons = tree.polygons();
-    let polygon = polygons[random.number() as usize % polygons.len()];
-    let inside = cell_of(polygon, random);
-    let near = inside.map(|v| (v + random.between(0, 8)).saturating_sub(4).min(65535));
-    let anywhere = [0, 1].map(|_| random.between(0, 65535));
-    random.pick(&[inside, inside, inside, near, near, anywhere])
-}
-
-/// So many insertions and removals, and queries among them.
-fn change(session: &mut Session, count: usize, random: &mut Random) {
-    for _ in 0..count {
-        let cell = any_cell(session.tree(), random);
-        let held = match session.held() {
-            [] => cell,
-            held => random.pick(held).cell,
-        };
-        let tag = random.number() as u32;
-        session.apply(match random.between(0, 9) {
-            0..=5 => Command::Insert(cell, tag),
-            6..=7 => Command::Remove(held),
-            8 => Command::Remove(cell),
-            _ => Command::Point(cell),
-        });
-    }
-}
-
-/// Changes of each image, then all entries are removed.
-fn change_images(images: &[Vec<u32>], count: usize, random: &mut Random, label: &str) -> Tally {
-    let mut tally = Tally::default();
-    for (i, image) in images.iter().enumerate() {
-        let dirt = random.pick(&DIRTS);
-        let label = format!("{label}, image {i}, {dirt:?}");
-        let mut session = Session::of_image(image, dirt, label);
-        change(&mut session, count, random);
-        session.remove_all(random);
-        tally.add_all(&session.tally);
-    }
-    tally
-}
-
-/// Each entry of an image removed alone, and each cell of its entries' neighbours inserted alone.
-fn change_singly(image: &[u32], dirt: Dirt, label: &str) -> Tally {
-    let mut tally = Tally::default();
-    let session = || Session::of_image(image, dirt, label.to_string());
-    for entry in session().held() {
-        let mut one = session();
-        one.expect(Command::Remove(entry.cell), 0);
-        one.apply(Command::Insert(entry.cell, 3));
-        tally.add_all(&one.tally);
-        let [x, y] = entry.cell;
-        for beside in [[x ^ 1, y], [x, y ^ 1], [y, x]] {
-            let mut one = session();
-            one.apply(Command::Insert(beside, 4));
-            tally.add_all(&one.tally);
-        }
-    }
-    tally
-}
 
 #[test]
 fn built() {
@@ -197,25 +134,6 @@ fn full_paths() {
     say(&format!("full paths: {tally}"));
     tally.require(50, &["insert accepted, new root", "insert refused 8"]);
     tally.require(20, &["insert accepted, more nodes"]);
-}
-
-/// The cells of the entries of all full leaves.
-fn full_leaf_cells(tree: &Tree) -> Vec<Cell> {
-    fn collect(node: &Node, cells: &mut Vec<Cell>) {
-        match node {
-            Node::Leaf(leaf) if leaf.entries.len() == 8 => {
-                cells.extend(leaf.entries.iter().map(|e| e.cell));
-            }
-            Node::Leaf(_) => {}
-            Node::Routing(routing) => {
-                let below = routing.branches.iter();
-                below.for_each(|b| collect(&b.child, cells));
-            }
-        }
-    }
-    let mut cells = Vec::new();
-    collect(&tree.root, &mut cells);
-    cells
 }
 
 /// A leaf grows past bars of its siblings: accepted with up to 256 pieces and common parts, and

@@ -43,6 +43,7 @@ fn run(plan: &Plan) -> Tally {
         for i in 0..plan.stream {
             if i % 250 == 249 {
                 session.soil(DIRTS[(case as usize + i / 250) % 4]);
+                session.insert_with_work_of(i, [i as u32, 5]);
             }
             let command = stream.next(session.held(), accepted);
             accepted = session.apply(command) == 0;
@@ -56,9 +57,10 @@ fn run(plan: &Plan) -> Tally {
 }
 
 /// Outcomes that every N has.
-const ALWAYS: [&str; 20] = [
+const ALWAYS: [&str; 21] = [
     "insert accepted, index was empty",
     "insert accepted, no split",
+    "insert refused 2",
     "insert refused 3",
     "insert refused 5",
     "insert refused 8",

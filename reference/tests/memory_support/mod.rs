@@ -5,6 +5,7 @@
 #![allow(dead_code)]
 
 pub mod built;
+pub mod changes;
 pub mod damage;
 pub mod damaged;
 pub mod guard;

@@ -158,6 +158,16 @@ impl Session {
         output.answer
     }
 
+    /// An insertion with a work area of another length, which is refused with 2.
+    pub fn insert_with_work_of(&mut self, length: usize, cell: Cell) {
+        let mut work = Work::new(length, Dirt::Noise);
+        let place = format_args!("{}, after command {}", self.label, self.commands);
+        let (lent, reading) = (&mut self.lent, &mut self.reading);
+        let output = lent.insert(reading, &mut work, cell, 0, place);
+        assert_eq!(output.answer, 2, "{place}: work area of {length}");
+        self.tally.count(insert_kind(2, self.size(), self.size()));
+    }
+
     /// Removes all entries in any order; the index is then all zeros.
     pub fn remove_all(&mut self, random: &mut Random) {
         while !self.record.is_empty() {

@@ -2,7 +2,7 @@
 //! entries or branches, so that an insertion there splits nodes at every level.
 
 use super::trees::{cell_of, divide_in, entries, varied};
-use reference::geometry::Rectangle;
+use reference::geometry::{Cell, Rectangle};
 use reference::random::Random;
 use reference::tree::{Branch, Entry, Node, Tree};
 
@@ -78,4 +78,23 @@ fn eight_entries(polygon: &[Rectangle], random: &mut Random) -> Vec<Entry> {
         }
     }
     entries
+}
+
+/// The cells of the entries of all full leaves.
+pub fn full_leaf_cells(tree: &Tree) -> Vec<Cell> {
+    fn collect(node: &Node, cells: &mut Vec<Cell>) {
+        match node {
+            Node::Leaf(leaf) if leaf.entries.len() == 8 => {
+                cells.extend(leaf.entries.iter().map(|e| e.cell));
+            }
+            Node::Leaf(_) => {}
+            Node::Routing(routing) => {
+                let below = routing.branches.iter();
+                below.for_each(|b| collect(&b.child, cells));
+            }
+        }
+    }
+    let mut cells = Vec::new();
+    collect(&tree.root, &mut cells);
+    cells
 }

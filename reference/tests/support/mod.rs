@@ -8,6 +8,7 @@ pub mod bars;
 pub mod build;
 pub mod case;
 pub mod checked;
+pub mod compared;
 pub mod fault;
 pub mod kinds;
 pub mod ladder;

@@ -1,0 +1,2 @@
+pub mod AnswerLoop
+pub mod TurnLoop

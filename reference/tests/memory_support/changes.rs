@@ -1,0 +1,74 @@
+//! Many insertions and removals on one sound index.
+
+use super::session::Session;
+use super::trees::cell_of;
+use super::work::{Dirt, DIRTS};
+use crate::support::checked::Command;
+use crate::support::tally::Tally;
+use reference::geometry::Cell;
+use reference::random::Random;
+use reference::tree::Tree;
+
+/// A cell in a polygon of the tree, near it, or anywhere.
+fn any_cell(tree: Option<&Tree>, random: &mut Random) -> Cell {
+    let Some(tree) = tree else {
+        return [0, 1].map(|_| random.between(0, 65535));
+    };
+    let polygons = tree.polygons();
+    let polygon = polygons[random.number() as usize % polygons.len()];
+    let inside = cell_of(polygon, random);
+    let near = inside.map(|v| (v + random.between(0, 8)).saturating_sub(4).min(65535));
+    let anywhere = [0, 1].map(|_| random.between(0, 65535));
+    random.pick(&[inside, inside, inside, near, near, anywhere])
+}
+
+/// So many insertions and removals, and queries among them.
+pub fn change(session: &mut Session, count: usize, random: &mut Random) {
+    for _ in 0..count {
+        let cell = any_cell(session.tree(), random);
+        let held = match session.held() {
+            [] => cell,
+            held => random.pick(held).cell,
+        };
+        let tag = random.number() as u32;
+        session.apply(match random.between(0, 9) {
+            0..=5 => Command::Insert(cell, tag),
+            6..=7 => Command::Remove(held),
+            8 => Command::Remove(cell),
+            _ => Command::Point(cell),
+        });
+    }
+}
+
+/// Changes of each image, then all entries are removed.
+pub fn change_images(images: &[Vec<u32>], count: usize, random: &mut Random, label: &str) -> Tally {
+    let mut tally = Tally::default();
+    for (i, image) in images.iter().enumerate() {
+        let dirt = random.pick(&DIRTS);
+        let label = format!("{label}, image {i}, {dirt:?}");
+        let mut session = Session::of_image(image, dirt, label);
+        change(&mut session, count, random);
+        session.remove_all(random);
+        tally.add_all(&session.tally);
+    }
+    tally
+}
+
+/// Each entry of an image removed alone, and each cell of its entries' neighbours inserted alone.
+pub fn change_singly(image: &[u32], dirt: Dirt, label: &str) -> Tally {
+    let mut tally = Tally::default();
+    let session = || Session::of_image(image, dirt, label.to_string());
+    for entry in session().held() {
+        let mut one = session();
+        one.expect(Command::Remove(entry.cell), 0);
+        one.apply(Command::Insert(entry.cell, 3));
+        tally.add_all(&one.tally);
+        let [x, y] = entry.cell;
+        for beside in [[x ^ 1, y], [x, y ^ 1], [y, x]] {
+            let mut one = session();
+            one.apply(Command::Insert(beside, 4));
+            tally.add_all(&one.tally);
+        }
+    }
+    tally
+}
