@@ -30,10 +30,18 @@ module _ (r s : Rect) (a e : ℕ) (pa : a ≡ max (r .llx) (s .llx)) (pe : e ≡
   unfolding commonPart nonEmpty overlap
   common-none-x h = rw (← pa, ← pe) (simp (le-ltb _ _ h))
 
+  pub shares-none-x : e ≤ a → false ≡ sharesWith s r
+  unfolding sharesWith nonEmpty overlap
+  shares-none-x h = rw (← pa, ← pe) (simp (le-ltb _ _ h))
+
   module _ (b f : ℕ) (pb : b ≡ max (r .lly) (s .lly)) (pf : f ≡ min (r .ury) (s .ury)) (g : a < e) where
     pub common-none-y : f ≤ b → Nothing ≡ commonPart r s
     unfolding commonPart nonEmpty overlap
     common-none-y h = rw (← pa, ← pb, ← pe, ← pf) (simp (lt-ltb _ _ g, le-ltb _ _ h))
+
+    pub shares-y : (k : Bool) → k ≡ ltb b f → k ≡ sharesWith s r
+    unfolding sharesWith nonEmpty overlap
+    shares-y k h = rw (← pa, ← pb, ← pe, ← pf) (simp (lt-ltb _ _ g, h))
 
     pub common-part : b < f → Part (record { llx = a; lly = b; urx = e; ury = f }) ≡ commonPart r s
     unfolding commonPart nonEmpty overlap
@@ -56,14 +64,6 @@ module _ (r s : Rect) (k : Common) (p : k ≡ commonPart r s) where
   pub is-nothing : k ≡ Nothing → nonEmpty (overlap r s) ≡ false
   unfolding commonPart
   is-nothing e = nothing-case (nonEmpty (overlap r s)) (overlap r s) (sym e ∙ p)
-
-  pub shares-part : (u : Rect) → k ≡ Part u → true ≡ sharesWith s r
-  unfolding sharesWith
-  shares-part u e = sym (is-part u e .0)
-
-  pub shares-nothing : k ≡ Nothing → false ≡ sharesWith s r
-  unfolding sharesWith
-  shares-nothing e = sym (is-nothing e)
 
 -- the part of a rectangle on a side of a line, in each case
 module _ (r : Rect) (s : Side) (l : Line) (at k : ℕ) where

@@ -13,7 +13,7 @@ use crate::rect::Common;
 use crate::rect::Rect;
 
 // Writes the common part of r and s, if they have one, at the n-th place.
-pub fn put_common(list: &mut [u32], n: usize, r: Rect, s: Rect) -> usize
+fn put_common(list: &mut [u32], n: usize, r: Rect, s: Rect) -> usize
     requires { ⌜ 4 * n + 4 ≤ length (now list) ⌝ }
     ensures { λ m. ⌜ Appended (now (list .entry)) n (common r s) 1 (now (list .exit)) m ⌝ }
 {

@@ -104,7 +104,7 @@ pub fn cut_list(list: &[u32], n: usize, s: Rect, out: &mut [u32]) -> Count
 }
 
 // Whether one of the first n rectangles shares a cell with s.
-fn any_shares(list: &[u32], n: usize, s: Rect) -> bool
+pub fn any_shares(list: &[u32], n: usize, s: Rect) -> bool
     requires { ⌜ 4 * n ≤ length (now list) ⌝ }
     ensures { λ b. ⌜ b ≡ anyOf (sharesWith s) (rectsIn (now (list .entry)) n) ⌝ }
 {

@@ -8,8 +8,8 @@ mod rect;
 mod refine;
 
 pub use common::common_parts;
-pub use common::put_common;
 pub use cut::Count;
+pub use cut::any_shares;
 pub use cut::cut_list;
 pub use cut::cut_polygon;
 pub use numbers::all_valid;

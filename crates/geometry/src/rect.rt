@@ -130,14 +130,18 @@ impl Rect {
         Common::Part(Rect { llx, lly, urx, ury })
     }
 
-    // Whether the two share a cell.
+    // Whether the two share a cell. All four sides are read before the first test, so that no jump depends on them.
     pub fn shares(self, other: Rect) -> bool
         ensures { λ r. ⌜ r ≡ sharesWith other self ⌝ }
     {
-        if let Common::Part(_) = self.common(other) {
-            return true;
+        let llx = most(self.llx, other.llx);
+        let urx = least(self.urx, other.urx);
+        let lly = most(self.lly, other.lly);
+        let ury = least(self.ury, other.ury);
+        if urx <= llx {
+            return false;
         }
-        false
+        lly < ury
     }
 
     // Whether this one is contained in the other.

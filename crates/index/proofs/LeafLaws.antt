@@ -111,27 +111,41 @@ module _ (p : List ℕ) (i : ℕ) (w : Bool) (v : Holding p i w) where
       passing = passing-on (itemTest fanout 0 (polygonIn p)) (entriesIn p (itemCount p)) i w (v .passing) (entryIn p i) (entries-next p (itemCount p) i h) (hold-is ∙ g);
     }
 
--- whether the entries from the j-th on have other cells than the i-th
+-- whether the entries from the j-th on have other cells than the i-th; j may have passed the last one
 pub record Unlike (p : List ℕ) (n i j : ℕ) (w : Bool) : Type 0 where
-  pub j-le : j ≤ n
-  pub fits : 66 + 3 * n ≤ length p
+  pub j-le : j ≤ 8
+  pub few : n ≤ 8
+  pub fits : length p ≡ 128
   pub passing : Passing (apartTest fanout 0 (entryIn p i)) (entriesIn p n) j w
 
-pub unlike-start : (p : List ℕ) (n i : ℕ) → i < n → 66 + 3 * n ≤ length p
+pub unlike-start : (p : List ℕ) (n i : ℕ) → i < n → n ≤ 8 → length p ≡ 128
     → Unlike p n i (i + 1) (allPass (apartTest fanout 0 (entryIn p i)) (drop (i + 1) (entriesIn p n)))
-unlike-start p n i h k = record { j-le = omega arith; fits = k; passing = record { rest = refl } }
+unlike-start p n i h k l = record { j-le = omega arith; few = k; fits = l; passing = record { rest = refl } }
 
 module _ (p : List ℕ) (n i j : ℕ) (w : Bool) (v : Unlike p n i j w) where
-  pub unlike-end : n ≤ j → true ≡ w
-  unlike-end h = passing-end (apartTest fanout 0 (entryIn p i)) (entriesIn p n) j w (v .passing) (entries-end p n j h)
+  pub unlike-end : 8 ≤ j → true ≡ w
+  unlike-end h = let k = v .few in passing-end (apartTest fanout 0 (entryIn p i)) (entriesIn p n) j w (v .passing) (entries-end p n j (omega arith))
 
-  module _ (h : j < n) where
-    unlike-on : apartTest fanout 0 (entryIn p i) (entryIn p j) ≡ true → Unlike p n i (j + 1) w
-    unlike-on g = record {
+  module _ (g : j < 8) where
+    pub unlike-past : n ≤ j → Unlike p n i (j + 1) w
+    unlike-past h = record {
       j-le = omega arith;
+      few = v .few;
       fits = v .fits;
-      passing = passing-on (apartTest fanout 0 (entryIn p i)) (entriesIn p n) j w (v .passing) (entryIn p j) (entries-next p n j h) g;
+      passing = record { rest = v .passing .rest ∙ ap (allPass (apartTest fanout 0 (entryIn p i))) (entries-end p n j h ∙ sym (entries-end p n (j + 1) (omega arith))) };
     }
+
+    unlike-on : apartTest fanout 0 (entryIn p i) (entryIn p j) ≡ true → Unlike p n i (j + 1) w
+    unlike-on f = go (decLt j n)
+      where
+        go : Dec (j < n) → Unlike p n i (j + 1) w
+        go (no h) = unlike-past (omega arith)
+        go (yes h) = record {
+          j-le = omega arith;
+          few = v .few;
+          fits = v .fits;
+          passing = passing-on (apartTest fanout 0 (entryIn p i)) (entriesIn p n) j w (v .passing) (entryIn p j) (entries-next p n j h) f;
+        }
 
     pub unlike-x : (getD p (66 + 3 * j) 0 ≡ getD p (66 + 3 * i) 0 → ⊥) → Unlike p n i (j + 1) w
     unfolding apartTest entryIn
@@ -143,9 +157,9 @@ module _ (p : List ℕ) (n i j : ℕ) (w : Bool) (v : Unlike p n i j w) where
       unlike-y f =
           unlike-on (rw (eq-eqb (getD p (66 + 3 * i) 0) (getD p (66 + 3 * j) 0) (sym x), ne-eqb (getD p (66 + 3 * i + 1) 0) (getD p (66 + 3 * j + 1) 0) (λ e. f (sym e))))
 
-      pub unlike-stop : getD p (66 + 3 * j + 1) 0 ≡ getD p (66 + 3 * i + 1) 0 → false ≡ w
+      pub unlike-stop : j < n → getD p (66 + 3 * j + 1) 0 ≡ getD p (66 + 3 * i + 1) 0 → false ≡ w
       unfolding apartTest entryIn
-      unlike-stop f =
+      unlike-stop h f =
           passing-stop (apartTest fanout 0 (entryIn p i)) (entriesIn p n) j w (v .passing) (entryIn p j) (entries-next p n j h)
           (rw (eq-eqb (getD p (66 + 3 * i) 0) (getD p (66 + 3 * j) 0) (sym x), eq-eqb (getD p (66 + 3 * i + 1) 0) (getD p (66 + 3 * j + 1) 0) (sym f)))
 
@@ -161,6 +175,9 @@ differ-start p h = record { i-le = omega arith; fits = h; pairing = pairing-star
 module _ (p : List ℕ) (i : ℕ) (w : Bool) (v : Differing p i w) where
   pub differ-end : itemCount p ≤ i → true ≡ w
   differ-end h = pairing-end (apartTest fanout 0) (entriesIn p (itemCount p)) i w (v .pairing) (entries-end p (itemCount p) i h)
+
+  pub differ-all : 8 ≤ i → true ≡ w
+  differ-all h = let k = v .fits .few-items in differ-end (omega arith)
 
   module _ (h : i < itemCount p) (b : Bool) (f : b ≡ allPass (apartTest fanout 0 (entryIn p i)) (drop (i + 1) (entriesIn p (itemCount p)))) where
     pub differ-stop : b ≡ false → false ≡ w

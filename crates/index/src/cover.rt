@@ -2,13 +2,13 @@
 ghost use mathlib.Core.Path.{_≡_};
 ghost use Prim.Native.Nat.{_+_, _*_, _≤_};
 ghost use lib.ListN.{length, drop};
-ghost use Rattle.geometry.specs.Common.{unlessEmpty, sharesWith};
+ghost use Rattle.geometry.specs.Common.{unlessEmpty};
 ghost use Rattle.geometry.specs.Numbers.{rectsIn};
-ghost use Rattle.geometry.specs.Refine.{anyOf};
 ghost use Rattle.memory.specs.SoundTest.{allPass, coveredBy, insideOf, apart};
 ghost use Rattle.index.specs.Check.{Skipped};
 use geometry::Common;
 use geometry::Rect;
+use geometry::any_shares;
 use geometry::rect_at;
 
 // The first of n rectangles from the i-th on that shares a cell with r; n where none does. Those before it cut nothing.
@@ -95,22 +95,6 @@ pub fn inside(p: &[u32], n: usize, q: &[u32], k: usize) -> bool
         i += 1;
     }
     true
-}
-
-// Whether one of the first n rectangles shares a cell with s.
-pub fn any_shares(rects: &[u32], n: usize, s: Rect) -> bool
-    requires { ⌜ 4 * n ≤ length (now rects) ⌝ }
-    ensures { λ b. ⌜ b ≡ anyOf (sharesWith s) (rectsIn (now (rects .entry)) n) ⌝ }
-{
-    let mut i = 0;
-    while i < n {
-        let r = rect_at(rects, i);
-        if r.shares(s) {
-            return true;
-        }
-        i += 1;
-    }
-    false
 }
 
 // Whether the first n rectangles of p and the first k of q share no cell.

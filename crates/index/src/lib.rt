@@ -22,7 +22,6 @@ pub use bits::in_use;
 pub use clearing::clear;
 pub use clearing::fill_zeros;
 pub use count::entries_below;
-pub use cover::any_shares;
 pub use holding::is_held;
 pub use leaf::any_has;
 pub use opening::Opened;

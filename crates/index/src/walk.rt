@@ -4,10 +4,10 @@ ghost use Prim.Native.Nat.{_+_, _≤_};
 ghost use Rattle.memory.specs.Layout.{part, polygonIn};
 ghost use Rattle.index.specs.Check.{PolygonPart};
 ghost use Rattle.index.specs.Walks.{hasTest, meetsTest, joined};
-use crate::cover::any_shares;
 use crate::leaf::any_has;
 use geometry::Cell;
 use geometry::Rect;
+use geometry::any_shares;
 
 // What the walk of a point query found: whether an entry of the cell is held, its tag (0 where none is),
 // and the nodes visited.

@@ -4,7 +4,7 @@ use borrow.Author.Tests.{not-true, not-false}
 use Rattle.memory.specs.Layout.{itemCount, entriesIn}
 use Rattle.memory.specs.SoundTest.{pairsPass, apartTest}
 use Rattle.index.specs.Answers.{fanout}
-use Rattle.index.proofs.LeafLaws.{Differing, differ-start, differ-stop, differ-on, differ-end}
+use Rattle.index.proofs.LeafLaws.{Differing, differ-start, differ-stop, differ-on, differ-end, differ-all}
 use Rattle.index.proofs.leaf.entries_apart.Statement.{statement}
 use Rattle.index.proofs.leaf.entries_apart.Tie as tie
 
@@ -12,7 +12,7 @@ abbrev Inv-loop : tie.InvT-loop
 Inv-loop p count i₀ i = Differing p i (pairsPass (apartTest fanout 0) (entriesIn p (itemCount p)))
 
 abbrev μ-loop : tie.MeasureT-loop
-μ-loop p count i₀ i = itemCount p - i
+μ-loop p count i₀ i = 8 - i
 
 shared-slice-read-count : tie.Need-shared-slice-read-count Inv-loop μ-loop
 shared-slice-read-count c = search needs
@@ -23,11 +23,14 @@ cast-count c = search needs
 loop-holds : tie.Need-loop-holds Inv-loop μ-loop
 loop-holds c = search differ-start
 
+returns : tie.Need-returns Inv-loop μ-loop
+returns c = search differ-end
+
 none-like-requires : tie.Need-none-like-requires Inv-loop μ-loop
 none-like-requires c κs = search needs
 
-returns : tie.Need-returns Inv-loop μ-loop
-returns c = search (differ-stop, not-true)
+returns-2 : tie.Need-returns-2 Inv-loop μ-loop
+returns-2 c = search (differ-stop, not-true)
 
 add-i : tie.Need-add-i Inv-loop μ-loop
 add-i c = search needs
@@ -38,8 +41,8 @@ loop-less c = search needs
 loop-again : tie.Need-loop-again Inv-loop μ-loop
 loop-again c = search (differ-on, not-false)
 
-returns-2 : tie.Need-returns-2 Inv-loop μ-loop
-returns-2 c = search differ-end
+returns-3 : tie.Need-returns-3 Inv-loop μ-loop
+returns-3 c = search differ-all
 
 pub entries-apart-spec : {M : Type 1} → statement M
 entries-apart-spec =
@@ -50,9 +53,10 @@ entries-apart-spec =
     shared-slice-read-count
     cast-count
     loop-holds
-    none-like-requires
     returns
+    none-like-requires
+    returns-2
     add-i
     loop-less
     loop-again
-    returns-2)
+    returns-3)

@@ -5,7 +5,7 @@ use mathlib.Core.Logic.{⊎-elim}
 use Rattle.memory.specs.Layout.{entryIn, entriesIn}
 use Rattle.memory.specs.SoundTest.{allPass, apartTest}
 use Rattle.index.specs.Answers.{fanout}
-use Rattle.index.proofs.LeafLaws.{Unlike, unlike-start, unlike-x, unlike-y, unlike-stop, unlike-end}
+use Rattle.index.proofs.LeafLaws.{Unlike, unlike-start, unlike-x, unlike-y, unlike-past, unlike-stop, unlike-end}
 use Rattle.index.proofs.leaf.none_like.Statement.{statement}
 use Rattle.index.proofs.leaf.none_like.Tie as tie
 
@@ -13,7 +13,7 @@ abbrev Inv-loop : tie.InvT-loop
 Inv-loop p n i at x y j₀ j = Unlike p n i j (allPass (apartTest fanout 0 (entryIn p i)) (drop (i + 1) (entriesIn p n)))
 
 abbrev μ-loop : tie.MeasureT-loop
-μ-loop p n i at x y j₀ j = n - j
+μ-loop p n i at x y j₀ j = 8 - j
 
 mul-at : tie.Need-mul-at Inv-loop μ-loop
 mul-at c = search needs
@@ -73,7 +73,8 @@ loop-less : tie.Need-loop-less Inv-loop μ-loop
 loop-less c = search needs
 
 loop-again : tie.Need-loop-again Inv-loop μ-loop
-loop-again c = ⊎-elim (λ w. search (unlike-x, unlike-y)) (λ w. search (unlike-x, unlike-y)) (c .if1 .came)
+loop-again c =
+    ⊎-elim (λ w. search unlike-past) (λ v. ⊎-elim (λ w. search unlike-y) (λ w. search unlike-x) v) (c .if1 .came)
 
 returns-2 : tie.Need-returns-2 Inv-loop μ-loop
 returns-2 c = search unlike-end

@@ -1,22 +1,25 @@
 use borrow.Author.Needs.{needs}
-use Rattle.geometry.proofs.RectWays.{shares-part, shares-nothing}
+use Rattle.geometry.proofs.RectWays.{shares-none-x, shares-y}
 use Rattle.geometry.proofs.rect.Rect.shares.Statement.{statement}
 use Rattle.geometry.proofs.rect.Rect.shares.Tie as tie
 
-common-requires : tie.Need-common-requires
-common-requires c κs = search needs
+most-requires : tie.Need-most-requires
+most-requires c κs = search needs
 
-enum-told : tie.Need-enum-told
-enum-told c = search needs
+least-requires : tie.Need-least-requires
+least-requires c κs = search needs
+
+most-requires-2 : tie.Need-most-requires-2
+most-requires-2 c κs = search needs
+
+least-requires-2 : tie.Need-least-requires-2
+least-requires-2 c κs = search needs
 
 returns : tie.Need-returns
-returns c = search shares-part
-
-enum-told-2 : tie.Need-enum-told-2
-enum-told-2 c = search needs
+returns c = search shares-none-x
 
 returns-2 : tie.Need-returns-2
-returns-2 c = search shares-nothing
+returns-2 c = search shares-y
 
 pub shares-spec : {M : Type 1} → statement M
-shares-spec = tie.close (tie.spec common-requires enum-told returns enum-told-2 returns-2)
+shares-spec = tie.close (tie.spec most-requires least-requires most-requires-2 least-requires-2 returns returns-2)
