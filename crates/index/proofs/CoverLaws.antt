@@ -1,22 +1,25 @@
 -- Lists of rectangles against each other: what the code's cuts and scans say of the tests.
 use mathlib.Core.Path.{_≡_, refl, sym, ap, _∙_}
-use mathlib.Core.Bool.{Bool, true, false, _&&_, not, and-true, and-assoc}
+use mathlib.Core.Bool.{Bool, true, false, _&&_, not, cond, and-true, and-assoc, false≢true}
 use mathlib.Core.List.{List, [], _∷_, _++_}
+use mathlib.Core.Logic.{⊎-elim}
 use Prim.Native.Nat.{ℕ, _+_, _<_, _≤_}
 use native.Mathlib.Nat.{le-refl}
 use native.Mathlib.Omega.{arith}
-use borrow.Author.Tests.{lt-ltb, le-ltb}
+use borrow.Author.Tests.{lt-ltb, le-ltb, not-true}
 use lib.ListN.{drop}
+use Rattle.geometry.specs.declared.rect.Cell.{Cell}
 use Rattle.geometry.specs.declared.rect.Rect.{Rect}
 use Rattle.geometry.specs.declared.rect.Common.{Common}
 use Rattle.geometry.specs.declared.rect.Common.the-variants.{Part, Nothing}
-use Rattle.geometry.specs.Cells.{nonEmpty}
+use Rattle.geometry.specs.Cells.{nonEmpty, hasCell, anyHas}
 use Rattle.geometry.specs.Common.{overlap, unlessEmpty, commonPart, sharesWith}
 use Rattle.geometry.specs.Cut.{cut, xCeiling, xFloor, yCeiling, yFloor}
 use Rattle.geometry.specs.Numbers.{rectAt, rectsIn}
-use Rattle.geometry.specs.Refine.{anyOf}
-use Rattle.geometry.proofs.Booleans.{is-false, not-both}
-use Rattle.geometry.proofs.CellLaws.{some-of, of-some}
+use Rattle.geometry.specs.Refine.{anyOf, within}
+use Rattle.geometry.proofs.Booleans.{is-false, not-both, either, or-left, or-right, both, split-and}
+use Rattle.geometry.proofs.CellLaws.{some-of, of-some, corner, corner-in, within-cells}
+use Rattle.geometry.proofs.CutLaws.{cut-cells}
 use Rattle.geometry.proofs.NumberLaws.{rects-next, rects-end}
 use Rattle.geometry.proofs.RectWays.{is-part, is-nothing}
 use Rattle.memory.specs.SoundTest.{allPass, coveredBy, insideOf, apart}
@@ -42,6 +45,49 @@ module _ (f : Rect → Bool) (r : Rect) where
   left-some : r .llx < r .urx → r .lly < r .ury → allPass f (unlessEmpty r) ≡ f r
   unfolding unlessEmpty nonEmpty allPass
   left-some h k = rw (lt-ltb (r .llx) (r .urx) h, lt-ltb (r .lly) (r .ury) k) (and-true (f r))
+
+-- the pieces of a cut are not empty
+some-unless-empty : (r : Rect) → allPass nonEmpty (unlessEmpty r) ≡ true
+unfolding unlessEmpty allPass
+some-unless-empty r = go (nonEmpty r) refl
+  where
+    go : (b : Bool) → nonEmpty r ≡ b → allPass nonEmpty (cond b (r ∷ []) []) ≡ true
+    go true e = rw e
+    go false e = refl
+
+cut-some : (r s : Rect) → nonEmpty r ≡ true → allPass nonEmpty (cut r s) ≡ true
+unfolding cut allPass
+cut-some r s e = go (nonEmpty (overlap r s))
+  where
+    go : (b : Bool) → allPass nonEmpty (cond b (unlessEmpty (xCeiling r s) ++ unlessEmpty (xFloor r s) ++ unlessEmpty (yCeiling r s) ++ unlessEmpty (yFloor r s)) (r ∷ [])) ≡ true
+    go true = simp (pass-append, some-unless-empty)
+    go false = rw e
+
+-- a rectangle that is not empty and whose cells are cells of the polygon is covered, also where it leaves the grid
+covered-each : (p l : List Rect) → ((r : Rect) → nonEmpty r ≡ true → ((c : Cell) → hasCell r c ≡ true → anyHas p c ≡ true) → coveredBy p r ≡ true)
+    → allPass nonEmpty l ≡ true → ((c : Cell) → anyHas l c ≡ true → anyHas p c ≡ true) → allPass (coveredBy p) l ≡ true
+unfolding allPass anyHas
+covered-each p [] f e h = refl
+covered-each p (r ∷ l) f e h =
+    let k = split-and (nonEmpty r) (allPass nonEmpty l) e in
+    both _ _ (f r (k .0) (λ c t. h c (or-left _ _ t))) (covered-each p l f (k .1) (λ c t. h c (or-right (hasCell r c) _ t)))
+
+some-covered : (p : List Rect) (r : Rect) → nonEmpty r ≡ true → ((c : Cell) → hasCell r c ≡ true → anyHas p c ≡ true) → coveredBy p r ≡ true
+unfolding anyHas
+some-covered [] r e h = absurd (false≢true (h (corner r) (corner-in r e)))
+some-covered (s ∷ p) r e h =
+    covered-cons s p r ∙ covered-each p (cut r s) (some-covered p) (cut-some r s e) λ c t.
+    let k = split-and (hasCell r c) (not (hasCell s c)) (sym (cut-cells r s c) ∙ t) in
+    rw (not-true (hasCell s c) (k .1)) at (h c (k .0))
+
+any-within-cells : (p : List Rect) (r : Rect) → anyOf (within r) p ≡ true → (c : Cell) → hasCell r c ≡ true → anyHas p c ≡ true
+unfolding anyOf anyHas
+any-within-cells [] r e c h = absurd (false≢true e)
+any-within-cells (s ∷ p) r e c h = ⊎-elim (λ t. or-left _ _ (within-cells r s c t h)) (λ t. or-right (hasCell s c) _ (any-within-cells p r t c h)) (either _ _ e)
+
+-- a rectangle that is not empty is covered by a polygon with a rectangle that contains it
+pub covered-within : (p : List Rect) (r : Rect) (b : Bool) → r .llx < r .urx → r .lly < r .ury → b ≡ anyOf (within r) p → b ≡ true → true ≡ coveredBy p r
+covered-within p r b x y e f = sym (some-covered p r (of-some r (record { wide = x; high = y })) (any-within-cells p r (sym e ∙ f)))
 
 -- rectangles that share no cell with r are passed over
 module _ (m : List ℕ) (n : ℕ) (r : Rect) (i : ℕ) where

@@ -1,4 +1,4 @@
-use Rattle.index.proofs.CoverLaws.{covered-flat, covered-low, covered-whole}
+use Rattle.index.proofs.CoverLaws.{covered-flat, covered-low, covered-within, covered-whole}
 use borrow.Author.Needs.{needs}
 use Rattle.index.proofs.cover.covered.Statement.{statement}
 use Rattle.index.proofs.cover.covered.Tie as tie
@@ -9,11 +9,17 @@ returns c = search covered-flat
 returns-2 : tie.Need-returns-2
 returns-2 c = search covered-low
 
+any-contains-requires : tie.Need-any-contains-requires
+any-contains-requires c κs = search needs
+
+returns-3 : tie.Need-returns-3
+returns-3 c = search covered-within
+
 none-left-requires : tie.Need-none-left-requires
 none-left-requires c κs = search needs
 
-returns-3 : tie.Need-returns-3
-returns-3 c = search covered-whole
+returns-4 : tie.Need-returns-4
+returns-4 c = search covered-whole
 
 pub covered-spec : {M : Type 1} → statement M
-covered-spec = tie.close (tie.spec returns returns-2 none-left-requires returns-3)
+covered-spec = tie.close (tie.spec returns returns-2 any-contains-requires returns-3 none-left-requires returns-4)
