@@ -1,7 +1,7 @@
 -- A node's part: the tests of its counts and of its unused numbers, as the code takes them.
 use mathlib.Core.Path.{_≡_, refl, sym, ap, _∙_}
-use mathlib.Core.Bool.{Bool, true, false, _&&_, and-true, and-assoc}
-use mathlib.Core.List.{List, []}
+use mathlib.Core.Bool.{Bool, true, false, _&&_, and-true, and-false, and-assoc}
+use mathlib.Core.List.{List, [], _∷_, _++_}
 use Prim.Native.Nat.{ℕ, suc, _+_, _*_, _-_, _<_, _≤_}
 use native.Mathlib.Omega.{arith}
 use native.Mathlib.Nat.{mul-le-mul}
@@ -9,8 +9,8 @@ use native.Mathlib.Numerals.{add-one}
 use borrow.Author.Tests.{le-leb, lt-leb, lt-ltb, le-ltb, leb-true, eqb-true, eq-eqb}
 use lib.Bits.{bitOr, or-add-and, and-le-l, and-le-r, or-zero-l}
 use lib.Dec.{leb, eqb}
-use lib.ListN.{length, getD, take, drop, drop-of-length-le, length-drop}
-use lib.Seq.{drop-cons, take-all}
+use lib.ListN.{length, getD, take, drop, drop-of-length-le, length-drop, take-append-drop}
+use lib.Seq.{drop-cons, drop-drop, take-all}
 use Rattle.geometry.proofs.Booleans.{same, both, split-and, all4}
 use Rattle.memory.specs.Layout.{partsOf, part, inUse, allZero, rectCount, itemCount, countsFit, restZero, nodeFits}
 use Rattle.memory.proofs.ReadingLaws.{part-length}
@@ -73,24 +73,51 @@ module _ (p : List ℕ) where
 pub few-numbers : (w n : ℕ) → w ≤ 3 → n ≤ 8 → w * n ≤ 24
 few-numbers w n a b = mul-le-mul a b
 
--- the unused numbers: those behind the rectangles were tested, and then those behind the items
-module _ (w : ℕ) (p : List ℕ) (v : NodePart p) (h : w ≤ 3) (a : Bool)
-    (e : a ≡ allZero (take (66 - (2 + 4 * getD p 0 0)) (drop (2 + 4 * getD p 0 0) p))) where
-  between : take (66 - (2 + 4 * getD p 0 0)) (drop (2 + 4 * getD p 0 0) p) ≡ take (64 - 4 * rectCount p) (drop (2 + 4 * rectCount p) p)
-  between =
+-- the numbers behind the rectangles
+module _ (p : List ℕ) (b : Bool) where
+  pub behind-one : getD p 0 0 ≡ 1 → b ≡ allZero (take (66 - 6) (drop 6 p)) → b ≡ allZero (take (64 - 4 * rectCount p) (drop (2 + 4 * rectCount p) p))
+  behind-one h e = rw h e
+
+  pub behind-more : b ≡ allZero (take (66 - (2 + 4 * getD p 0 0)) (drop (2 + 4 * getD p 0 0) p)) → b ≡ allZero (take (64 - 4 * rectCount p) (drop (2 + 4 * rectCount p) p))
+  behind-more e =
       let q : 66 - (2 + 4 * getD p 0 0) ≡ 64 - 4 * rectCount p = omega arith in
-      ap (λ (n : ℕ). take n (drop (2 + 4 * getD p 0 0) p)) q
+      e ∙ ap (λ (n : ℕ). allZero (take n (drop (2 + 4 * getD p 0 0) p))) q
 
-  pub rest-stop : a ≡ false → false ≡ restZero w p
-  unfolding restZero
-  rest-stop f = rw (sym (ap allZero between), ← e, f)
+zero-append : (l k : List ℕ) → allZero (l ++ k) ≡ allZero l && allZero k
+unfolding allZero
+zero-append [] k = refl
+zero-append (a ∷ l) k = ap (λ b. eqb a 0 && b) (zero-append l k) ∙ sym (and-assoc (eqb a 0) (allZero l) (allZero k))
 
-  pub rest-last : (b : Bool) → a ≡ true → b ≡ allZero (take (length p - (66 + w * getD p 1 0)) (drop (66 + w * getD p 1 0) p)) → b ≡ restZero w p
+-- the numbers from i on are zero exactly if those before the j-th and those from it on are
+zero-split : (p : List ℕ) (i j : ℕ) → i ≤ j → allZero (drop i p) ≡ allZero (take (j - i) (drop i p)) && allZero (drop j p)
+zero-split p i j h =
+    let e : i + (j - i) ≡ j = omega arith in
+    ap allZero (sym (take-append-drop (j - i) (drop i p))) ∙ zero-append (take (j - i) (drop i p)) (drop (j - i) (drop i p))
+    ∙ ap (λ q. allZero (take (j - i) (drop i p)) && allZero q) (drop-drop (j - i) i p ∙ ap (λ (n : ℕ). drop n p) e)
+
+-- the unused numbers: those from 90 on were tested, then those behind the rectangles, and then those behind the items
+module _ (w : ℕ) (p : List ℕ) (v : NodePart p) (h : w ≤ 3) (z : Bool) (y : z ≡ allZero (take (length p - 90) (drop 90 p))) where
+  last : z ≡ allZero (drop 90 p)
+  last =
+      let l = length-drop 90 p in
+      let k : length (drop 90 p) ≤ length p - 90 = omega arith in
+      y ∙ ap allZero (take-all (length p - 90) (drop 90 p) k)
+
+  items : restZero w p ≡ allZero (take (64 - 4 * rectCount p) (drop (2 + 4 * rectCount p) p)) && (allZero (take (90 - (66 + w * getD p 1 0)) (drop (66 + w * getD p 1 0) p)) && z)
   unfolding restZero
-  rest-last b f g =
-      let l = length-drop (66 + w * getD p 1 0) p in
-      let k : length (drop (66 + w * getD p 1 0) p) ≤ length p - (66 + w * getD p 1 0) = omega arith in
-      rw (sym (ap allZero between), ← e, f) (g ∙ ap allZero (take-all (length p - (66 + w * getD p 1 0)) (drop (66 + w * getD p 1 0) p) k))
+  items =
+      let m = few-numbers w (itemCount p) h (v .few-items) in
+      rw (zero-split p (66 + w * getD p 1 0) 90 (omega arith), ← last)
+
+  pub rest-stop-1 : z ≡ false → false ≡ restZero w p
+  rest-stop-1 f = rw (items, f) (simp and-false)
+
+  module _ (a : Bool) (e : a ≡ allZero (take (64 - 4 * rectCount p) (drop (2 + 4 * rectCount p) p))) where
+    pub rest-stop-2 : a ≡ false → false ≡ restZero w p
+    rest-stop-2 f = rw (items, ← e, f)
+
+    pub rest-last : (b : Bool) → z ≡ true → a ≡ true → b ≡ allZero (take (90 - (66 + w * getD p 1 0)) (drop (66 + w * getD p 1 0) p)) → b ≡ restZero w p
+    rest-last b f g k = rw (items, ← e, ← k, f, g) (sym (and-true b))
 
 -- part k as it is lent
 pub lent-part : (m : List ℕ) (k : ℕ) → take (64 + 128 * k + 128 - (64 + 128 * k)) (drop (64 + 128 * k) m) ≡ part m k

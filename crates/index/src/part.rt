@@ -1,8 +1,8 @@
 // A node's part: its counts and its unused numbers.
 ghost use mathlib.Core.Path.{_≡_};
-ghost use Prim.Native.Nat.{_≤_};
-ghost use lib.ListN.{length};
-ghost use Rattle.memory.specs.Layout.{allZero, countsFit, restZero, nodeFits};
+ghost use Prim.Native.Nat.{_+_, _-_, _*_, _≤_};
+ghost use lib.ListN.{length, take, drop};
+ghost use Rattle.memory.specs.Layout.{allZero, rectCount, countsFit, restZero, nodeFits};
 ghost use Rattle.memory.proofs.ReadingLaws.{RightLength};
 ghost use Rattle.index.specs.Answers.{fanout};
 ghost use Rattle.index.specs.Check.{NodePart};
@@ -40,17 +40,32 @@ fn counts_fit(p: &[u32]) -> bool
     items <= 8
 }
 
+// Whether the numbers behind the rectangles are zero. Nearly all polygons have one rectangle: there the length is constant.
+fn zero_behind_rects(p: &[u32]) -> bool
+    requires { ⌜ NodePart (now p) ⌝ }
+    ensures { λ b. ⌜ b ≡ allZero (take (64 - 4 * rectCount (now (p .entry))) (drop (2 + 4 * rectCount (now (p .entry))) (now (p .entry)))) ⌝ }
+{
+    let n = p[0] as usize;
+    if n == 1 {
+        return all_zero(&p[6..66]);
+    }
+    let a = 2 + 4 * n;
+    all_zero(&p[a..66])
+}
+
 // Whether the numbers behind the rectangles and behind the items, of w numbers each, are zero.
 fn rest_zero(p: &[u32], w: usize) -> bool
     requires { ⌜ NodePart (now p) × (w ≤ 3) ⌝ }
     ensures { λ b. ⌜ b ≡ restZero w (now (p .entry)) ⌝ }
 {
-    let n = p[0] as usize;
-    let a = 2 + 4 * n;
-    if all_zero(&p[a..66]) {
+    // no items reach beyond 90: a constant length
+    if !all_zero(&p[90..]) {
+        return false;
+    }
+    if zero_behind_rects(p) {
         let count = p[1] as usize;
         let b = 66 + w * count;
-        return all_zero(&p[b..]);
+        return all_zero(&p[b..90]);
     }
     false
 }
