@@ -111,6 +111,13 @@ module _ (m : List ℕ) (n i₀ i : ℕ) (r : Rect) (x : r .llx < r .urx) (y : r
   pub left-end : n ≤ i → false ≡ allPass (coveredBy (drop i₀ (rectsIn m n))) (unlessEmpty r)
   left-end h = sym (left-some _ r x y ∙ v .same ∙ ap (λ p. coveredBy p r) (rects-end m n i h) ∙ covered-none r)
 
+  pub left-within : (s : Rect) (b : Bool) → i < n → s ≡ rectAt m i → b ≡ within r s → b ≡ true → true ≡ allPass (coveredBy (drop i₀ (rectsIn m n))) (unlessEmpty r)
+  unfolding anyOf
+  left-within s b h e g f =
+      let l = drop (i + 1) (rectsIn m n) in
+      covered-within (s ∷ l) r true x y (sym (or-left (within r s) (anyOf (within r) l) (sym g ∙ f))) refl
+      ∙ sym (left-some _ r x y ∙ v .same ∙ ap (λ p. coveredBy p r) (rects-next m n i h ∙ ap (λ q. q ∷ l) (sym e)))
+
   module _ (s : Rect) (k : Common) (h : i < n) (e : s ≡ rectAt m i) (g : k ≡ commonPart r s) where
     left-cut : allPass (coveredBy (drop i₀ (rectsIn m n))) (unlessEmpty r) ≡ allPass (coveredBy (drop (i + 1) (rectsIn m n))) (cut r s)
     left-cut =

@@ -44,6 +44,9 @@ fn none_left(rects: &[u32], n: usize, i: usize, r: Rect) -> bool
         return false;
     }
     let s = rect_at(rects, j);
+    if r.is_within(s) {
+        return true;
+    }
     let Common::Part(u) = r.common(s) else {
         return none_left(rects, n, j + 1, r);
     };

@@ -2,7 +2,7 @@ use Prim.Native.Nat.{ℕ, _<_, _-_}
 use borrow.Author.Needs.{needs}
 use native.Mathlib.Omega.{arith}
 use borrow.Author.Tests.{not-true, not-false}
-use Rattle.index.proofs.CoverLaws.{left-flat, left-low, left-end, left-apart, left-stop-1, left-stop-2, left-stop-3, left-last}
+use Rattle.index.proofs.CoverLaws.{left-flat, left-low, left-end, left-within, left-apart, left-stop-1, left-stop-2, left-stop-3, left-last}
 use borrow.Fn.Kinds.{In}
 use borrow.Fn.PlainCycle.{Measures, is, falls, and}
 use Rattle.index.proofs.cover.none_left.Reads as none-left
@@ -10,6 +10,7 @@ use Rattle.index.proofs.cover.none_left.Kinds as none-left-kinds
 use Rattle.index.proofs.cover.+none_left.Lts-none_left as none-left-lts
 use Rattle.geometry.proofs.rect_at.Reads as rect-at-reads
 use Rattle.geometry.proofs.rect.Rect.common.Reads as common-reads
+use Rattle.geometry.proofs.rect.Rect.is_within.Reads as is-within-reads
 use Rattle.index.proofs.cover.first_shared.Reads as first-shared-reads
 use Rattle.index.proofs.cover.+none_left.{statement}
 use Rattle.index.proofs.cover.+none_left.Tie.{close}
@@ -29,6 +30,8 @@ none-left-returns : (t : ℕ) → none-left-lts.Need-returns (
   first-shared-reads.Learnt,
   rect-at-reads.Asked,
   rect-at-reads.Learnt,
+  is-within-reads.Asked,
+  is-within-reads.Learnt,
   common-reads.Asked,
   common-reads.Learnt,
   none-left-below t,
@@ -41,6 +44,8 @@ none-left-returns-2 : (t : ℕ) → none-left-lts.Need-returns-2 (
   first-shared-reads.Learnt,
   rect-at-reads.Asked,
   rect-at-reads.Learnt,
+  is-within-reads.Asked,
+  is-within-reads.Learnt,
   common-reads.Asked,
   common-reads.Learnt,
   none-left-below t,
@@ -53,6 +58,8 @@ none-left-first-shared-requires : (t : ℕ) → none-left-lts.Need-first-shared-
   first-shared-reads.Learnt,
   rect-at-reads.Asked,
   rect-at-reads.Learnt,
+  is-within-reads.Asked,
+  is-within-reads.Learnt,
   common-reads.Asked,
   common-reads.Learnt,
   none-left-below t,
@@ -65,6 +72,8 @@ none-left-returns-3 : (t : ℕ) → none-left-lts.Need-returns-3 (
   first-shared-reads.Learnt,
   rect-at-reads.Asked,
   rect-at-reads.Learnt,
+  is-within-reads.Asked,
+  is-within-reads.Learnt,
   common-reads.Asked,
   common-reads.Learnt,
   none-left-below t,
@@ -77,6 +86,8 @@ none-left-rect-at-requires : (t : ℕ) → none-left-lts.Need-rect-at-requires (
   first-shared-reads.Learnt,
   rect-at-reads.Asked,
   rect-at-reads.Learnt,
+  is-within-reads.Asked,
+  is-within-reads.Learnt,
   common-reads.Asked,
   common-reads.Learnt,
   none-left-below t,
@@ -84,11 +95,41 @@ none-left-rect-at-requires : (t : ℕ) → none-left-lts.Need-rect-at-requires (
 ) (none-left-at t) none-left.Post
 none-left-rect-at-requires t c κs = search needs
 
+none-left-is-within-requires : (t : ℕ) → none-left-lts.Need-is-within-requires (
+  first-shared-reads.Asked,
+  first-shared-reads.Learnt,
+  rect-at-reads.Asked,
+  rect-at-reads.Learnt,
+  is-within-reads.Asked,
+  is-within-reads.Learnt,
+  common-reads.Asked,
+  common-reads.Learnt,
+  none-left-below t,
+  none-left.Post,
+) (none-left-at t) none-left.Post
+none-left-is-within-requires t c κs = search needs
+
+none-left-returns-4 : (t : ℕ) → none-left-lts.Need-returns-4 (
+  first-shared-reads.Asked,
+  first-shared-reads.Learnt,
+  rect-at-reads.Asked,
+  rect-at-reads.Learnt,
+  is-within-reads.Asked,
+  is-within-reads.Learnt,
+  common-reads.Asked,
+  common-reads.Learnt,
+  none-left-below t,
+  none-left.Post,
+) (none-left-at t) none-left.Post
+none-left-returns-4 t c = search left-within
+
 none-left-common-requires : (t : ℕ) → none-left-lts.Need-common-requires (
   first-shared-reads.Asked,
   first-shared-reads.Learnt,
   rect-at-reads.Asked,
   rect-at-reads.Learnt,
+  is-within-reads.Asked,
+  is-within-reads.Learnt,
   common-reads.Asked,
   common-reads.Learnt,
   none-left-below t,
@@ -101,6 +142,8 @@ none-left-enum-known-u : (t : ℕ) → none-left-lts.Need-enum-known-u (
   first-shared-reads.Learnt,
   rect-at-reads.Asked,
   rect-at-reads.Learnt,
+  is-within-reads.Asked,
+  is-within-reads.Learnt,
   common-reads.Asked,
   common-reads.Learnt,
   none-left-below t,
@@ -113,6 +156,8 @@ none-left-enum-told : (t : ℕ) → none-left-lts.Need-enum-told (
   first-shared-reads.Learnt,
   rect-at-reads.Asked,
   rect-at-reads.Learnt,
+  is-within-reads.Asked,
+  is-within-reads.Learnt,
   common-reads.Asked,
   common-reads.Learnt,
   none-left-below t,
@@ -125,6 +170,8 @@ none-left-add-none-left : (t : ℕ) → none-left-lts.Need-add-none-left (
   first-shared-reads.Learnt,
   rect-at-reads.Asked,
   rect-at-reads.Learnt,
+  is-within-reads.Asked,
+  is-within-reads.Learnt,
   common-reads.Asked,
   common-reads.Learnt,
   none-left-below t,
@@ -137,6 +184,8 @@ none-left-none-left-requires : (t : ℕ) → none-left-lts.Need-none-left-requir
   first-shared-reads.Learnt,
   rect-at-reads.Asked,
   rect-at-reads.Learnt,
+  is-within-reads.Asked,
+  is-within-reads.Learnt,
   common-reads.Asked,
   common-reads.Learnt,
   none-left-below t,
@@ -144,23 +193,27 @@ none-left-none-left-requires : (t : ℕ) → none-left-lts.Need-none-left-requir
 ) (none-left-at t) none-left.Post
 none-left-none-left-requires t c κs = search needs
 
-none-left-returns-4 : (t : ℕ) → none-left-lts.Need-returns-4 (
+none-left-returns-5 : (t : ℕ) → none-left-lts.Need-returns-5 (
   first-shared-reads.Asked,
   first-shared-reads.Learnt,
   rect-at-reads.Asked,
   rect-at-reads.Learnt,
+  is-within-reads.Asked,
+  is-within-reads.Learnt,
   common-reads.Asked,
   common-reads.Learnt,
   none-left-below t,
   none-left.Post,
 ) (none-left-at t) none-left.Post
-none-left-returns-4 t c = search left-apart
+none-left-returns-5 t c = search left-apart
 
 none-left-add-none-left-2 : (t : ℕ) → none-left-lts.Need-add-none-left-2 (
   first-shared-reads.Asked,
   first-shared-reads.Learnt,
   rect-at-reads.Asked,
   rect-at-reads.Learnt,
+  is-within-reads.Asked,
+  is-within-reads.Learnt,
   common-reads.Asked,
   common-reads.Learnt,
   none-left-below t,
@@ -173,6 +226,8 @@ none-left-none-left-requires-2 : (t : ℕ) → none-left-lts.Need-none-left-requ
   first-shared-reads.Learnt,
   rect-at-reads.Asked,
   rect-at-reads.Learnt,
+  is-within-reads.Asked,
+  is-within-reads.Learnt,
   common-reads.Asked,
   common-reads.Learnt,
   none-left-below t,
@@ -180,23 +235,27 @@ none-left-none-left-requires-2 : (t : ℕ) → none-left-lts.Need-none-left-requ
 ) (none-left-at t) none-left.Post
 none-left-none-left-requires-2 t c κs = search needs
 
-none-left-returns-5 : (t : ℕ) → none-left-lts.Need-returns-5 (
+none-left-returns-6 : (t : ℕ) → none-left-lts.Need-returns-6 (
   first-shared-reads.Asked,
   first-shared-reads.Learnt,
   rect-at-reads.Asked,
   rect-at-reads.Learnt,
+  is-within-reads.Asked,
+  is-within-reads.Learnt,
   common-reads.Asked,
   common-reads.Learnt,
   none-left-below t,
   none-left.Post,
 ) (none-left-at t) none-left.Post
-none-left-returns-5 t c = search (left-stop-1, not-true)
+none-left-returns-6 t c = search (left-stop-1, not-true)
 
 none-left-add-none-left-3 : (t : ℕ) → none-left-lts.Need-add-none-left-3 (
   first-shared-reads.Asked,
   first-shared-reads.Learnt,
   rect-at-reads.Asked,
   rect-at-reads.Learnt,
+  is-within-reads.Asked,
+  is-within-reads.Learnt,
   common-reads.Asked,
   common-reads.Learnt,
   none-left-below t,
@@ -209,6 +268,8 @@ none-left-none-left-requires-3 : (t : ℕ) → none-left-lts.Need-none-left-requ
   first-shared-reads.Learnt,
   rect-at-reads.Asked,
   rect-at-reads.Learnt,
+  is-within-reads.Asked,
+  is-within-reads.Learnt,
   common-reads.Asked,
   common-reads.Learnt,
   none-left-below t,
@@ -216,82 +277,50 @@ none-left-none-left-requires-3 : (t : ℕ) → none-left-lts.Need-none-left-requ
 ) (none-left-at t) none-left.Post
 none-left-none-left-requires-3 t c κs = search needs
 
-none-left-returns-6 : (t : ℕ) → none-left-lts.Need-returns-6 (
+none-left-returns-7 : (t : ℕ) → none-left-lts.Need-returns-7 (
   first-shared-reads.Asked,
   first-shared-reads.Learnt,
   rect-at-reads.Asked,
   rect-at-reads.Learnt,
+  is-within-reads.Asked,
+  is-within-reads.Learnt,
   common-reads.Asked,
   common-reads.Learnt,
   none-left-below t,
   none-left.Post,
 ) (none-left-at t) none-left.Post
-none-left-returns-6 t c = search (left-stop-2, not-true, not-false)
+none-left-returns-7 t c = search (left-stop-2, not-true, not-false)
 
 none-left-add-none-left-4 : (t : ℕ) → none-left-lts.Need-add-none-left-4 (
   first-shared-reads.Asked,
   first-shared-reads.Learnt,
   rect-at-reads.Asked,
   rect-at-reads.Learnt,
+  is-within-reads.Asked,
+  is-within-reads.Learnt,
   common-reads.Asked,
   common-reads.Learnt,
   none-left-below t,
   none-left.Post,
 ) (none-left-at t) none-left.Post
-none-left-add-none-left-4 t c = search needs
+none-left-add-none-left-4 t c =
+    let f = c .before .before .before .before .before .before .before .before .before .before .before .before .before .before .before .before .before .before .fits in
+    let h = c .before .before .before .before .before .before .before .before .before .before .before .if3 .left in
+    search needs
 
 none-left-none-left-requires-4 : (t : ℕ) → none-left-lts.Need-none-left-requires-4 (
   first-shared-reads.Asked,
   first-shared-reads.Learnt,
   rect-at-reads.Asked,
   rect-at-reads.Learnt,
+  is-within-reads.Asked,
+  is-within-reads.Learnt,
   common-reads.Asked,
   common-reads.Learnt,
   none-left-below t,
   none-left.Post,
 ) (none-left-at t) none-left.Post
-none-left-none-left-requires-4 t c κs = search needs
-
-none-left-returns-7 : (t : ℕ) → none-left-lts.Need-returns-7 (
-  first-shared-reads.Asked,
-  first-shared-reads.Learnt,
-  rect-at-reads.Asked,
-  rect-at-reads.Learnt,
-  common-reads.Asked,
-  common-reads.Learnt,
-  none-left-below t,
-  none-left.Post,
-) (none-left-at t) none-left.Post
-none-left-returns-7 t c = search (left-stop-3, not-true, not-false)
-
-none-left-add-none-left-5 : (t : ℕ) → none-left-lts.Need-add-none-left-5 (
-  first-shared-reads.Asked,
-  first-shared-reads.Learnt,
-  rect-at-reads.Asked,
-  rect-at-reads.Learnt,
-  common-reads.Asked,
-  common-reads.Learnt,
-  none-left-below t,
-  none-left.Post,
-) (none-left-at t) none-left.Post
-none-left-add-none-left-5 t c =
-    let s = c .before .before .before .before .before .before .before .before .before .before .before .before .before .before .before .before .before .before in
-    let p = s .pre in
-    let f = s .fits in
-    let g = s .good in
-    search needs
-
-none-left-none-left-requires-5 : (t : ℕ) → none-left-lts.Need-none-left-requires-5 (
-  first-shared-reads.Asked,
-  first-shared-reads.Learnt,
-  rect-at-reads.Asked,
-  rect-at-reads.Learnt,
-  common-reads.Asked,
-  common-reads.Learnt,
-  none-left-below t,
-  none-left.Post,
-) (none-left-at t) none-left.Post
-none-left-none-left-requires-5 t c κs =
+none-left-none-left-requires-4 t c κs =
     let p = c .before .before .before .before .before .before .before .before .before .before .before .before .before .before .before .before .before .before .pre in
     let e = p .0 in
     let d = c .before .before .before .before .before .before .before .before .before .before .before .before .first-shared .ensures in
@@ -302,12 +331,63 @@ none-left-returns-8 : (t : ℕ) → none-left-lts.Need-returns-8 (
   first-shared-reads.Learnt,
   rect-at-reads.Asked,
   rect-at-reads.Learnt,
+  is-within-reads.Asked,
+  is-within-reads.Learnt,
   common-reads.Asked,
   common-reads.Learnt,
   none-left-below t,
   none-left.Post,
 ) (none-left-at t) none-left.Post
-none-left-returns-8 t c = search (left-last, not-false)
+none-left-returns-8 t c = search (left-stop-3, not-true, not-false)
+
+none-left-add-none-left-5 : (t : ℕ) → none-left-lts.Need-add-none-left-5 (
+  first-shared-reads.Asked,
+  first-shared-reads.Learnt,
+  rect-at-reads.Asked,
+  rect-at-reads.Learnt,
+  is-within-reads.Asked,
+  is-within-reads.Learnt,
+  common-reads.Asked,
+  common-reads.Learnt,
+  none-left-below t,
+  none-left.Post,
+) (none-left-at t) none-left.Post
+none-left-add-none-left-5 t c =
+    let f = c .before .before .before .before .before .before .before .before .before .before .before .before .before .before .before .before .before .before .before .before .fits in
+    let h = c .before .before .before .before .before .before .before .before .before .before .before .before .before .if3 .left in
+    search needs
+
+none-left-none-left-requires-5 : (t : ℕ) → none-left-lts.Need-none-left-requires-5 (
+  first-shared-reads.Asked,
+  first-shared-reads.Learnt,
+  rect-at-reads.Asked,
+  rect-at-reads.Learnt,
+  is-within-reads.Asked,
+  is-within-reads.Learnt,
+  common-reads.Asked,
+  common-reads.Learnt,
+  none-left-below t,
+  none-left.Post,
+) (none-left-at t) none-left.Post
+none-left-none-left-requires-5 t c κs =
+    let p = c .before .before .before .before .before .before .before .before .before .before .before .before .before .before .before .before .before .before .before .before .pre in
+    let e = p .0 in
+    let d = c .before .before .before .before .before .before .before .before .before .before .before .before .before .before .first-shared .ensures in
+    (omega arith, (omega arith, p .1 .1))
+
+none-left-returns-9 : (t : ℕ) → none-left-lts.Need-returns-9 (
+  first-shared-reads.Asked,
+  first-shared-reads.Learnt,
+  rect-at-reads.Asked,
+  rect-at-reads.Learnt,
+  is-within-reads.Asked,
+  is-within-reads.Learnt,
+  common-reads.Asked,
+  common-reads.Learnt,
+  none-left-below t,
+  none-left.Post,
+) (none-left-at t) none-left.Post
+none-left-returns-9 t c = search (left-last, not-false)
 
 pub +none-left-spec : {M : Type 1} → statement M
 +none-left-spec = close μ-none-left λ t. none-left-lts.spec (
@@ -315,6 +395,8 @@ pub +none-left-spec : {M : Type 1} → statement M
   first-shared-reads.Learnt,
   rect-at-reads.Asked,
   rect-at-reads.Learnt,
+  is-within-reads.Asked,
+  is-within-reads.Learnt,
   common-reads.Asked,
   common-reads.Learnt,
   none-left-below t,
@@ -327,21 +409,23 @@ pub +none-left-spec : {M : Type 1} → statement M
     (none-left-first-shared-requires t)
     (none-left-returns-3 t)
     (none-left-rect-at-requires t)
+    (none-left-is-within-requires t)
+    (none-left-returns-4 t)
     (none-left-common-requires t)
     (none-left-enum-known-u t)
     (none-left-enum-told t)
     (none-left-add-none-left t)
     (none-left-none-left-requires t)
-    (none-left-returns-4 t)
+    (none-left-returns-5 t)
     (none-left-add-none-left-2 t)
     (none-left-none-left-requires-2 t)
-    (none-left-returns-5 t)
+    (none-left-returns-6 t)
     (none-left-add-none-left-3 t)
     (none-left-none-left-requires-3 t)
-    (none-left-returns-6 t)
+    (none-left-returns-7 t)
     (none-left-add-none-left-4 t)
     (none-left-none-left-requires-4 t)
-    (none-left-returns-7 t)
+    (none-left-returns-8 t)
     (none-left-add-none-left-5 t)
     (none-left-none-left-requires-5 t)
-    (none-left-returns-8 t)
+    (none-left-returns-9 t)
