@@ -22,4 +22,5 @@ pub use rect::Common;
 pub use rect::Line;
 pub use rect::Rect;
 pub use rect::Side;
+pub use refine::is_within_any;
 pub use refine::refine_list;

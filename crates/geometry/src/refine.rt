@@ -10,7 +10,7 @@ use crate::numbers::rect_at;
 use crate::rect::Rect;
 
 // Whether r is contained in one of the first n rectangles.
-fn is_within_any(list: &[u32], n: usize, r: Rect) -> bool
+pub fn is_within_any(list: &[u32], n: usize, r: Rect) -> bool
     requires { ⌜ 4 * n ≤ length (now list) ⌝ }
     ensures { λ b. ⌜ b ≡ anyOf (within r) (rectsIn (now (list .entry)) n) ⌝ }
 {

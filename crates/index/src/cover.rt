@@ -4,12 +4,12 @@ ghost use Prim.Native.Nat.{_+_, _*_, _≤_};
 ghost use lib.ListN.{length, drop};
 ghost use Rattle.geometry.specs.Common.{unlessEmpty};
 ghost use Rattle.geometry.specs.Numbers.{rectsIn};
-ghost use Rattle.geometry.specs.Refine.{anyOf, within};
 ghost use Rattle.memory.specs.SoundTest.{allPass, coveredBy, insideOf, apart};
 ghost use Rattle.index.specs.Check.{Skipped};
 use geometry::Common;
 use geometry::Rect;
 use geometry::any_shares;
+use geometry::is_within_any;
 use geometry::rect_at;
 
 // The first of n rectangles from the i-th on that shares a cell with r; n where none does. Those before it cut nothing.
@@ -71,22 +71,6 @@ fn none_left(rects: &[u32], n: usize, i: usize, r: Rect) -> bool
     none_left(rects, n, j + 1, piece)
 }
 
-// Whether r is contained in one of the first n rectangles.
-fn any_contains(rects: &[u32], n: usize, r: Rect) -> bool
-    requires { ⌜ 4 * n ≤ length (now rects) ⌝ }
-    ensures { λ b. ⌜ b ≡ anyOf (within r) (rectsIn (now (rects .entry)) n) ⌝ }
-{
-    let mut i = 0;
-    while i < n {
-        let s = rect_at(rects, i);
-        if r.is_within(s) {
-            return true;
-        }
-        i += 1;
-    }
-    false
-}
-
 // Whether the cells of r are among those of the first n rectangles; an empty r is refused.
 pub fn covered(rects: &[u32], n: usize, r: Rect) -> bool
     requires { ⌜ 4 * n ≤ length (now rects) ⌝ }
@@ -99,7 +83,7 @@ pub fn covered(rects: &[u32], n: usize, r: Rect) -> bool
         return false;
     }
     // the usual case: nothing is cut
-    if any_contains(rects, n, r) {
+    if is_within_any(rects, n, r) {
         return true;
     }
     none_left(rects, n, 0, r)

@@ -9,8 +9,8 @@ returns c = search covered-flat
 returns-2 : tie.Need-returns-2
 returns-2 c = search covered-low
 
-any-contains-requires : tie.Need-any-contains-requires
-any-contains-requires c κs = search needs
+is-within-any-requires : tie.Need-is-within-any-requires
+is-within-any-requires c κs = search needs
 
 returns-3 : tie.Need-returns-3
 returns-3 c = search covered-within
@@ -22,4 +22,4 @@ returns-4 : tie.Need-returns-4
 returns-4 c = search covered-whole
 
 pub covered-spec : {M : Type 1} → statement M
-covered-spec = tie.close (tie.spec returns returns-2 any-contains-requires returns-3 none-left-requires returns-4)
+covered-spec = tie.close (tie.spec returns returns-2 is-within-any-requires returns-3 none-left-requires returns-4)
