@@ -19,33 +19,34 @@ use Rattle.index.specs.Changes.{RemoveCall}
 use Rattle.index.specs.Open.{OpenedAs}
 use Rattle.removal.specs.Tree.{RemoveDone}
 
-module _ (m : List ℕ) (c : Cell) (b : Bool) (e : b ≡ rightLength m) where
-  pub remove-wrong-length : not b ≡ true → RemoveCall m c m WrongLength
+-- the work on an opened memory
+module _ (m : List ℕ) (c : Cell) (o : Opened) (p : OpenedAs m o) where
+  pub remove-no-tree : o ≡ O.NoTree → RemoveDone m c m NoTree
+  unfolding removeRead
+  remove-no-tree r =
+      let q : reading fanout m ≡ none = rw r at p in
+      record { answer = rw q; memory = refl; memory-length = refl }
+
+  pub remove-empty : o ≡ O.Empty → RemoveDone m c m CellNotHeld
+  unfolding removeRead removeEnd any
+  remove-empty r =
+      let q : reading fanout m ≡ some none = rw r at p in
+      record { answer = rw q; memory = refl; memory-length = refl }
+
+-- the tests
+pub remove-wrong-length : (m : List ℕ) (c : Cell) (b : Bool) → b ≡ rightLength m → not b ≡ true → RemoveCall m c m WrongLength
+unfolding removeAnswer
+remove-wrong-length m c b e f = record { answer = rw (← e, not-true b f); memory = refl; memory-length = refl }
+
+module _ (m : List ℕ) (c : Cell) (right : rightLength m ≡ true) (g : Bool) (h : g ≡ onGrid c) where
+  pub remove-off-grid : not g ≡ true → RemoveCall m c m OffGrid
   unfolding removeAnswer
-  remove-wrong-length f = record { answer = rw (← e, not-true b f); memory = refl; memory-length = refl }
+  remove-off-grid k = record { answer = rw (right, ← h, not-true g k); memory = refl; memory-length = refl }
 
-  module _ (f : not b ≡ false) (g : Bool) (h : g ≡ onGrid c) where
-    pub remove-off-grid : not g ≡ true → RemoveCall m c m OffGrid
-    unfolding removeAnswer
-    remove-off-grid k = record { answer = rw (← e, ← h, not-false b f, not-true g k); memory = refl; memory-length = refl }
-
-    module _ (k : not g ≡ false) where
-      pub remove-tested : (m′ : List ℕ) (r : Removed) → RemoveDone m c m′ r → RemoveCall m c m′ r
-      unfolding removeAnswer
-      remove-tested m′ r q = record {
-        answer = rw (← e, ← h, not-false b f, not-false g k) (q .answer);
-        memory = q .memory;
-        memory-length = q .memory-length;
-      }
-
-      pub remove-no-tree : (o : Opened) → OpenedAs m o → o ≡ O.NoTree → RemoveCall m c m NoTree
-      unfolding removeRead
-      remove-no-tree o p r =
-          let q : reading fanout m ≡ none = rw r at p in
-          remove-tested m NoTree (record { answer = rw q; memory = refl; memory-length = refl })
-
-      pub remove-empty : (o : Opened) → OpenedAs m o → o ≡ O.Empty → RemoveCall m c m CellNotHeld
-      unfolding removeRead removeEnd any
-      remove-empty o p r =
-          let q : reading fanout m ≡ some none = rw r at p in
-          remove-tested m CellNotHeld (record { answer = rw q; memory = refl; memory-length = refl })
+  pub remove-tested : not g ≡ false → (m′ : List ℕ) (r : Removed) → RemoveDone m c m′ r → RemoveCall m c m′ r
+  unfolding removeAnswer
+  remove-tested k m′ r q = record {
+    answer = rw (right, ← h, not-false g k) (q .answer);
+    memory = q .memory;
+    memory-length = q .memory-length;
+  }

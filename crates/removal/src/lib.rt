@@ -7,3 +7,4 @@ mod place;
 mod removing;
 
 pub use removing::remove;
+pub use removing::remove_opened;

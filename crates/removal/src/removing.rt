@@ -1,8 +1,8 @@
 // The removal of an entry.
 ghost use mathlib.Core.Path.{_≡_};
-ghost use Rattle.memory.specs.Reading.{reading};
-ghost use Rattle.index.specs.Answers.{fanout};
-ghost use Rattle.index.specs.Open.{TreeIn};
+ghost use mathlib.Core.Bool.{true};
+ghost use Rattle.memory.specs.Layout.{rightLength};
+ghost use Rattle.index.specs.Open.{TreeIn, OpenedAs};
 ghost use Rattle.index.specs.Changes.{RemoveCall};
 ghost use Rattle.removal.specs.Tree.{RemoveDone};
 use crate::below::remove_below;
@@ -32,6 +32,35 @@ fn remove_in_tree(m: &mut [u32], level: u32, root: u32, c: Cell) -> Removed
     Removed::Accepted(entries)
 }
 
+// The removal from an opened memory.
+fn remove_read(m: &mut [u32], opened: Opened, c: Cell) -> Removed
+    requires { ⌜ OpenedAs (now m) opened ⌝ }
+    ensures { λ r. ⌜ RemoveDone (now (m .entry)) c (now (m .exit)) r ⌝ }
+{
+    match opened {
+        Opened::NoTree => {
+            return Removed::NoTree;
+        }
+        Opened::Empty => {
+            return Removed::CellNotHeld;
+        }
+        Opened::Tree { level, root } => {
+            return remove_in_tree(m, level, root, c);
+        }
+    }
+}
+
+// The removal from a memory of a right length that was opened before.
+pub fn remove_opened(m: &mut [u32], opened: Opened, c: Cell) -> Removed
+    requires { ⌜ (rightLength (now m) ≡ true) × OpenedAs (now m) opened ⌝ }
+    ensures { λ r. ⌜ RemoveCall (now (m .entry)) c (now (m .exit)) r ⌝ }
+{
+    if !c.on_grid() {
+        return Removed::OffGrid;
+    }
+    remove_read(m, opened, c)
+}
+
 // Removes the entry of the cell: closes the gap, and removes an emptied leaf and emptied nodes above.
 // Polygons keep their size. Answers the entries held after the call; a refused call leaves every number.
 pub fn remove(m: &mut [u32], c: Cell) -> Removed
@@ -44,15 +73,5 @@ pub fn remove(m: &mut [u32], c: Cell) -> Removed
         return Removed::OffGrid;
     }
     let opened = open(m);
-    match opened {
-        Opened::NoTree => {
-            return Removed::NoTree;
-        }
-        Opened::Empty => {
-            return Removed::CellNotHeld;
-        }
-        Opened::Tree { level, root } => {
-            return remove_in_tree(m, level, root, c);
-        }
-    }
+    remove_read(m, opened, c)
 }

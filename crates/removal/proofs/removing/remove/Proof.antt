@@ -1,6 +1,6 @@
 -- `removing::remove` meets its contract; its ways out are in RemoveWays.
-use Rattle.index.proofs.PointWays.{length-tested, opened-tree}
-use Rattle.removal.proofs.RemoveWays.{remove-wrong-length, remove-off-grid, remove-tested, remove-no-tree, remove-empty}
+use Rattle.index.proofs.PointWays.{length-tested}
+use Rattle.removal.proofs.RemoveWays.{remove-wrong-length, remove-off-grid, remove-tested}
 use borrow.Author.Needs.{needs}
 use Rattle.removal.proofs.removing.remove.Statement.{statement}
 use Rattle.removal.proofs.removing.remove.Tie as tie
@@ -21,40 +21,19 @@ same-length-2 : tie.Need-same-length-2
 same-length-2 c = search needs
 
 returns-2 : tie.Need-returns-2
-returns-2 c = search remove-off-grid
+returns-2 c = search (remove-off-grid, length-tested)
 
 open-requires : tie.Need-open-requires
 open-requires c κs = search length-tested
 
-enum-told : tie.Need-enum-told
-enum-told c = search needs
+remove-read-requires : tie.Need-remove-read-requires
+remove-read-requires c κs = search needs
 
 same-length-3 : tie.Need-same-length-3
 same-length-3 c = search needs
 
 returns-3 : tie.Need-returns-3
-returns-3 c = search remove-no-tree
-
-enum-told-2 : tie.Need-enum-told-2
-enum-told-2 c = search needs
-
-same-length-4 : tie.Need-same-length-4
-same-length-4 c = search needs
-
-returns-4 : tie.Need-returns-4
-returns-4 c = search remove-empty
-
-enum-known-opened : tie.Need-enum-known-opened
-enum-known-opened c = search needs
-
-remove-in-tree-requires : tie.Need-remove-in-tree-requires
-remove-in-tree-requires c κs = search opened-tree
-
-same-length-5 : tie.Need-same-length-5
-same-length-5 c = search needs
-
-returns-5 : tie.Need-returns-5
-returns-5 c = search remove-tested
+returns-3 c = search (remove-tested, length-tested)
 
 pub remove-spec : {M : Type 1} → statement M
 remove-spec =
@@ -67,13 +46,6 @@ remove-spec =
     same-length-2
     returns-2
     open-requires
-    enum-told
+    remove-read-requires
     same-length-3
-    returns-3
-    enum-told-2
-    same-length-4
-    returns-4
-    enum-known-opened
-    remove-in-tree-requires
-    same-length-5
-    returns-5)
+    returns-3)
