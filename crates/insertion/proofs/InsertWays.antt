@@ -1,27 +1,24 @@
 -- The ways out of an insertion.
-use Prim.Native.Nat.{ℕ, _+_, _*_, _≤_, _<_}
+use Prim.Native.Nat.{ℕ}
 use mathlib.Core.Bool.{Bool, true, false}
-use mathlib.Core.Path.{_≡_, refl, sym, ap, _∙_, subst}
+use mathlib.Core.Path.{_≡_, refl, sym, ap, _∙_}
 use mathlib.Core.List.{List}
 use mathlib.Core.Option.{none, some}
-use native.Mathlib.Omega.{arith}
 use borrow.Author.Tests.{eq-eqb, ne-eqb}
-use lib.Dec.{eqb}
 use lib.ListN.{length, replicate}
 use Rattle.geometry.specs.declared.rect.Cell.{Cell}
 use Rattle.geometry.specs.Cells.{onGrid}
 use Rattle.tree.specs.Query.{holds}
 use Rattle.plane.specs.Lines.{CellEntry}
 use Rattle.plane.specs.Plane.{planeSpace}
-use Rattle.memory.specs.Layout.{partsOf, rightLength}
+use Rattle.memory.specs.Layout.{rightLength}
 use Rattle.memory.specs.Reading.{reading}
-use Rattle.memory.proofs.ReadingLaws.{ReadSound, read-sound}
 use Rattle.index.specs.declared.answer.Inserted.{Inserted}
 use Rattle.index.specs.declared.answer.Inserted.the-variants as I
 use Rattle.index.specs.declared.opening.Opened.{Opened}
 use Rattle.index.specs.declared.opening.Opened.the-variants as O
 use Rattle.index.specs.Answers.{fanout, insertEnd, insertRead, insertAnswer}
-use Rattle.index.specs.Changes.{entryOf, InsertMemory, workAfter, InsertCall}
+use Rattle.index.specs.Changes.{entryOf, InsertCall}
 use Rattle.index.specs.Open.{TreeIn, OpenedAs}
 use Rattle.index.specs.Held.{heldRead}
 use Rattle.insertion.specs.Insert.{Inserting, Built, InsertDone}
@@ -45,46 +42,39 @@ into-done m w m′ w′ w″ e r a z = record {
   work = z ∙ ap (λ (n : ℕ). replicate n 0) (a .work-length) ∙ sym (a .zeroed);
 }
 
--- the call
-module _ (m w : List ℕ) (c : Cell) (t : ℕ) (a : Bool) (p : a ≡ rightLength m) where
-  pub wrong-length : a ≡ false → InsertCall m w (entryOf c t) m w I.WrongLength
+-- the work on an opened memory
+pub opened-empty : (m : List ℕ) (o : Opened) → OpenedAs m o → o ≡ O.Empty → reading fanout m ≡ some none
+opened-empty m o s f = rw f at s
+
+pub no-tree : (m w : List ℕ) (e : CellEntry) (o : Opened) → OpenedAs m o → o ≡ O.NoTree → InsertDone m w e m w I.NoTree
+unfolding insertRead
+no-tree m w e o s f =
+    let q : reading fanout m ≡ none = rw f at s in
+    record { answer = rw q; memory = refl; memory-length = refl; work = refl }
+
+-- the tests
+pub wrong-length : (m w : List ℕ) (e : CellEntry) (a : Bool) → a ≡ rightLength m → a ≡ false → InsertCall m w e m w I.WrongLength
+unfolding insertAnswer
+wrong-length m w e a p f = record { answer = rw (← p, f); memory = refl; memory-length = refl; work = refl }
+
+module _ (m w : List ℕ) (c : Cell) (t : ℕ) (right : rightLength m ≡ true) where
+  pub wrong-work : (length w ≡ length m → ⊥) → InsertCall m w (entryOf c t) m w I.WrongWorkLength
   unfolding insertAnswer
-  wrong-length f = record { answer = rw (← p, f); memory = refl; memory-length = refl; work = refl }
+  wrong-work h = record { answer = rw (right, ne-eqb (length w) (length m) h); memory = refl; memory-length = refl; work = refl }
 
-  module _ (right : a ≡ true) where
-    pub wrong-work : (length w ≡ length m → ⊥) → InsertCall m w (entryOf c t) m w I.WrongWorkLength
+  module _ (long : length w ≡ length m) (d : Bool) (q : d ≡ onGrid c) where
+    pub off-grid : d ≡ false → InsertCall m w (entryOf c t) m w I.OffGrid
     unfolding insertAnswer
-    wrong-work h = record { answer = rw (← p, right, ne-eqb (length w) (length m) h); memory = refl; memory-length = refl; work = refl }
+    off-grid f = record { answer = rw (right, eq-eqb (length w) (length m) long, ← q, f); memory = refl; memory-length = refl; work = refl }
 
-    module _ (long : length w ≡ length m) (d : Bool) (q : d ≡ onGrid c) where
-      pub off-grid : d ≡ false → InsertCall m w (entryOf c t) m w I.OffGrid
-      unfolding insertAnswer
-      off-grid f = record { answer = rw (← p, right, eq-eqb (length w) (length m) long, ← q, f); memory = refl; memory-length = refl; work = refl }
+    pub call-done : d ≡ true → (m′ w′ : List ℕ) (r : Inserted) → InsertDone m w (entryOf c t) m′ w′ r → InsertCall m w (entryOf c t) m′ w′ r
+    unfolding insertAnswer
+    call-done f m′ w′ r z = record {
+      answer = rw (right, eq-eqb (length w) (length m) long, ← q, f) (z .answer);
+      memory = z .memory;
+      memory-length = z .memory-length;
+      work = z .work;
+    }
 
-      module _ (grid : d ≡ true) where
-        asked : (r : Inserted) → r ≡ insertRead (partsOf m) (entryOf c t) (reading fanout m) → r ≡ insertAnswer m (length w) (entryOf c t)
-        unfolding insertAnswer
-        asked r e = e ∙ rw (← p, right, eq-eqb (length w) (length m) long, ← q, grid)
-
-        module _ (o : Opened) (s : OpenedAs m o) where
-          pub no-tree : o ≡ O.NoTree → InsertCall m w (entryOf c t) m w I.NoTree
-          unfolding insertRead
-          no-tree f =
-              let s′ : OpenedAs m O.NoTree = subst (λ (x : Opened). OpenedAs m x) f s in
-              record { answer = asked I.NoTree (rw s′); memory = refl; memory-length = refl; work = refl }
-
-        pub call-done : (m′ w′ : List ℕ) (r : Inserted) → InsertDone m w (entryOf c t) m′ w′ r → InsertCall m w (entryOf c t) m′ w′ r
-        call-done m′ w′ r z = record { answer = asked r (z .answer); memory = z .memory; memory-length = z .memory-length; work = z .work }
-
-        pub call-first : (m′ w′ w″ : List ℕ) (r : Inserted) → Built m w (entryOf c t) m′ w′ r → w″ ≡ replicate (length w′) 0 → InsertCall m w (entryOf c t) m′ w″ r
-        call-first m′ w′ w″ r z e = call-done m′ w″ r (into-done m w m′ w′ w″ (entryOf c t) r z e)
-
--- what the opening and the test of the cell told
 pub cell-on-grid : (c : Cell) (d : Bool) → d ≡ onGrid c → d ≡ true → onGrid c ≡ true
 cell-on-grid c d q f = sym q ∙ f
-
-pub opened-empty : (m : List ℕ) (o : Opened) → OpenedAs m o → o ≡ O.Empty → reading fanout m ≡ some none
-opened-empty m o s f = subst (λ (x : Opened). OpenedAs m x) f s
-
-pub opened-tree : (m : List ℕ) (o : Opened) (level root : ℕ) → OpenedAs m o → o ≡ O.Tree level root → TreeIn m level root
-opened-tree m o level root s f = subst (λ (x : Opened). OpenedAs m x) f s

@@ -4,8 +4,9 @@ ghost use Prim.Native.Nat.{_+_, _*_, _≤_};
 ghost use lib.ListN.{length};
 ghost use mathlib.Core.Bool.{true};
 ghost use Rattle.geometry.specs.Cells.{onGrid};
+ghost use Rattle.memory.specs.Layout.{rightLength};
 ghost use Rattle.index.specs.Changes.{entryOf, InsertCall};
-ghost use Rattle.index.specs.Open.{TreeIn};
+ghost use Rattle.index.specs.Open.{TreeIn, OpenedAs};
 ghost use Rattle.insertion.specs.Insert.{Inserting, PathFound, Built, InsertDone};
 use crate::descent::descend;
 use crate::descent::put_level;
@@ -108,6 +109,40 @@ fn insert_into(
     r
 }
 
+// The insertion into an opened memory, its work area and cell tested.
+fn insert_read(m: &mut [u32], work: &mut [u32], opened: Opened, c: Cell, tag: u32) -> Inserted
+    requires { ⌜ OpenedAs (now m) opened × (length (now work) ≡ length (now m)) × (onGrid c ≡ true) ⌝ }
+    ensures { λ r. ⌜ InsertDone (now (m .entry)) (now (work .entry)) (entryOf c tag) (now (m .exit)) (now (work .exit)) r ⌝ }
+{
+    match opened {
+        Opened::NoTree => {
+            return Inserted::NoTree;
+        }
+        Opened::Empty => {
+            let r = insert_first(m, work, c, tag);
+            fill_zeros(work);
+            return r;
+        }
+        Opened::Tree { level, root } => {
+            return insert_into(m, work, level, root, c, tag);
+        }
+    }
+}
+
+// The insertion into a memory of a right length that was opened before.
+pub fn insert_opened(m: &mut [u32], work: &mut [u32], opened: Opened, c: Cell, tag: u32) -> Inserted
+    requires { ⌜ (rightLength (now m) ≡ true) × OpenedAs (now m) opened ⌝ }
+    ensures { λ r. ⌜ InsertCall (now (m .entry)) (now (work .entry)) (entryOf c tag) (now (m .exit)) (now (work .exit)) r ⌝ }
+{
+    if work.len() != m.len() {
+        return Inserted::WrongWorkLength;
+    }
+    if !c.on_grid() {
+        return Inserted::OffGrid;
+    }
+    insert_read(m, work, opened, c, tag)
+}
+
 // Inserts an entry; the work area is as long as the index.
 pub fn insert(m: &mut [u32], work: &mut [u32], c: Cell, tag: u32) -> Inserted
     ensures { λ r. ⌜ InsertCall (now (m .entry)) (now (work .entry)) (entryOf c tag) (now (m .exit)) (now (work .exit)) r ⌝ }
@@ -122,17 +157,5 @@ pub fn insert(m: &mut [u32], work: &mut [u32], c: Cell, tag: u32) -> Inserted
         return Inserted::OffGrid;
     }
     let opened = open(m);
-    match opened {
-        Opened::NoTree => {
-            return Inserted::NoTree;
-        }
-        Opened::Empty => {
-            let r = insert_first(m, work, c, tag);
-            fill_zeros(work);
-            return r;
-        }
-        Opened::Tree { level, root } => {
-            return insert_into(m, work, level, root, c, tag);
-        }
-    }
+    insert_read(m, work, opened, c, tag)
 }

@@ -6,3 +6,4 @@ mod planning;
 mod writing;
 
 pub use insert_call::insert;
+pub use insert_call::insert_opened;
