@@ -4,7 +4,6 @@ ghost use Prim.Native.Nat.{_+_, _*_, _≤_};
 ghost use lib.ListN.{length};
 ghost use mathlib.Core.Bool.{true};
 ghost use Rattle.geometry.specs.Cells.{onGrid};
-ghost use Rattle.memory.specs.Layout.{rightLength};
 ghost use Rattle.index.specs.Changes.{entryOf, InsertCall};
 ghost use Rattle.index.specs.Open.{TreeIn, OpenedAs};
 ghost use Rattle.insertion.specs.Insert.{Inserting, PathFound, Built, InsertDone};
@@ -129,20 +128,6 @@ fn insert_read(m: &mut [u32], work: &mut [u32], opened: Opened, c: Cell, tag: u3
     }
 }
 
-// The insertion into a memory of a right length that was opened before.
-pub fn insert_opened(m: &mut [u32], work: &mut [u32], opened: Opened, c: Cell, tag: u32) -> Inserted
-    requires { ⌜ (rightLength (now m) ≡ true) × OpenedAs (now m) opened ⌝ }
-    ensures { λ r. ⌜ InsertCall (now (m .entry)) (now (work .entry)) (entryOf c tag) (now (m .exit)) (now (work .exit)) r ⌝ }
-{
-    if work.len() != m.len() {
-        return Inserted::WrongWorkLength;
-    }
-    if !c.on_grid() {
-        return Inserted::OffGrid;
-    }
-    insert_read(m, work, opened, c, tag)
-}
-
 // Inserts an entry; the work area is as long as the index.
 pub fn insert(m: &mut [u32], work: &mut [u32], c: Cell, tag: u32) -> Inserted
     ensures { λ r. ⌜ InsertCall (now (m .entry)) (now (work .entry)) (entryOf c tag) (now (m .exit)) (now (work .exit)) r ⌝ }
@@ -157,5 +142,22 @@ pub fn insert(m: &mut [u32], work: &mut [u32], c: Cell, tag: u32) -> Inserted
         return Inserted::OffGrid;
     }
     let opened = open(m);
+    insert_read(m, work, opened, c, tag)
+}
+
+// The same with a memory that was opened before, so that it is not tested again.
+pub fn insert_opened(m: &mut [u32], work: &mut [u32], opened: Opened, c: Cell, tag: u32) -> Inserted
+    requires { ⌜ OpenedAs (now m) opened ⌝ }
+    ensures { λ r. ⌜ InsertCall (now (m .entry)) (now (work .entry)) (entryOf c tag) (now (m .exit)) (now (work .exit)) r ⌝ }
+{
+    if !right_length(m) {
+        return Inserted::WrongLength;
+    }
+    if work.len() != m.len() {
+        return Inserted::WrongWorkLength;
+    }
+    if !c.on_grid() {
+        return Inserted::OffGrid;
+    }
     insert_read(m, work, opened, c, tag)
 }

@@ -1,7 +1,4 @@
 // The removal of an entry.
-ghost use mathlib.Core.Path.{_≡_};
-ghost use mathlib.Core.Bool.{true};
-ghost use Rattle.memory.specs.Layout.{rightLength};
 ghost use Rattle.index.specs.Open.{TreeIn, OpenedAs};
 ghost use Rattle.index.specs.Changes.{RemoveCall};
 ghost use Rattle.removal.specs.Tree.{RemoveDone};
@@ -50,17 +47,6 @@ fn remove_read(m: &mut [u32], opened: Opened, c: Cell) -> Removed
     }
 }
 
-// The removal from a memory of a right length that was opened before.
-pub fn remove_opened(m: &mut [u32], opened: Opened, c: Cell) -> Removed
-    requires { ⌜ (rightLength (now m) ≡ true) × OpenedAs (now m) opened ⌝ }
-    ensures { λ r. ⌜ RemoveCall (now (m .entry)) c (now (m .exit)) r ⌝ }
-{
-    if !c.on_grid() {
-        return Removed::OffGrid;
-    }
-    remove_read(m, opened, c)
-}
-
 // Removes the entry of the cell: closes the gap, and removes an emptied leaf and emptied nodes above.
 // Polygons keep their size. Answers the entries held after the call; a refused call leaves every number.
 pub fn remove(m: &mut [u32], c: Cell) -> Removed
@@ -73,5 +59,19 @@ pub fn remove(m: &mut [u32], c: Cell) -> Removed
         return Removed::OffGrid;
     }
     let opened = open(m);
+    remove_read(m, opened, c)
+}
+
+// The same with a memory that was opened before, so that it is not tested again.
+pub fn remove_opened(m: &mut [u32], opened: Opened, c: Cell) -> Removed
+    requires { ⌜ OpenedAs (now m) opened ⌝ }
+    ensures { λ r. ⌜ RemoveCall (now (m .entry)) c (now (m .exit)) r ⌝ }
+{
+    if !right_length(m) {
+        return Removed::WrongLength;
+    }
+    if !c.on_grid() {
+        return Removed::OffGrid;
+    }
     remove_read(m, opened, c)
 }
