@@ -6,6 +6,7 @@ pub mod LeafLaws
 pub mod CheckLaws
 pub mod CheckLoops
 pub mod OpenLaws
+pub mod ReadsLaws
 pub mod ClearWays
 pub mod WalkParts
 pub mod WalkRows

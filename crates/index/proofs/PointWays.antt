@@ -61,26 +61,26 @@ length-tested m b e f = sym e ∙ not-false b f
 pub opened-tree : (m : List ℕ) (o : Opened) (level root : ℕ) → OpenedAs m o → o ≡ O.Tree level root → TreeIn m level root
 opened-tree m o level root p q = rw q at p
 
+-- a memory that was opened as no tree or as the empty index
+module _ (m : List ℕ) (c : Cell) (o : Opened) (p : OpenedAs m o) where
+  pub point-no-tree : o ≡ O.NoTree → NoTree ≡ pointRead c (reading fanout m)
+  unfolding pointRead
+  point-no-tree q = let r : reading fanout m ≡ none = rw q at p in rw r
+
+  pub point-empty : o ≡ O.Empty → NotHeld 0 ≡ pointRead c (reading fanout m)
+  unfolding pointRead pointEnd keep
+  point-empty q = let r : reading fanout m ≡ some none = rw q at p in rw r
+
 -- a call on a memory and a cell, test by test
-module _ (m : List ℕ) (c : Cell) (b : Bool) (e : b ≡ rightLength m) where
-  pub point-wrong-length : not b ≡ true → WrongLength ≡ pointAnswer m c
+pub point-wrong-length : (m : List ℕ) (c : Cell) (b : Bool) → b ≡ rightLength m → not b ≡ true → WrongLength ≡ pointAnswer m c
+unfolding pointAnswer
+point-wrong-length m c b e f = rw (← e, not-true b f)
+
+module _ (m : List ℕ) (c : Cell) (e : rightLength m ≡ true) (g : Bool) (h : g ≡ onGrid c) where
+  pub point-off-grid : not g ≡ true → OffGrid ≡ pointAnswer m c
   unfolding pointAnswer
-  point-wrong-length f = rw (← e, not-true b f)
+  point-off-grid k = rw (e, ← h, not-true g k)
 
-  module _ (f : not b ≡ false) (g : Bool) (h : g ≡ onGrid c) where
-    pub point-off-grid : not g ≡ true → OffGrid ≡ pointAnswer m c
-    unfolding pointAnswer
-    point-off-grid k = rw (← e, ← h, not-false b f, not-true g k)
-
-    module _ (k : not g ≡ false) where
-      pub point-tested : (r : PointFound) → r ≡ pointRead c (reading fanout m) → r ≡ pointAnswer m c
-      unfolding pointAnswer
-      point-tested r q = rw (← e, ← h, not-false b f, not-false g k) q
-
-      pub point-no-tree : (o : Opened) → OpenedAs m o → o ≡ O.NoTree → NoTree ≡ pointAnswer m c
-      unfolding pointRead
-      point-no-tree o p q = let r : reading fanout m ≡ none = rw q at p in point-tested NoTree (rw r)
-
-      pub point-empty : (o : Opened) → OpenedAs m o → o ≡ O.Empty → NotHeld 0 ≡ pointAnswer m c
-      unfolding pointRead pointEnd keep
-      point-empty o p q = let r : reading fanout m ≡ some none = rw q at p in point-tested (NotHeld 0) (rw r)
+  pub point-tested : not g ≡ false → (r : PointFound) → r ≡ pointRead c (reading fanout m) → r ≡ pointAnswer m c
+  unfolding pointAnswer
+  point-tested k r q = rw (e, ← h, not-false g k) q

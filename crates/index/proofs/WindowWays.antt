@@ -124,32 +124,29 @@ module _ (m : List ℕ) (level root : ℕ) (w : Rect) (l : List ℕ) (v : TreeIn
           list = q .list ∙ puts-first l _ k ∙ rw (v .reads, matches-are, z);
         }
 
+-- a memory that was opened as no tree or as the empty index
+module _ (m : List ℕ) (w : Rect) (l : List ℕ) (o : Opened) (p : OpenedAs m o) where
+  pub window-no-tree : o ≡ O.NoTree → WindowDone m w l l NoTree
+  unfolding windowRead windowWritten
+  window-no-tree r = let q : reading fanout m ≡ none = rw r at p in record { answer = rw q; list = rw q }
+
+  pub window-empty : o ≡ O.Empty → WindowDone m w l l (Found 0 0)
+  unfolding windowRead windowWritten keep flatMap
+  window-empty r =
+      let q : reading fanout m ≡ some none = rw r at p in
+      let z : leb 0 (length l) ≡ true = le-leb 0 (length l) (omega arith) in
+      record { answer = rw (q, z); list = rw (q, z) }
+
 -- a call on a memory, a window and a list, test by test
-module _ (m : List ℕ) (w : Rect) (l : List ℕ) (b : Bool) (e : b ≡ rightLength m) where
-  pub window-wrong-length : not b ≡ true → WindowCall m w l l WrongLength
+pub window-wrong-length : (m : List ℕ) (w : Rect) (l : List ℕ) (b : Bool) → b ≡ rightLength m → not b ≡ true → WindowCall m w l l WrongLength
+unfolding windowAnswer windowList
+window-wrong-length m w l b e f = record { answer = rw (← e, not-true b f); list = rw (← e, not-true b f) }
+
+module _ (m : List ℕ) (w : Rect) (l : List ℕ) (e : rightLength m ≡ true) (g : Bool) (h : g ≡ valid w) where
+  pub window-bad : not g ≡ true → WindowCall m w l l BadWindow
   unfolding windowAnswer windowList
-  window-wrong-length f = record { answer = rw (← e, not-true b f); list = rw (← e, not-true b f) }
+  window-bad k = record { answer = rw (e, ← h, not-true g k); list = rw (e, ← h, not-true g k) }
 
-  module _ (f : not b ≡ false) (g : Bool) (h : g ≡ valid w) where
-    pub window-bad : not g ≡ true → WindowCall m w l l BadWindow
-    unfolding windowAnswer windowList
-    window-bad k = record { answer = rw (← e, ← h, not-false b f, not-true g k); list = rw (← e, ← h, not-false b f, not-true g k) }
-
-    module _ (k : not g ≡ false) where
-      pub window-tested : (l′ : List ℕ) (r : WindowFound) → WindowDone m w l l′ r → WindowCall m w l l′ r
-      unfolding windowAnswer windowList
-      window-tested l′ r q = record {
-        answer = rw (← e, ← h, not-false b f, not-false g k) (q .answer);
-        list = rw (← e, ← h, not-false b f, not-false g k) (q .list);
-      }
-
-      pub window-no-tree : (o : Opened) → OpenedAs m o → o ≡ O.NoTree → WindowCall m w l l NoTree
-      unfolding windowRead windowWritten
-      window-no-tree o p r = let q : reading fanout m ≡ none = rw r at p in window-tested l NoTree (record { answer = rw q; list = rw q })
-
-      pub window-empty : (o : Opened) → OpenedAs m o → o ≡ O.Empty → WindowCall m w l l (Found 0 0)
-      unfolding windowRead windowWritten keep flatMap
-      window-empty o p r =
-          let q : reading fanout m ≡ some none = rw r at p in
-          let z : leb 0 (length l) ≡ true = le-leb 0 (length l) (omega arith) in
-          window-tested l (Found 0 0) (record { answer = rw (q, z); list = rw (q, z) })
+  pub window-tested : not g ≡ false → (l′ : List ℕ) (r : WindowFound) → WindowDone m w l l′ r → WindowCall m w l l′ r
+  unfolding windowAnswer windowList
+  window-tested k l′ r q = record { answer = rw (e, ← h, not-false g k) (q .answer); list = rw (e, ← h, not-false g k) (q .list) }

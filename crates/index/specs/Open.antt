@@ -7,9 +7,14 @@ use Rattle.tree.specs.Tree.{Tree}
 use Rattle.plane.specs.Plane.{planeSpace}
 use Rattle.memory.specs.Layout.{rootIn}
 use Rattle.memory.specs.Reading.{reading}
-use Rattle.index.specs.Answers.{fanout}
+use Rattle.index.specs.Answers.{fanout, PlaneIndex}
 use Rattle.index.specs.declared.opening.Opened.{Opened}
 use Rattle.index.specs.declared.opening.Opened.the-variants as O
+
+-- the memory reads as an index: the empty one or a sound tree
+pub record Reads (m : List ℕ) : Type 0 where
+  pub index : PlaneIndex
+  pub reads : reading fanout m ≡ some index
 
 -- the memory reads as a tree with its root at this part and its leaves so many steps below it
 pub record TreeIn (m : List ℕ) (level root : ℕ) : Type 0 where

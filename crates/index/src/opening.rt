@@ -4,7 +4,7 @@ ghost use mathlib.Core.Bool.{true, _||_};
 ghost use Prim.Native.Nat.{_<_};
 ghost use Rattle.memory.specs.Layout.{partsOf, part, rightLength, inUse, allZero, othersZero};
 ghost use Rattle.memory.proofs.ReadingLaws.{RightLength};
-ghost use Rattle.index.specs.Open.{OpenedAs};
+ghost use Rattle.index.specs.Open.{OpenedAs, Reads};
 use crate::bits::bits_set;
 use crate::bits::in_use;
 use crate::check::check_node;
@@ -101,5 +101,19 @@ pub fn open(m: &[u32]) -> Opened
     if !others_zero(m) {
         return Opened::NoTree;
     }
+    Opened::Tree { level, root }
+}
+
+// What a memory reads as that is known to read as an index: nothing is tested.
+pub fn reopen(m: &[u32]) -> Opened
+    requires { ⌜ Reads (now m) ⌝ }
+    ensures { λ r. ⌜ OpenedAs (now (m .entry)) r ⌝ }
+{
+    let height = m[8];
+    if height == 0 {
+        return Opened::Empty;
+    }
+    let level = height - 1;
+    let root = m[9];
     Opened::Tree { level, root }
 }

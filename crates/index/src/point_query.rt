@@ -1,12 +1,13 @@
 // The point query: the walk into the nodes whose polygon has the cell.
 ghost use mathlib.Core.Path.{_≡_};
+ghost use mathlib.Core.Bool.{true};
 ghost use Prim.Native.Nat.{_<_};
 ghost use lib.ListN.{length};
-ghost use Rattle.memory.specs.Layout.{entryIn};
+ghost use Rattle.memory.specs.Layout.{rightLength, entryIn};
 ghost use Rattle.memory.specs.Reading.{reading};
 ghost use Rattle.index.specs.Answers.{fanout, pointRead, pointAnswer};
 ghost use Rattle.index.specs.Check.{NodePart};
-ghost use Rattle.index.specs.Open.{TreeIn};
+ghost use Rattle.index.specs.Open.{TreeIn, OpenedAs};
 ghost use Rattle.index.specs.Walks.{hasTest, cellTest, visitsBelow, heldBelow, leafEntries, Walkable, found};
 use crate::answer::PointFound;
 use crate::opening::Opened;
@@ -104,17 +105,11 @@ fn point_in_tree(m: &[u32], level: u32, root: u32, c: Cell) -> PointFound
     }
 }
 
-// Whether an entry of the cell is held, with its tag, and the nodes whose polygon has the cell.
-pub fn point(m: &[u32], c: Cell) -> PointFound
-    ensures { λ r. ⌜ r ≡ pointAnswer (now (m .entry)) c ⌝ }
+// The point query of an opened memory, its cell tested.
+fn point_read(m: &[u32], opened: Opened, c: Cell) -> PointFound
+    requires { ⌜ OpenedAs (now m) opened ⌝ }
+    ensures { λ r. ⌜ r ≡ pointRead c (reading fanout (now (m .entry))) ⌝ }
 {
-    if !right_length(m) {
-        return PointFound::WrongLength;
-    }
-    if !c.on_grid() {
-        return PointFound::OffGrid;
-    }
-    let opened = open(m);
     match opened {
         Opened::NoTree => {
             return PointFound::NoTree;
@@ -126,4 +121,28 @@ pub fn point(m: &[u32], c: Cell) -> PointFound
             return point_in_tree(m, level, root, c);
         }
     }
+}
+
+// The point query of a memory of a right length that was opened before.
+pub fn point_opened(m: &[u32], opened: Opened, c: Cell) -> PointFound
+    requires { ⌜ (rightLength (now m) ≡ true) × OpenedAs (now m) opened ⌝ }
+    ensures { λ r. ⌜ r ≡ pointAnswer (now (m .entry)) c ⌝ }
+{
+    if !c.on_grid() {
+        return PointFound::OffGrid;
+    }
+    point_read(m, opened, c)
+}
+
+// Whether an entry of the cell is held, with its tag, and the nodes whose polygon has the cell.
+pub fn point(m: &[u32], c: Cell) -> PointFound
+    ensures { λ r. ⌜ r ≡ pointAnswer (now (m .entry)) c ⌝ }
+{
+    if !right_length(m) {
+        return PointFound::WrongLength;
+    }
+    if !c.on_grid() {
+        return PointFound::OffGrid;
+    }
+    point_read(m, open(m), c)
 }

@@ -1,11 +1,12 @@
 // The window query: two walks into the nodes whose polygon shares a cell with the window. The first
 // counts, the second writes: a list that is too short is left as it was.
 ghost use mathlib.Core.Path.{_≡_};
+ghost use mathlib.Core.Bool.{true};
 ghost use Prim.Native.Nat.{_+_, _*_, _≤_, _<_};
 ghost use lib.ListN.{length};
-ghost use Rattle.memory.specs.Layout.{entryIn};
+ghost use Rattle.memory.specs.Layout.{rightLength, entryIn};
 ghost use Rattle.index.specs.Check.{NodePart};
-ghost use Rattle.index.specs.Open.{TreeIn};
+ghost use Rattle.index.specs.Open.{TreeIn, OpenedAs};
 ghost use Rattle.index.specs.Walks.{meetsTest, insideTest, visitsBelow, matchesBelow, leafEntries, Walkable, matched, putEntry, Listed, LeafRoom, WalkRoom, WindowDone, WindowCall};
 use crate::answer::WindowFound;
 use crate::opening::Opened;
@@ -172,18 +173,11 @@ fn window_in_tree(m: &[u32], level: u32, root: u32, w: Rect, list: &mut [u32]) -
     }
 }
 
-// Writes x, y and tag of each entry in the window to the list, in depth-first order, and leaves the rest
-// of it; answers the matches and the nodes whose polygon shares a cell with the window.
-pub fn window(m: &[u32], w: Rect, list: &mut [u32]) -> WindowFound
-    ensures { λ r. ⌜ WindowCall (now (m .entry)) w (now (list .entry)) (now (list .exit)) r ⌝ }
+// The window query of an opened memory, its window tested.
+fn window_read(m: &[u32], opened: Opened, w: Rect, list: &mut [u32]) -> WindowFound
+    requires { ⌜ OpenedAs (now m) opened ⌝ }
+    ensures { λ r. ⌜ WindowDone (now (m .entry)) w (now (list .entry)) (now (list .exit)) r ⌝ }
 {
-    if !right_length(m) {
-        return WindowFound::WrongLength;
-    }
-    if !w.is_valid() {
-        return WindowFound::BadWindow;
-    }
-    let opened = open(m);
     match opened {
         Opened::NoTree => {
             return WindowFound::NoTree;
@@ -198,4 +192,29 @@ pub fn window(m: &[u32], w: Rect, list: &mut [u32]) -> WindowFound
             return window_in_tree(m, level, root, w, list);
         }
     }
+}
+
+// The window query of a memory of a right length that was opened before.
+pub fn window_opened(m: &[u32], opened: Opened, w: Rect, list: &mut [u32]) -> WindowFound
+    requires { ⌜ (rightLength (now m) ≡ true) × OpenedAs (now m) opened ⌝ }
+    ensures { λ r. ⌜ WindowCall (now (m .entry)) w (now (list .entry)) (now (list .exit)) r ⌝ }
+{
+    if !w.is_valid() {
+        return WindowFound::BadWindow;
+    }
+    window_read(m, opened, w, list)
+}
+
+// Writes x, y and tag of each entry in the window to the list, in depth-first order, and leaves the rest
+// of it; answers the matches and the nodes whose polygon shares a cell with the window.
+pub fn window(m: &[u32], w: Rect, list: &mut [u32]) -> WindowFound
+    ensures { λ r. ⌜ WindowCall (now (m .entry)) w (now (list .entry)) (now (list .exit)) r ⌝ }
+{
+    if !right_length(m) {
+        return WindowFound::WrongLength;
+    }
+    if !w.is_valid() {
+        return WindowFound::BadWindow;
+    }
+    window_read(m, open(m), w, list)
 }

@@ -1,5 +1,5 @@
 -- `point_query::point` meets its contract; its ways out are in PointWays.
-use Rattle.index.proofs.PointWays.{length-tested, opened-tree, point-wrong-length, point-off-grid, point-tested, point-no-tree, point-empty}
+use Rattle.index.proofs.PointWays.{length-tested, point-wrong-length, point-off-grid, point-tested}
 use borrow.Author.Needs.{needs}
 use Rattle.index.proofs.point_query.point.Statement.{statement}
 use Rattle.index.proofs.point_query.point.Tie as tie
@@ -14,31 +14,16 @@ on-grid-requires : tie.Need-on-grid-requires
 on-grid-requires c κs = search needs
 
 returns-2 : tie.Need-returns-2
-returns-2 c = search point-off-grid
+returns-2 c = search (point-off-grid, length-tested)
 
 open-requires : tie.Need-open-requires
 open-requires c κs = search length-tested
 
-enum-told : tie.Need-enum-told
-enum-told c = search needs
+point-read-requires : tie.Need-point-read-requires
+point-read-requires c κs = search needs
 
 returns-3 : tie.Need-returns-3
-returns-3 c = search point-no-tree
-
-enum-told-2 : tie.Need-enum-told-2
-enum-told-2 c = search needs
-
-returns-4 : tie.Need-returns-4
-returns-4 c = search point-empty
-
-enum-known-opened : tie.Need-enum-known-opened
-enum-known-opened c = search needs
-
-point-in-tree-requires : tie.Need-point-in-tree-requires
-point-in-tree-requires c κs = search opened-tree
-
-returns-5 : tie.Need-returns-5
-returns-5 c = search point-tested
+returns-3 c = search (point-tested, length-tested)
 
 pub point-spec : {M : Type 1} → statement M
 point-spec =
@@ -49,10 +34,5 @@ point-spec =
     on-grid-requires
     returns-2
     open-requires
-    enum-told
-    returns-3
-    enum-told-2
-    returns-4
-    enum-known-opened
-    point-in-tree-requires
-    returns-5)
+    point-read-requires
+    returns-3)
