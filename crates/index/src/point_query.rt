@@ -1,9 +1,8 @@
 // The point query: the walk into the nodes whose polygon has the cell.
 ghost use mathlib.Core.Path.{_≡_};
-ghost use mathlib.Core.Bool.{true};
 ghost use Prim.Native.Nat.{_<_};
 ghost use lib.ListN.{length};
-ghost use Rattle.memory.specs.Layout.{rightLength, entryIn};
+ghost use Rattle.memory.specs.Layout.{entryIn};
 ghost use Rattle.memory.specs.Reading.{reading};
 ghost use Rattle.index.specs.Answers.{fanout, pointRead, pointAnswer};
 ghost use Rattle.index.specs.Check.{NodePart};
@@ -123,17 +122,6 @@ fn point_read(m: &[u32], opened: Opened, c: Cell) -> PointFound
     }
 }
 
-// The point query of a memory of a right length that was opened before.
-pub fn point_opened(m: &[u32], opened: Opened, c: Cell) -> PointFound
-    requires { ⌜ (rightLength (now m) ≡ true) × OpenedAs (now m) opened ⌝ }
-    ensures { λ r. ⌜ r ≡ pointAnswer (now (m .entry)) c ⌝ }
-{
-    if !c.on_grid() {
-        return PointFound::OffGrid;
-    }
-    point_read(m, opened, c)
-}
-
 // Whether an entry of the cell is held, with its tag, and the nodes whose polygon has the cell.
 pub fn point(m: &[u32], c: Cell) -> PointFound
     ensures { λ r. ⌜ r ≡ pointAnswer (now (m .entry)) c ⌝ }
@@ -145,4 +133,18 @@ pub fn point(m: &[u32], c: Cell) -> PointFound
         return PointFound::OffGrid;
     }
     point_read(m, open(m), c)
+}
+
+// The same with a memory that was opened before, so that it is not tested again.
+pub fn point_opened(m: &[u32], opened: Opened, c: Cell) -> PointFound
+    requires { ⌜ OpenedAs (now m) opened ⌝ }
+    ensures { λ r. ⌜ r ≡ pointAnswer (now (m .entry)) c ⌝ }
+{
+    if !right_length(m) {
+        return PointFound::WrongLength;
+    }
+    if !c.on_grid() {
+        return PointFound::OffGrid;
+    }
+    point_read(m, opened, c)
 }

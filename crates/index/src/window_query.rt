@@ -1,10 +1,9 @@
 // The window query: two walks into the nodes whose polygon shares a cell with the window. The first
 // counts, the second writes: a list that is too short is left as it was.
 ghost use mathlib.Core.Path.{_≡_};
-ghost use mathlib.Core.Bool.{true};
 ghost use Prim.Native.Nat.{_+_, _*_, _≤_, _<_};
 ghost use lib.ListN.{length};
-ghost use Rattle.memory.specs.Layout.{rightLength, entryIn};
+ghost use Rattle.memory.specs.Layout.{entryIn};
 ghost use Rattle.index.specs.Check.{NodePart};
 ghost use Rattle.index.specs.Open.{TreeIn, OpenedAs};
 ghost use Rattle.index.specs.Walks.{meetsTest, insideTest, visitsBelow, matchesBelow, leafEntries, Walkable, matched, putEntry, Listed, LeafRoom, WalkRoom, WindowDone, WindowCall};
@@ -194,17 +193,6 @@ fn window_read(m: &[u32], opened: Opened, w: Rect, list: &mut [u32]) -> WindowFo
     }
 }
 
-// The window query of a memory of a right length that was opened before.
-pub fn window_opened(m: &[u32], opened: Opened, w: Rect, list: &mut [u32]) -> WindowFound
-    requires { ⌜ (rightLength (now m) ≡ true) × OpenedAs (now m) opened ⌝ }
-    ensures { λ r. ⌜ WindowCall (now (m .entry)) w (now (list .entry)) (now (list .exit)) r ⌝ }
-{
-    if !w.is_valid() {
-        return WindowFound::BadWindow;
-    }
-    window_read(m, opened, w, list)
-}
-
 // Writes x, y and tag of each entry in the window to the list, in depth-first order, and leaves the rest
 // of it; answers the matches and the nodes whose polygon shares a cell with the window.
 pub fn window(m: &[u32], w: Rect, list: &mut [u32]) -> WindowFound
@@ -217,4 +205,18 @@ pub fn window(m: &[u32], w: Rect, list: &mut [u32]) -> WindowFound
         return WindowFound::BadWindow;
     }
     window_read(m, open(m), w, list)
+}
+
+// The same with a memory that was opened before, so that it is not tested again.
+pub fn window_opened(m: &[u32], opened: Opened, w: Rect, list: &mut [u32]) -> WindowFound
+    requires { ⌜ OpenedAs (now m) opened ⌝ }
+    ensures { λ r. ⌜ WindowCall (now (m .entry)) w (now (list .entry)) (now (list .exit)) r ⌝ }
+{
+    if !right_length(m) {
+        return WindowFound::WrongLength;
+    }
+    if !w.is_valid() {
+        return WindowFound::BadWindow;
+    }
+    window_read(m, opened, w, list)
 }
