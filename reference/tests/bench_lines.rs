@@ -6,15 +6,20 @@ mod support;
 use reference::lines::{read_command, run, Command};
 use std::cell::RefCell;
 use std::io::{self, ErrorKind, Read, Write};
+use std::iter::Cycle;
 use std::path::Path;
 use std::rc::Rc;
+use std::slice::Iter;
 use support::lines::{answers, OTHER_LINES, SAMPLE_INPUT, SAMPLE_OUTPUT};
 use support::program::check_answers_at_once;
+use support::tables::{
+    check_ends, check_long_lines, check_other_lines, check_sample, check_session, FIELDS, REFUSALS,
+};
 
-/// Gives the input in parts of the given size, with an interruption before each.
+/// Gives the input in parts of these sizes, again and again, with an interruption before each.
 struct Parts<'a> {
     input: &'a [u8],
-    size: usize,
+    sizes: Cycle<Iter<'a, usize>>,
     interrupted: bool,
 }
 
@@ -24,17 +29,18 @@ impl Read for Parts<'_> {
         if self.interrupted {
             return Err(ErrorKind::Interrupted.into());
         }
-        let count = self.size.min(self.input.len()).min(bytes.len());
+        let size = *self.sizes.next().expect("a size");
+        let count = size.min(self.input.len()).min(bytes.len());
         bytes[..count].copy_from_slice(&self.input[..count]);
         self.input = &self.input[count..];
         Ok(count)
     }
 }
 
-fn answers_in_parts(input: &[u8], size: usize) -> String {
+fn answers_in_parts(input: &[u8], sizes: &[usize]) -> String {
     let mut parts = Parts {
         input,
-        size,
+        sizes: sizes.iter().cycle(),
         interrupted: false,
     };
     let mut output = Vec::new();
@@ -45,31 +51,15 @@ fn answers_in_parts(input: &[u8], size: usize) -> String {
 #[test]
 fn sample() {
     assert_eq!(answers(SAMPLE_INPUT.as_bytes()), SAMPLE_OUTPUT);
-    let without_last_lf = SAMPLE_INPUT.trim_end();
-    assert_eq!(answers(without_last_lf.as_bytes()), SAMPLE_OUTPUT);
-    for size in 1..100 {
-        let output = answers_in_parts(SAMPLE_INPUT.as_bytes(), size);
-        assert_eq!(output, SAMPLE_OUTPUT, "parts of {size}");
-    }
+    check_sample(answers_in_parts);
 }
 
 #[test]
 fn other_lines() {
     for line in OTHER_LINES {
-        let text = line.escape_ascii();
-        assert_eq!(read_command(line), None, "{text}");
-        let with_lf = [line, b"\n"].concat();
-        assert_eq!(answers(&with_lf), "?\n", "{text}");
-        let among = [b"I 5 6 7\n", line, b"\nP 5 6\n"].concat();
-        assert_eq!(answers(&among), "I 0 1\n?\nP 1 1 7\n", "{text}");
-        let last = [b"C\n", line].concat();
-        let expected = if line.is_empty() {
-            "C 0 0\n"
-        } else {
-            "C 0 0\n?\n"
-        };
-        assert_eq!(answers(&last), expected, "{text}");
+        assert_eq!(read_command(line), None, "{}", line.escape_ascii());
     }
+    check_other_lines(answers_in_parts);
 }
 
 #[test]
@@ -94,53 +84,22 @@ fn fields() {
     let window = reference::geometry::Rectangle::new(1, 2, 65536, 4294967295);
     let line = b"S 1 2 65536 4294967295";
     assert_eq!(read_command(line), Some(Command::Window { window }));
+    check_session(&FIELDS, answers_in_parts);
 }
 
 #[test]
 fn ends_of_the_input() {
-    assert_eq!(answers(b""), "");
-    assert_eq!(answers(b"\n"), "?\n");
-    assert_eq!(answers(b"\n\n"), "?\n?\n");
-    assert_eq!(answers(b"C\n"), "C 0 0\n");
-    assert_eq!(answers(b"C"), "C 0 0\n");
-    assert_eq!(answers(b"C\nC"), "C 0 0\nC 0 0\n");
+    check_ends(answers_in_parts);
 }
 
-/// A line over 80 bytes gives one answer, however long it is and however it is read.
 #[test]
 fn long_lines() {
-    for length in [79, 80, 81, 82, 160, 161, 4095, 4096, 4097, 300_000] {
-        for byte in [b'C', b'1', b' ', 0] {
-            let long = vec![byte; length];
-            let input = [b"I 1 2 3\n", &long[..], b"\nP 1 2\n", &long[..]].concat();
-            let expected = "I 0 1\n?\nP 1 1 3\n?\n";
-            assert_eq!(answers(&input), expected, "{length} bytes of {byte}");
-            let parts = answers_in_parts(&input, 1000);
-            assert_eq!(parts, expected, "{length} bytes of {byte}");
-        }
-    }
-    // A command that is followed by too much is no command.
-    let mut line = b"I 1 2 3".to_vec();
-    line.resize(81, b'\0');
-    assert_eq!(answers(&line), "?\n");
+    check_long_lines(answers_in_parts);
 }
 
 #[test]
 fn refusals() {
-    assert_eq!(answers(b"I 65536 0 1\nI 0 65536 1\n"), "I ! 3\nI ! 3\n");
-    assert_eq!(answers(b"R 4294967295 0\nR 0 0\n"), "R ! 3\nR ! 6\n");
-    assert_eq!(answers(b"P 65536 0\nP 65535 65535\n"), "P ! 3\nP 0 0\n");
-    assert_eq!(answers(b"S 0 0 65536 65536\n"), "S 0 0\n");
-    for window in [
-        "0 0 65537 1",
-        "0 0 1 65537",
-        "1 0 1 1",
-        "0 2 1 1",
-        "5 5 4 6",
-    ] {
-        let line = format!("S {window}\n");
-        assert_eq!(answers(line.as_bytes()), "S ! 3\n", "{window}");
-    }
+    check_session(&REFUSALS, answers_in_parts);
 }
 
 /// 'N = 64, a result list for all 512 entries': a full index is printed, the next is refused 8.

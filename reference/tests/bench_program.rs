@@ -7,17 +7,15 @@ use reference::proved_bench::program;
 use std::fs;
 use std::path::Path;
 use support::compared::{compare, printed, printed_in_parts, WHOLE};
-use support::lines::{answers, OTHER_LINES, SAMPLE_INPUT, SAMPLE_OUTPUT};
+use support::lines::{answers, SAMPLE_INPUT, SAMPLE_OUTPUT};
 use support::program::{check_answers_at_once, Open};
+use support::tables::{
+    check_ends, check_long_lines, check_other_lines, check_sample, check_session, FIELDS, REFUSALS,
+};
 
 #[test]
 fn sample() {
-    assert_eq!(printed(SAMPLE_INPUT.as_bytes()), SAMPLE_OUTPUT);
-    assert_eq!(printed(SAMPLE_INPUT.trim_end().as_bytes()), SAMPLE_OUTPUT);
-    for size in [1, 2, 3, 7, 10, 64] {
-        let output = printed_in_parts(SAMPLE_INPUT.as_bytes(), &[size]);
-        assert_eq!(output, SAMPLE_OUTPUT, "parts of {size}");
-    }
+    check_sample(printed_in_parts);
 }
 
 /// The input and output that are stored with the program: the second implementation gives the same.
@@ -34,27 +32,12 @@ fn stored_session() {
 
 #[test]
 fn ends_of_the_input() {
-    assert_eq!(printed(b""), "");
-    assert_eq!(printed(b"\n"), "?\n");
-    assert_eq!(printed(b"\n\n"), "?\n?\n");
-    assert_eq!(printed(b"C\n"), "C 0 0\n");
-    assert_eq!(printed(b"C"), "C 0 0\n");
-    assert_eq!(printed(b"C\nC"), "C 0 0\nC 0 0\n");
-    assert_eq!(printed(b"C\nX"), "C 0 0\n?\n");
+    check_ends(printed_in_parts);
 }
 
 #[test]
 fn other_lines() {
-    let (mut input, mut expected) = (Vec::new(), String::new());
-    for line in OTHER_LINES {
-        input.extend([b"I 5 6 7\n", line, b"\nP 5 6\nC\n"].concat());
-        expected += "I 0 1\n?\nP 1 1 7\nC 0 0\n";
-        let last = [b"C\n", line].concat();
-        let answer = if line.is_empty() { "" } else { "?\n" };
-        let text = line.escape_ascii();
-        assert_eq!(printed(&last), format!("C 0 0\n{answer}"), "{text}");
-    }
-    assert_eq!(printed(&input), expected);
+    check_other_lines(printed_in_parts);
 }
 
 /// Every byte as the only one of a line, as a letter, after a letter, in a field and after a field.
@@ -95,44 +78,17 @@ fn carriage_returns() {
 
 #[test]
 fn fields() {
-    let input = b"I 0000000001 0000065535 4294967295\nP 1 65535\nP 00001 065535\n\
-        I 4294967295 0 1\nI 0 4294967295 1\nR 4294967295 0\nP 0 4294967295\n\
-        S 0000000000 0 0000065536 65536\nS 0 0 4294967295 4294967295\nI 1 2 4294967296\n\
-        I 00000000001 2 3\nI 1 2 0\nI 2 1 00\nP 2 1\nR 0000000001 65535\n";
-    let expected = "I 0 1\nP 1 1 4294967295\nP 1 1 4294967295\nI ! 3\nI ! 3\nR ! 3\nP ! 3\n\
-        S 1 1\nE 1 65535 4294967295\nS ! 3\n?\n?\nI 0 2\nI 0 3\nP 1 1 0\nR 0 2\n";
-    assert_eq!(printed(input), expected);
+    check_session(&FIELDS, printed_in_parts);
 }
 
 #[test]
 fn refusals() {
-    let input = "I 65536 0 1\nR 0 0\nR 0 65536\nP 65536 0\nI 3 4 5\nI 3 4 6\nR 4 3\n\
-        S 3 4 3 5\nS 3 4 4 4\nS 0 0 65537 1\nS 0 0 1 65537\nS 4 4 3 5\nS 3 4 4 5\nR 3 4\n";
-    let expected = "I ! 3\nR ! 6\nR ! 3\nP ! 3\nI 0 1\nI ! 5\nR ! 6\n\
-        S ! 3\nS ! 3\nS ! 3\nS ! 3\nS ! 3\nS 1 1\nE 3 4 5\nR 0 0\n";
-    assert_eq!(printed(input.as_bytes()), expected);
+    check_session(&REFUSALS, printed_in_parts);
 }
 
-/// A line over 80 bytes gives one answer, however long it is and however it is read.
 #[test]
 fn long_lines() {
-    let long = [
-        79, 80, 81, 82, 160, 4095, 4096, 4097, 65_535, 65_536, 65_537, 131_072, 3_000_000,
-    ];
-    for length in long {
-        for byte in [b'C', b'1', b' ', 0] {
-            let long = vec![byte; length];
-            let input = [b"I 1 2 3\n", &long[..], b"\nP 1 2\n", &long[..]].concat();
-            let expected = "I 0 1\n?\nP 1 1 3\n?\n";
-            let label = format!("{length} bytes of {byte}");
-            assert_eq!(printed(&input), expected, "{label}");
-            let parts = printed_in_parts(&input, &[1000, 1, 80]);
-            assert_eq!(parts, expected, "{label}");
-        }
-    }
-    // A command followed by too much is no command, also where a line of 80 bytes ends with one.
-    let padded = format!("{:0>80}\nC{:>90}\nI 1 2 3\n", "C", "");
-    assert_eq!(printed(padded.as_bytes()), "?\n?\nI 0 1\n");
+    check_long_lines(printed_in_parts);
 }
 
 /// Commands, the longest among them, followed by up to 160 bytes more: other lines, but for zeros

@@ -7,7 +7,7 @@ mod support;
 use memory_support::built::{built_trees, chain, chain_of_sixteens};
 use memory_support::changes::{change, change_images, change_singly};
 use memory_support::histories::random_history;
-use memory_support::images::{any_image, any_tree, first_parts, last_parts, nodes};
+use memory_support::images::{any_image, any_tree, first_parts, last_parts, nodes, small_grid};
 use memory_support::ragged::{ragged, Ragged};
 use memory_support::session::Session;
 use memory_support::steep::{full_leaf_cells, steep_tree};
@@ -93,14 +93,7 @@ fn small_grids() {
     let mut tally = Tally::default();
     for case in 0..1500 {
         let mut random = Random::for_case(seed, 1402, case);
-        let n = random.between(1, 14) as usize;
-        let [width, height] = [0, 1].map(|_| random.between(2, 12));
-        let corner = random.pick(&[[0, 0], [65536 - width, 65536 - height], [40, 3]]);
-        let [x, y] = corner;
-        let square = Rectangle::new(x, y, x + width, y + height);
-        let levels = random.between(1, n.min(4) as u32) as usize;
-        let tree = tree_of(levels, n, square, &mut random);
-        let image = any_image(n, Some(&tree), &mut random);
+        let (_, image) = small_grid(14, [2, 12], &mut random);
         let label = format!("LINTZOGER_SEED={seed}, small grid {case}");
         tally.add_all(&change_images(&[image], 60, &mut random, &label));
     }

@@ -5,7 +5,7 @@ mod support;
 
 use memory_support::built::{built_trees, chain, chain_of_sixteens};
 use memory_support::histories::{history, random_history, WHOLE};
-use memory_support::images::{any_image, any_tree, first_parts, last_parts, nodes};
+use memory_support::images::{any_image, any_tree, first_parts, last_parts, nodes, small_grid};
 use memory_support::outcome::ACCEPTED;
 use memory_support::queries::{any_window, corner_cells, edge_windows, with_margin, Queried, LONG};
 use memory_support::trees::tree_of;
@@ -76,14 +76,7 @@ fn every_cell_of_small_grids() {
     let mut tally = Tally::default();
     for case in 0..400 {
         let mut random = Random::for_case(seed, 660, case);
-        let n = random.between(1, 12) as usize;
-        let [width, height] = [0, 1].map(|_| random.between(1, 9));
-        let corner = random.pick(&[[0, 0], [65536 - width, 65536 - height], [40, 3]]);
-        let [x, y] = corner;
-        let square = Rectangle::new(x, y, x + width, y + height);
-        let levels = random.between(1, n.min(4) as u32) as usize;
-        let tree = tree_of(levels, n, square, &mut random);
-        let image = any_image(n, Some(&tree), &mut random);
+        let (square, image) = small_grid(12, [1, 9], &mut random);
         let mut queried = Queried::new(&image, &mut tally);
         let place = format_args!("LINTZOGER_SEED={seed}, case {case}");
         queried.all_cells(with_margin(square), place);

@@ -1,7 +1,8 @@
 //! Images of trees at parts that the layout admits.
 
 use super::histories::random_history;
-use super::trees::random_tree;
+use super::trees::{random_tree, tree_of};
+use reference::geometry::Rectangle;
 use reference::memory::image;
 use reference::random::Random;
 use reference::tree::Tree;
@@ -45,4 +46,20 @@ pub fn any_tree(n: usize, random: &mut Random) -> Option<Tree> {
     } else {
         Some(random_tree(n, random))
     }
+}
+
+/// A small rectangle at an end of the grid or between, and the image of a random tree that has it as
+/// the root's. At most so many parts; sides of these lengths.
+pub fn small_grid(
+    most_parts: u32,
+    [shortest, longest]: [u32; 2],
+    random: &mut Random,
+) -> (Rectangle, Vec<u32>) {
+    let n = random.between(1, most_parts) as usize;
+    let [width, height] = [0, 1].map(|_| random.between(shortest, longest));
+    let [x, y] = random.pick(&[[0, 0], [65536 - width, 65536 - height], [40, 3]]);
+    let square = Rectangle::new(x, y, x + width, y + height);
+    let levels = random.between(1, n.min(4) as u32) as usize;
+    let tree = tree_of(levels, n, square, random);
+    (square, any_image(n, Some(&tree), random))
 }

@@ -22,6 +22,7 @@ pub mod settle;
 pub mod shapes;
 pub mod sound;
 pub mod streams;
+pub mod tables;
 pub mod tally;
 pub mod trace;
 
