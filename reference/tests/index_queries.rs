@@ -119,6 +119,28 @@ fn every_window_of_tiny_grids() {
     );
 }
 
+/// All entries of a full index and about half of them, with lists of every length from 0 to enough
+/// plus one. The trees are the same for every seed, so that they are known to use all parts.
+#[test]
+fn every_list_of_full_indexes() {
+    let mut tally = Tally::default();
+    for n in [64, 256] {
+        let tree = history(n, 12 * n, WHOLE, &mut Random::new(n as u64)).expect("not empty");
+        assert_eq!(tree.nodes(), n);
+        let image = image(n, Some(&tree), &first_parts(n));
+        let mut queried = Queried::new(&image, &mut tally);
+        let place = format_args!("full index, N = {n}");
+        let mut columns: Vec<u32> = tree.entries().iter().map(|e| e.cell[0]).collect();
+        columns.sort_unstable();
+        let (all, middle) = (columns.len(), columns[columns.len() / 2]);
+        let matches = queried.window_with_lists([0, 0, 65536, 65536], place);
+        assert_eq!(matches, all, "{place}");
+        let matches = queried.window_with_lists([0, 0, middle, 65536], place);
+        assert!(2 * matches > all - 9 && 2 * matches <= all, "{place}");
+    }
+    say(&format!("lists of full indexes: {tally}"));
+}
+
 /// Every N: a random tree and a chain that uses all parts.
 #[test]
 fn every_n() {

@@ -46,15 +46,16 @@ impl<'a> Queried<'a> {
         output.matches as usize
     }
 
-    /// The window with lists of every length from 0 to enough plus one, or, where that is long, at
-    /// the ends of that range.
-    pub fn window_with_lists(&mut self, window: [u32; 4], place: Arguments) {
-        let enough = 3 * self.window(window, LONG, place);
-        for length in 0..=enough + 1 {
-            if enough <= 200 || length < 4 || length + 4 > enough {
-                self.window(window, length, place);
-            }
+    /// The window with lists of every length from 0 to enough plus one. Returns the matches.
+    pub fn window_with_lists(&mut self, window: [u32; 4], place: Arguments) -> usize {
+        let matches = self.window(window, LONG, place);
+        for length in 0..=3 * matches + 1 {
+            let output = self.lent.window(&self.reading, window, length, place);
+            let answer = if length < 3 * matches { 9 } else { 0 };
+            assert_eq!(output.answer, answer, "{place}: list of {length}");
+            self.tally.count(output.kind());
         }
+        matches
     }
 
     /// Every cell of the square.
