@@ -4,8 +4,8 @@
 mod memory_support;
 mod support;
 
-use memory_support::built::{built_trees, chain, chain_of_sixteens};
-use memory_support::changes::{change, change_images, change_singly};
+use memory_support::built::{below, built_trees, chain, chain_of_sixteens};
+use memory_support::changes::{change, change_images, change_singly, empty_in_order};
 use memory_support::histories::random_history;
 use memory_support::images::{any_image, any_tree, first_parts, last_parts, nodes, small_grid};
 use memory_support::ragged::{ragged, Ragged};
@@ -43,7 +43,9 @@ fn built() {
                 any_image(n, Some(tree), &mut random),
             ];
             for image in &images {
-                tally.add_all(&change_singly(image, random.pick(&DIRTS), &label));
+                let dirt = random.pick(&DIRTS);
+                tally.add_all(&change_singly(image, dirt, &label));
+                tally.add_all(&empty_in_order(image, dirt, &label));
             }
             tally.add_all(&change_images(&images, 60, &mut random, &label));
         }
@@ -101,16 +103,17 @@ fn small_grids() {
     tally.require(100, &CHANGED);
 }
 
-/// Full paths of two to eight levels: an insertion splits nodes at every level, and the branches
-/// beside the path recursively.
+/// Full paths of one to eight levels, from the root down or below a root with one branch: an
+/// insertion splits nodes at every level, and the branches beside the path recursively.
 #[test]
 fn full_paths() {
     let seed = seed();
     let mut tally = Tally::default();
-    for case in 0..400 {
+    for case in 0..800 {
         let mut random = Random::for_case(seed, 1403, case);
         let levels = 1 + case as usize % 8;
         let tree = steep_tree(levels, GRID, &mut random);
+        let tree = below(&tree, case as usize / 8 % 2);
         let more = random.pick(&[0, 1, levels, levels + 1, 3 * levels, 60]);
         let n = (tree.nodes() + more).min(MOST_PARTS);
         let image = any_image(n, Some(&tree), &mut random);
@@ -135,7 +138,7 @@ fn full_paths() {
 fn ragged_trees() {
     let seed = seed();
     let mut tally = Tally::default();
-    for case in 0..3000 {
+    for case in 0..4000 {
         let mut random = Random::for_case(seed, 1406, case);
         let copies = random.pick(&[1, 1, 2, 6, 7, 8, 9, 10, 16]);
         let Ragged { tree, cell } = ragged(copies, &mut random);

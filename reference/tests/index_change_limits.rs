@@ -5,12 +5,13 @@
 mod memory_support;
 mod support;
 
+use memory_support::built::below;
 use memory_support::images::{any_image, nodes};
 use memory_support::session::Session;
 use memory_support::work::{Dirt, DIRTS};
 use reference::geometry::Cell;
 use reference::random::Random;
-use reference::tree::{Branch, Node, Tree};
+use reference::tree::Tree;
 use support::checked::{Checked, Command};
 use support::limits::{
     across, around_the_limit, below_a_parent, filled_bars, pieces, row_after_the_bars, rungs,
@@ -124,21 +125,6 @@ fn limit_before_nodes() {
         ladder::put_all(&mut built, &ladder::eight(bars::EDGE, 0)[1..]);
         let tree = tree_of(&built);
         insert_into(&tree, cell, nodes(Some(&tree)), answer);
-    }
-}
-
-/// The tree below so many one-branch nodes, which all have the root's rectangle.
-fn below(tree: &Tree, levels: usize) -> Tree {
-    let mut root = tree.root.clone();
-    for _ in 0..levels {
-        root = Node::routing(vec![Branch {
-            child: root,
-            polygon: vec![tree.rectangle],
-        }]);
-    }
-    Tree {
-        rectangle: tree.rectangle,
-        root,
     }
 }
 

@@ -229,7 +229,7 @@ fn random_damage() {
 fn held_and_not_held() {
     let seed = seed();
     let mut tally = Tally::default();
-    for case in 0..150 {
+    for case in 0..400 {
         let mut random = Random::for_case(seed, 1305, case);
         let n = random.pick(&[1, 2, 3, 7, 12, 24]);
         let tree = any_tree(n, &mut random);

@@ -3,7 +3,7 @@
 mod memory_support;
 mod support;
 
-use memory_support::built::{built_trees, chain, chain_of_sixteens};
+use memory_support::built::{built_trees, chain, chain_of_sixteens, eight_of_eight};
 use memory_support::damage::{random_changes, single_changes, Change};
 use memory_support::damaged::Damaged;
 use memory_support::histories::{history, WHOLE};
@@ -137,7 +137,20 @@ fn numbers_of_large_images() {
     tally.require(30, &["images accepted"]);
 }
 
-/// Every bit of every number of small images.
+/// Each bit of each number of the image, one at a time.
+fn change_bits(tree: Option<&Tree>, n: usize, name: &str, random: &mut Random) -> Tally {
+    let image = any_image(n, tree, random);
+    let mut damaged = Damaged::new(image.clone(), tree, random);
+    for (place, &number) in image.iter().enumerate() {
+        for bit in 0..32 {
+            let change = (place, number ^ 1 << bit);
+            damaged.compare(&[change], format_args!("{name}"));
+        }
+    }
+    damaged.tally
+}
+
+/// Every bit of every number of small images, and of one with 64 entries: their tags are free.
 #[test]
 fn every_bit() {
     let seed = seed();
@@ -146,17 +159,12 @@ fn every_bit() {
         let mut random = Random::for_case(seed, 605, case);
         let n = 1 + case as usize % 4;
         let tree = any_tree(n, &mut random);
-        let image = any_image(n, tree.as_ref(), &mut random);
-        let mut damaged = Damaged::new(image.clone(), tree.as_ref(), &mut random);
-        for (place, &number) in image.iter().enumerate() {
-            for bit in 0..32 {
-                let change = (place, number ^ 1 << bit);
-                let name = format_args!("LINTZOGER_SEED={seed}, case {case}");
-                damaged.compare(&[change], name);
-            }
-        }
-        tally.add_all(&damaged.tally);
+        let name = format!("LINTZOGER_SEED={seed}, case {case}");
+        tally.add_all(&change_bits(tree.as_ref(), n, &name, &mut random));
     }
+    let mut random = Random::for_case(seed, 605, 24);
+    let name = format!("LINTZOGER_SEED={seed}, eight leaves of eight");
+    tally.add_all(&change_bits(Some(&eight_of_eight()), 9, &name, &mut random));
     say(&format!("every bit: {tally}"));
     tally.require(250_000, &["images refused"]);
     tally.require(1_000, &["images accepted"]);

@@ -3,7 +3,7 @@
 mod memory_support;
 mod support;
 
-use memory_support::built::{built_trees, chain};
+use memory_support::built::{built_trees, chain, eight_of_eight};
 use memory_support::damaged::Damaged;
 use memory_support::images::{any_parts, nodes};
 use memory_support::trees::random_tree;
@@ -171,14 +171,10 @@ fn orphans() {
 /// once its part is zero and its bit too.
 #[test]
 fn a_leaf_taken_out() {
-    let eight = built_trees();
-    let (_, tree) = eight
-        .iter()
-        .find(|(name, _)| *name == "eight leaves of eight")
-        .expect("a tree of that name");
+    let tree = eight_of_eight();
     let mut random = Random::new(seed());
-    let image = image(9, Some(tree), &[0, 1, 2, 3, 4, 5, 6, 7, 8]);
-    let mut damaged = Damaged::new(image.clone(), Some(tree), &mut random);
+    let image = image(9, Some(&tree), &[0, 1, 2, 3, 4, 5, 6, 7, 8]);
+    let mut damaged = Damaged::new(image.clone(), Some(&tree), &mut random);
     let root = layout::start_of(8);
     let count = (root + layout::ITEM_COUNT, 7);
     let child = (root + layout::ITEMS + 7, 0);

@@ -8,7 +8,7 @@ use memory_support::session::Session;
 use memory_support::work::{Dirt, DIRTS};
 use reference::random::Random;
 use support::checked::Command;
-use support::streams::Stream;
+use support::streams::{ending, Stream};
 use support::tally::Tally;
 use support::{say, seed};
 
@@ -47,6 +47,9 @@ fn run(plan: &Plan) -> Tally {
             }
             let command = stream.next(session.held(), accepted);
             accepted = session.apply(command) == 0;
+        }
+        for command in ending() {
+            session.apply(command);
         }
         tally.add_all(&session.tally);
     }

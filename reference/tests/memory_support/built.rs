@@ -91,7 +91,8 @@ pub fn not_covered() -> Tree {
     tree([0, 0, 65, 65], vec![routing(&scattered(16), vec![child])])
 }
 
-fn eight_of_eight() -> Tree {
+/// Eight leaves of eight entries each.
+pub fn eight_of_eight() -> Tree {
     let column = |i: u32| {
         let cells: Vec<[u32; 2]> = (0..8).map(|y| [10 * i + y, y]).collect();
         leaf(&[[10 * i, 0, 10 * i + 10, 8]], &cells)
@@ -130,6 +131,21 @@ pub fn chain(levels: usize) -> Tree {
     Tree {
         rectangle: root,
         root: node,
+    }
+}
+
+/// The tree below so many one-branch nodes, which all have the root's rectangle.
+pub fn below(tree: &Tree, levels: usize) -> Tree {
+    let mut root = tree.root.clone();
+    for _ in 0..levels {
+        root = Node::routing(vec![Branch {
+            child: root,
+            polygon: vec![tree.rectangle],
+        }]);
+    }
+    Tree {
+        rectangle: tree.rectangle,
+        root,
     }
 }
 

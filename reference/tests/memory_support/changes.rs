@@ -54,6 +54,23 @@ pub fn change_images(images: &[Vec<u32>], count: usize, random: &mut Random, lab
     tally
 }
 
+/// All entries of an image removed in the tree's order, and in the opposite order.
+pub fn empty_in_order(image: &[u32], dirt: Dirt, label: &str) -> Tally {
+    let mut tally = Tally::default();
+    for is_reversed in [false, true] {
+        let mut session = Session::of_image(image, dirt, label.to_string());
+        let mut cells: Vec<Cell> = session.held().iter().map(|e| e.cell).collect();
+        if is_reversed {
+            cells.reverse();
+        }
+        for cell in cells {
+            session.expect(Command::Remove(cell), 0);
+        }
+        tally.add_all(&session.tally);
+    }
+    tally
+}
+
 /// Each entry of an image removed alone, and each cell of its entries' neighbours inserted alone.
 pub fn change_singly(image: &[u32], dirt: Dirt, label: &str) -> Tally {
     let mut tally = Tally::default();

@@ -7,7 +7,7 @@ use reference::random::Random;
 use reference::tree::Entry;
 
 /// A result list for all entries of any index.
-const LONG: usize = 3 * 2048;
+pub const LONG: usize = 3 * 2048;
 
 /// A point or window query near a cell or a held one.
 pub fn query(cell: Cell, held: &[Entry], random: &mut Random) -> Command {

@@ -3,9 +3,10 @@
 //! call was accepted, not by the tree.
 
 use super::checked::Command;
-use super::others::{query, refused};
+use super::others::{query, refused, LONG};
 use super::shapes::{cells, put_in_order, ORDERS, SHAPES};
-use reference::geometry::Cell;
+use super::GRID_END;
+use reference::geometry::{Cell, Rectangle};
 use reference::random::Random;
 use reference::tree::Entry;
 
@@ -144,4 +145,35 @@ impl Stream {
             self.next.push(Command::Remove(cell));
         }
     }
+}
+
+/// The commands at the end of each stream: they have each outcome that the streams of every N must
+/// have, so that no seed can miss one. The index is empty after.
+pub fn ending() -> [Command; 20] {
+    use Command::{Clear, Insert, Point, Remove, Window};
+    let (near, far, between, off_grid) = ([5, 5], [8, 8], [6, 6], [GRID_END, 5]);
+    let whole = Rectangle::new(0, 0, GRID_END, GRID_END);
+    [
+        // After this the index is not empty, whether it is accepted or not.
+        Insert(near, 1),
+        Clear,
+        Point(near),
+        Window(whole, LONG),
+        Insert(near, 2),
+        Insert(far, 3),
+        Insert(near, 4),
+        Insert(off_grid, 5),
+        Remove(off_grid),
+        Remove(between),
+        Point(near),
+        Point(between),
+        Point(off_grid),
+        Window(Rectangle::new(6, 6, 7, 7), LONG),
+        Window(Rectangle::new(5, 5, 6, 6), LONG),
+        Window(whole, LONG),
+        Window(whole, 2),
+        Window(Rectangle::new(5, 5, 5, 6), LONG),
+        Remove(far),
+        Remove(near),
+    ]
 }
