@@ -6,9 +6,9 @@ ghost use lib.ListN.{length};
 ghost use Rattle.bench.specs.Bounds.{Within, Short, Lengths};
 use libc::STDIN_FILENO;
 use libc::STDOUT_FILENO;
+use session::answer_line;
 use session::answer_lines;
 use session::keep_rest;
-use session::respond;
 
 // What answering the whole lines of the input left.
 enum Rest {
@@ -97,7 +97,7 @@ fn answer_last(
     if kept == 0 {
         return;
     }
-    let n = respond(&input[0..kept], m, work, list, out, 0);
+    let n = answer_line(&input[0..kept], m, work, list, out, 0);
     io::write_all(STDOUT_FILENO, &out[0..n]);
 }
 

@@ -1,3 +1,4 @@
+pub mod OpeningLaws
 pub mod ResponseWays
 pub mod StreamLaws
 pub mod StreamLoops

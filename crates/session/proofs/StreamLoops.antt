@@ -12,9 +12,13 @@ use Rattle.commands.specs.declared.parsing.Command.{Command}
 use Rattle.commands.specs.Split.{splitAt, piecesBehind, PieceEnd}
 use Rattle.commands.specs.Commands.{commandOf}
 use Rattle.commands.specs.Text.{Appended}
+use Rattle.index.specs.declared.opening.Opened.{Opened}
+use Rattle.index.specs.Open.{OpenedAs, Reads}
 use Rattle.session.specs.declared.stream.Progress.{Progress}
+use Rattle.session.specs.Opening.{isIndex}
 use Rattle.session.specs.Response.{Lent, lent, CarriedOut, longest, Responded}
 use Rattle.session.specs.Stream.{commandsOf, OnePiece, Ran, none, first, LinesAnswered, Kept}
+use Rattle.session.proofs.OpeningLaws.{opened-reads, carried-reads}
 use Rattle.session.proofs.StreamLaws.{line-ended}
 
 -- one more command
@@ -23,7 +27,7 @@ ran-more c d t (none {a = a}) v = rw (← (append-nil t)) (first d t v none)
 ran-more c d t (first {ts = ts} e s u r) v = rw append-assoc (first e s u (ran-more c d t r v))
 
 -- The lines before the place next were answered; their answers are the bytes written.
-pub record Answering (input : List ℕ) (from : ℕ) (a b : Lent) (out₀ out : List ℕ) (room next written : ℕ) : Type 0 where
+pub record Answering (input : List ℕ) (from : ℕ) (a b : Lent) (out₀ out : List ℕ) (room next written : ℕ) (known : Bool) : Type 0 where
   pub commands : List Command
   pub read : (more : List ℕ) → commandsOf (drop from input ++ more) ≡ commands ++ commandsOf (drop next input ++ more)
   pub ran : Ran commands a b (take written out)
@@ -36,9 +40,10 @@ pub record Answering (input : List ℕ) (from : ℕ) (a b : Lent) (out₀ out : 
   pub same-work : length (b .work) ≡ length (a .work)
   pub same-list : length (b .list) ≡ length (a .list)
   pub same-out : length out ≡ length out₀
+  pub sound : known ≡ true → Reads (b .index)
 
 module _ (input : List ℕ) (from : ℕ) (a : Lent) (out₀ : List ℕ) where
-  pub answer-start : from ≤ length input → 64 + 12 * length (a .list) ≤ length out₀ → Answering input from a a out₀ out₀ (length out₀ - (64 + 12 * length (a .list))) from 0
+  pub answer-start : from ≤ length input → 64 + 12 * length (a .list) ≤ length out₀ → Answering input from a a out₀ out₀ (length out₀ - (64 + 12 * length (a .list))) from 0 false
   answer-start h k = record {
     commands = [];
     read = λ more. refl;
@@ -52,12 +57,16 @@ module _ (input : List ℕ) (from : ℕ) (a : Lent) (out₀ : List ℕ) where
     same-work = refl;
     same-list = refl;
     same-out = refl;
+    sound = λ e. absurd (false≢true e);
   }
 
-  pub answer-room : (m w l out : List ℕ) (room next written : ℕ) → Answering input from a (lent m w l) out₀ out room next written → written ≤ room → written + (64 + 12 * length l) ≤ length out
-  answer-room m w l out room next written v h = omega (arith, v .space)
+  pub answer-room : (m w l out : List ℕ) (room next written : ℕ) (known : Bool) → Answering input from a (lent m w l) out₀ out room next written known → written ≤ room → written + (64 + 12 * length l) ≤ length out
+  answer-room m w l out room next written known v h = omega (arith, v .space)
 
-  module _ (b : Lent) (out : List ℕ) (room next written : ℕ) (v : Answering input from a b out₀ out room next written) where
+  pub answer-sound : (m w l out : List ℕ) (room next written : ℕ) (known : Bool) → Answering input from a (lent m w l) out₀ out room next written known → known ≡ true → Reads m
+  answer-sound m w l out room next written known v = v .sound
+
+  module _ (b : Lent) (out : List ℕ) (room next written : ℕ) (known : Bool) (v : Answering input from a b out₀ out room next written known) where
     -- no whole line is left
     pub answer-done : (end : ℕ) → PieceEnd 10 input next end → end ≡ length input → LinesAnswered input from a b out (record { next = next; written = written; done = true })
     unfolding piecesBehind
@@ -100,10 +109,10 @@ module _ (input : List ℕ) (from : ℕ) (a : Lent) (out₀ : List ℕ) where
           let d : drop end input ≡ getD input end 0 ∷ drop (suc end) input = drop-cons input end 0 ended in
           line-ended (drop next input) (take (end - next) (drop next input)) (drop (end + 1) input) more (p .pieces ∙ rw (d, add-one))
 
-      pub answer-again : written ≤ room → (b′ : Lent) (out′ : List ℕ) (written′ : ℕ) → Responded (take (end - next) (drop next input)) b b′ out written out′ written′
+      pub answer-again : written ≤ room → (o : Opened) → OpenedAs (b .index) o → (known′ : Bool) → known′ ≡ isIndex o → (b′ : Lent) (out′ : List ℕ) (written′ : ℕ) → Responded (take (end - next) (drop next input)) b b′ out written out′ written′
           → length (b′ .index) ≡ length (b .index) → length (b′ .work) ≡ length (b .work) → length (b′ .list) ≡ length (b .list)
-          → Answering input from a b′ out₀ out′ room (end + 1) written′
-      answer-again g b′ out′ written′ r i w l = record {
+          → Answering input from a b′ out₀ out′ room (end + 1) written′ known′
+      answer-again g o q known′ e b′ out′ written′ r i w l = record {
         commands = v .commands ++ (commandOf (take (end - next) (drop next input)) ∷ []);
         read = λ more. v .read more ∙ rw (line-read more, append-assoc);
         ran = rw (r .put .bytes) (ran-more _ b′ (r .text) (v .ran) (r .done));
@@ -116,6 +125,7 @@ module _ (input : List ℕ) (from : ℕ) (a : Lent) (out₀ : List ℕ) where
         same-work = w ∙ v .same-work;
         same-list = l ∙ v .same-list;
         same-out = r .put .same-length ∙ v .same-out;
+        sound = λ f. carried-reads _ b b′ (r .text) (r .done) (opened-reads (b .index) o q (sym e ∙ f));
       }
 
 -- The first i bytes from a place on are at the start of the input.

@@ -4,6 +4,8 @@ ghost use Prim.Native.Nat.{_+_, _*_, _≤_, min};
 ghost use lib.ListN.{length};
 ghost use Rattle.session.specs.Response.{lent};
 ghost use Rattle.session.specs.Stream.{LinesAnswered, Kept};
+use crate::opening::is_index;
+use crate::opening::opened_as;
 use crate::response::respond;
 use commands::find_byte;
 
@@ -17,7 +19,8 @@ pub struct Progress {
 }
 
 // Answers the whole lines of the input from a place on, each up to its LF, as long as there is room for
-// one more answer. The answers are put at the start of out.
+// one more answer. The answers are put at the start of out. The index is tested for the first line; the calls
+// leave a sound one sound, so it need not be tested again.
 pub fn answer_lines(
     input: &[u8],
     from: usize,
@@ -32,6 +35,7 @@ pub fn answer_lines(
     let room = out.len() - (64 + 12 * list.len());
     let mut next = from;
     let mut written = 0;
+    let mut known = false;
     while written <= room {
         let end = find_byte(input, next, b'\n');
         if end == input.len() {
@@ -41,7 +45,9 @@ pub fn answer_lines(
                 done: true,
             };
         }
-        written = respond(&input[next..end], m, work, list, out, written);
+        let opened = opened_as(m, known);
+        known = is_index(opened);
+        written = respond(&input[next..end], m, work, list, out, written, opened);
         next = end + 1;
     }
     Progress {

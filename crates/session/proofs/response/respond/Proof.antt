@@ -10,8 +10,8 @@ parse-requires c κs = search needs
 enum-known-command : tie.Need-enum-known-command
 enum-known-command c = search needs
 
-insert-requires : tie.Need-insert-requires
-insert-requires c κs = search needs
+insert-opened-requires : tie.Need-insert-opened-requires
+insert-opened-requires c κs = search needs
 
 put-inserted-requires : tie.Need-put-inserted-requires
 put-inserted-requires c κs = search needs
@@ -31,8 +31,8 @@ returns c = search respond-insert
 enum-known-command-2 : tie.Need-enum-known-command-2
 enum-known-command-2 c = search needs
 
-remove-requires : tie.Need-remove-requires
-remove-requires c κs = search needs
+remove-opened-requires : tie.Need-remove-opened-requires
+remove-opened-requires c κs = search needs
 
 put-removed-requires : tie.Need-put-removed-requires
 put-removed-requires c κs = search needs
@@ -49,8 +49,8 @@ returns-2 c = search respond-remove
 enum-known-command-3 : tie.Need-enum-known-command-3
 enum-known-command-3 c = search needs
 
-point-requires : tie.Need-point-requires
-point-requires c κs = search needs
+point-opened-requires : tie.Need-point-opened-requires
+point-opened-requires c κs = search needs
 
 put-point-requires : tie.Need-put-point-requires
 put-point-requires c κs = search needs
@@ -67,8 +67,8 @@ returns-3 c = search respond-point
 enum-known-command-4 : tie.Need-enum-known-command-4
 enum-known-command-4 c = search needs
 
-window-requires : tie.Need-window-requires
-window-requires c κs = search needs
+window-opened-requires : tie.Need-window-opened-requires
+window-opened-requires c κs = search needs
 
 put-window-requires : tie.Need-put-window-requires
 put-window-requires c κs = (search window-listed, search needs)
@@ -121,26 +121,26 @@ respond-spec =
     (tie.spec
     parse-requires
     enum-known-command
-    insert-requires
+    insert-opened-requires
     put-inserted-requires
     same-length
     same-length-2
     same-length-3
     returns
     enum-known-command-2
-    remove-requires
+    remove-opened-requires
     put-removed-requires
     same-length-4
     same-length-5
     returns-2
     enum-known-command-3
-    point-requires
+    point-opened-requires
     put-point-requires
     same-length-6
     same-length-7
     returns-3
     enum-known-command-4
-    window-requires
+    window-opened-requires
     put-window-requires
     same-length-8
     same-length-9

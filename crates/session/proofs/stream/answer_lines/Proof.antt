@@ -2,16 +2,16 @@
 use Prim.Native.Nat.{_-_}
 use lib.ListN.{length}
 use Rattle.session.specs.Response.{lent}
-use Rattle.session.proofs.StreamLoops.{Answering, answer-start, answer-room, answer-done, answer-full, answer-again}
+use Rattle.session.proofs.StreamLoops.{Answering, answer-start, answer-room, answer-sound, answer-done, answer-full, answer-again}
 use borrow.Author.Needs.{needs}
 use Rattle.session.proofs.stream.answer_lines.Statement.{statement}
 use Rattle.session.proofs.stream.answer_lines.Tie as tie
 
 abbrev Inv-loop : tie.InvT-loop
-Inv-loop input from m₀ work₀ list₀ out₀ room next₀ written₀ m work list out next written = Answering input from (lent m₀ work₀ list₀) (lent m work list) out₀ out room next written
+Inv-loop input from m₀ work₀ list₀ out₀ room next₀ written₀ known₀ m work list out next written known = Answering input from (lent m₀ work₀ list₀) (lent m work list) out₀ out room next written known
 
 abbrev μ-loop : tie.MeasureT-loop
-μ-loop input from m₀ work₀ list₀ out₀ room next₀ written₀ m work list out next written = length input - next
+μ-loop input from m₀ work₀ list₀ out₀ room next₀ written₀ known₀ m work list out next written known = length input - next
 
 mul-room : tie.Need-mul-room Inv-loop μ-loop
 mul-room c = search needs
@@ -43,6 +43,12 @@ same-length-4 c = search needs
 returns : tie.Need-returns Inv-loop μ-loop
 returns c = search answer-done
 
+opened-as-requires : tie.Need-opened-as-requires Inv-loop μ-loop
+opened-as-requires c κs = search answer-sound
+
+is-index-requires : tie.Need-is-index-requires Inv-loop μ-loop
+is-index-requires c κs = search needs
+
 sub-respond : tie.Need-sub-respond Inv-loop μ-loop
 sub-respond c = search needs
 
@@ -53,7 +59,7 @@ part-respond-end : tie.Need-part-respond-end Inv-loop μ-loop
 part-respond-end c = search needs
 
 respond-requires : tie.Need-respond-requires Inv-loop μ-loop
-respond-requires c κs = search answer-room
+respond-requires c κs = (search answer-room, search needs)
 
 add-next : tie.Need-add-next Inv-loop μ-loop
 add-next c = search needs
@@ -95,6 +101,8 @@ answer-lines-spec =
     same-length-3
     same-length-4
     returns
+    opened-as-requires
+    is-index-requires
     sub-respond
     part-respond-start
     part-respond-end

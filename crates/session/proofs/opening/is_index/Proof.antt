@@ -1,0 +1,26 @@
+-- `opening::is_index` meets its contract.
+use Rattle.session.proofs.OpeningLaws.{not-index, empty-index, tree-index}
+use borrow.Author.Needs.{needs}
+use Rattle.session.proofs.opening.is_index.Statement.{statement}
+use Rattle.session.proofs.opening.is_index.Tie as tie
+
+enum-told : tie.Need-enum-told
+enum-told c = search needs
+
+enum-told-2 : tie.Need-enum-told-2
+enum-told-2 c = search needs
+
+enum-told-3 : tie.Need-enum-told-3
+enum-told-3 c = search needs
+
+returns : tie.Need-returns
+returns c = search not-index
+
+returns-2 : tie.Need-returns-2
+returns-2 c = search empty-index
+
+returns-3 : tie.Need-returns-3
+returns-3 c = search tree-index
+
+pub is-index-spec : {M : Type 1} → statement M
+is-index-spec = tie.close (tie.spec enum-told enum-told-2 enum-told-3 returns returns-2 returns-3)
