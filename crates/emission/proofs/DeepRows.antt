@@ -5,11 +5,9 @@ use mathlib.Core.Bool.{Bool, true, false, cond}
 use mathlib.Core.List.{List, [], _∷_, _++_, append-nil, append-assoc, flatMap}
 use mathlib.Core.Option.{Option, none, some}
 use native.Mathlib.Omega.{arith}
-use native.Mathlib.Numerals.{add-one}
 use mir.Syntax.{w32}
 use mir.Val.{Fits}
-use lib.ListN.{length, drop, getD, length-append, drop-of-length-le}
-use lib.Seq.{drop-cons, getD-take, getD-drop}
+use lib.ListN.{length, drop, length-append, drop-of-length-le}
 use Rattle.geometry.specs.declared.rect.Line.{Line}
 use Rattle.geometry.specs.declared.rect.Rect.{Rect}
 use Rattle.tree.specs.Lists.{keep}
@@ -21,11 +19,11 @@ use Rattle.plane.specs.Lines.{CellEntry}
 use Rattle.plane.specs.Plane.{planeSpace}
 use Rattle.memory.specs.Layout.{part, itemCount, polygonIn, entriesIn, childrenIn}
 use Rattle.memory.specs.Reading.{readRow, readNode}
-use Rattle.memory.proofs.ReadingLaws.{row-parts, leaf-parts, node-parts, node-below, children-length}
+use Rattle.memory.proofs.ReadingLaws.{row-parts, leaf-parts, node-parts}
 use Rattle.index.specs.Answers.{fanout}
 use Rattle.index.specs.Walks.{Walkable, countAt, childAt, leafEntries}
-use Rattle.index.proofs.WalkParts.{part-at}
 use Rattle.index.proofs.WalkRows.{RowWalkable, walkable}
+use Rattle.index.proofs.WalkLoop.{children-count, next-child}
 use Rattle.sides.specs.Sides.{sidesOf, onEvery}
 use Rattle.sides.proofs.SideLaws.{entry-on}
 use Rattle.emission.specs.Emits.{deepOf, deepAt}
@@ -128,25 +126,6 @@ deep-step n m lo hi j ks ss v =
       whole = rw (e, r .head, r .tail);
     }
 
--- the children in place
-module _ (n : ℕ) (m : List ℕ) (lo k : ℕ) (v : Walkable n m lo k) where
-  count-is : length (childrenIn (part m k)) ≡ countAt m k
-  count-is =
-      let e = part-at m k 1 (omega arith) in
-      let f = v .few in
-      children-length fanout m k (node-below fanout m n lo k (v .node) (v .reads)) (omega arith) ∙ e
-
-  next-child : (i : ℕ) → i < countAt m k → drop i (childrenIn (part m k)) ≡ childAt m k i ∷ drop (i + 1) (childrenIn (part m k))
-  next-child i h =
-      let c = count-is in
-      let f = v .few in
-      let e = part-at m k 1 (omega arith) in
-      let s : i < length (childrenIn (part m k)) = omega arith in
-      let at : getD (childrenIn (part m k)) i 0 ≡ childAt m k i =
-      getD-take (itemCount (part m k)) (drop 66 (part m k)) i 0 (omega arith) ∙ getD-drop 66 (part m k) i 0 ∙ part-at m k (66 + i) (omega arith)
-      ∙ ap (λ j. getD m j 0) (let q : 64 + 128 * k + (66 + i) ≡ 64 + 128 * k + 66 + i = omega arith in q) in
-      drop-cons (childrenIn (part m k)) i 0 s ∙ rw (at, add-one)
-
 -- Before the i-th child of the node at part k: bs are left of those that were passed, and low is the child's lower end.
 pub record AtDeep (n : ℕ) (m : List ℕ) (lo k : ℕ) (ss : List ℕ) (i low : ℕ) (bs : List (Item (planeSpace fanout) (suc n))) : Type 0 where
   pub i-le : i ≤ countAt m k
@@ -167,7 +146,7 @@ deep-start n m lo k ss v = record {
 module _ (n : ℕ) (m : List ℕ) (lo k : ℕ) (ss : List ℕ) (i low : ℕ) (bs : List (Item (planeSpace fanout) (suc n))) (a : AtDeep n m lo k ss i low bs) where
   pub deep-end : countAt m k ≤ i → bs ≡ childrenLeft n m lo k ss
   deep-end h =
-      let c = count-is (suc n) m lo k (a .walk) in
+      let c = children-count (suc n) m lo k (a .walk) in
       let s : length (childrenIn (part m k)) ≤ i = omega arith in
       sym (append-nil bs) ∙ ap (λ (l : List (Item (planeSpace fanout) (suc n))). bs ++ l) (sym (no-row n m low k ss))
       ∙ (rw (drop-of-length-le (childrenIn (part m k)) s) at (a .whole))

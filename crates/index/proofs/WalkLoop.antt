@@ -19,18 +19,19 @@ use Rattle.index.specs.Walks.{visitsBelow, entriesBelow, Walkable, child
 use Rattle.index.proofs.WalkParts.{part-at}
 use Rattle.index.proofs.WalkRows.{RowWalkable, visitsRow, entriesRow, RowStep, row-step, row-no-visits, row-no-entries, node-row, node-visits, node-entries, walk-polygon, visits-few}
 
+-- the children in place
 module _ (n : ℕ) (m : List ℕ) (lo k : ℕ) (v : Walkable n m lo k) where
-  count-is : length (childrenIn (part m k)) ≡ countAt m k
-  count-is =
+  pub children-count : length (childrenIn (part m k)) ≡ countAt m k
+  children-count =
       let e = part-at m k 1 (omega arith) in
       let f = v .few in
       children-length fanout m k (node-below fanout m n lo k (v .node) (v .reads)) (omega arith) ∙ e
 
   -- the next child
-  next-child : (i : ℕ) → i < countAt m k
+  pub next-child : (i : ℕ) → i < countAt m k
       → drop i (childrenIn (part m k)) ≡ childAt m k i ∷ drop (i + 1) (childrenIn (part m k))
   next-child i h =
-      let c = count-is in
+      let c = children-count in
       let f = v .few in
       let e = part-at m k 1 (omega arith) in
       let s : i < length (childrenIn (part m k)) = omega arith in
@@ -63,7 +64,7 @@ module _ (t : List Rect → Bool) (u : CellEntry → Bool) where
   module _ (level : ℕ) (m : List ℕ) (lo k i low vs : ℕ) (es : List CellEntry) (a : AtChild t u level m lo k i low vs es) where
     nothing-left : countAt m k ≤ i → drop i (childrenIn (part m k)) ≡ []
     nothing-left h =
-        let c = count-is level m lo k (a .walkable) in
+        let c = children-count level m lo k (a .walkable) in
         let s : length (childrenIn (part m k)) ≤ i = omega arith in
         drop-of-length-le (childrenIn (part m k)) s
 

@@ -30,13 +30,13 @@ part-at m k i h = getD-take 128 (drop (64 + 128 * k) m) i 0 h ∙ getD-drop (64 
 pub part-first : (m : List ℕ) (k : ℕ) → getD (part m k) 0 0 ≡ getD m (64 + 128 * k) 0
 part-first m k = part-at m k 0 (omega arith) ∙ ap (λ i. getD m i 0) (let q : 64 + 128 * k + 0 ≡ 64 + 128 * k = omega arith in q)
 
-drop-take : {A : Type 0} (n k : ℕ) (l : List A) → drop n (take (n + k) l) ≡ take k (drop n l)
+pub drop-take : {A : Type 0} (n k : ℕ) (l : List A) → drop n (take (n + k) l) ≡ take k (drop n l)
 drop-take zero k l = ap (λ j. take j l) (let q : zero + k ≡ k = omega arith in q)
 drop-take (suc n) k [] = simp (take-nil, drop-nil)
 drop-take (suc n) k (a ∷ l) = let e : suc n + k ≡ suc (n + k) = omega arith in rw e (drop-take n k l)
 
 -- the numbers of a part from its second on
-part-rest : (m : List ℕ) (k : ℕ) → drop 2 (part m k) ≡ rectsAt m k
+pub part-rest : (m : List ℕ) (k : ℕ) → drop 2 (part m k) ≡ rectsAt m k
 unfolding part
 part-rest m k =
     let e : 64 + 128 * k + 128 - (64 + 128 * k + 2) ≡ 126 = omega arith in

@@ -27,12 +27,13 @@ use Rattle.plane.proofs.Rects.{plane-space-laws}
 use Rattle.plane.proofs.Steps.{plane-steps}
 use Rattle.memory.specs.Layout.{part, itemCount, entriesIn, childrenIn}
 use Rattle.memory.specs.Reading.{readRow, readNode}
-use Rattle.memory.proofs.ReadingLaws.{leaf-parts, node-parts, NodeParts, row-at, row-length, lowAt, low-to, part-below, node-lower, node-below, children-length}
+use Rattle.memory.proofs.ReadingLaws.{leaf-parts, node-parts, NodeParts, row-at, row-length, lowAt, low-to, part-below, node-lower}
 use Rattle.index.specs.Answers.{fanout}
 use Rattle.index.specs.Changes.{entryOf}
 use Rattle.index.specs.Walks.{Walkable, countAt, childAt}
 use Rattle.index.proofs.WalkParts.{part-at}
 use Rattle.index.proofs.WalkRows.{walkable}
+use Rattle.index.proofs.WalkLoop.{children-count}
 use Rattle.step2.specs.declared.choosing.Choice.{Choice}
 use Rattle.step2.specs.declared.choosing.Taken.the-variants.{Branch, Over}
 use Rattle.step2.specs.Choose.{Routing, ChosenBranch, ChosenAt, NoneChosen, ChoiceIs}
@@ -137,16 +138,10 @@ module _ (n : ℕ) (path m : List ℕ) (c : Cell) (d : Descending (suc n) path m
     abbrev parts : NodeParts fanout n m 0 k b
     parts = node-parts fanout n m 0 k b (d .walk .reads)
 
-    count-is : length (childrenIn (part m k)) ≡ countAt m k
-    count-is =
-        let e = part-at m k 1 (omega arith) in
-        let f = d .walk .few in
-        children-length fanout m k (node-below fanout m (suc n) 0 k b (d .walk .reads)) (omega arith) ∙ e
-
     pub place-below : place < countAt m k
     place-below =
         let l = row-length (readNode fanout n m) 0 k (childrenIn (part m k)) (b .child) (parts .row) in
-        let e = count-is in
+        let e = children-count (suc n) m 0 k (d .walk) in
         let h = x .below in
         omega arith
 
@@ -173,7 +168,7 @@ module _ (n : ℕ) (path m : List ℕ) (c : Cell) (d : Descending (suc n) path m
     child-reads : readNode fanout n m 0 (childAt m k place) ≡ some (x .old)
     child-reads =
         let h = place-below in
-        let e = count-is in
+        let e = children-count (suc n) m 0 k (d .walk) in
         node-lower fanout n m low 0 (childAt m k place) (x .old) (omega arith)
         (ap (readNode fanout n m low) (sym child-is) ∙ row-at (readNode fanout n m) 0 k (childrenIn (part m k)) place (b .child) (x .old) (parts .row) (omega arith) ∙ ap some old-is)
 

@@ -1,15 +1,16 @@
 -- The memory written from a work area is the image of its parts.
-use Prim.Native.Nat.{ℕ, zero, suc, _+_, _*_, _-_, _%_, _^_, _≤_, _<_, min}
-use mathlib.Core.Path.{_≡_, refl, sym, ap, _∙_, subst}
+use Prim.Native.Nat.{ℕ, suc, _+_, _*_, _-_, _%_, _^_, _≤_, _<_, min}
+use mathlib.Core.Path.{_≡_, sym, ap, _∙_}
 use mathlib.Core.List.{List, [], _∷_, _++_, append-assoc, append-nil, flatMap}
 use native.Mathlib.Omega.{arith}
 use native.Mathlib.Nat.{pow-suc}
 use lib.Pow.{pow-pos, pow-mono}
-use lib.ListN.{length, take, drop, getD, set, replicate, length-append, length-take, length-drop, drop-of-length-le}
-use lib.Seq.{take-at, drop-at, drop-drop, length-take-le, take-nil, drop-nil}
+use lib.ListN.{length, take, drop, set, replicate, length-append, length-take, length-drop, drop-of-length-le}
+use lib.Seq.{take-at, drop-at, length-take-le}
 use Rattle.plane.specs.Best.{upFrom}
 use Rattle.memory.specs.Image.{padded, bitsWord, headNumbers, memoryOf}
 use Rattle.memory.proofs.HeadImage.{head-length}
+use Rattle.index.proofs.WalkParts.{drop-take}
 use Rattle.insertion.specs.Writing.{written}
 
 -- the bits of a word
@@ -24,11 +25,6 @@ all-bits n j h = let e : min 32 (n - 32 * j) ≡ 32 = omega arith in rw e
 pub some-bits : (n j : ℕ) → n - 32 * j < 32 → 2 ^ (n - 32 * j) - 1 ≡ bitsWord n j
 unfolding bitsWord
 some-bits n j h = let e : min 32 (n - 32 * j) ≡ n - 32 * j = omega arith in rw e
-
-drop-take : {A : Type 0} (n k : ℕ) (l : List A) → drop n (take (n + k) l) ≡ take k (drop n l)
-drop-take zero k l = ap (λ j. take j l) (let q : zero + k ≡ k = omega arith in q)
-drop-take (suc n) k [] = simp (take-nil, drop-nil)
-drop-take (suc n) k (a ∷ l) = let e : suc n + k ≡ suc (n + k) = omega arith in rw e (drop-take n k l)
 
 -- The memory put together, first numbers first: the parts and the zeros take the place of what stood there.
 module _ (m w : List ℕ) (parts height : ℕ) (fits : 64 + 128 * parts ≤ length m) (long : length w ≡ length m) where

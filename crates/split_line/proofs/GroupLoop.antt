@@ -6,13 +6,11 @@ use mathlib.Core.List.{List, [], _∷_, _++_, map, flatMap, append-nil, append-a
 use mathlib.Core.Option.{some}
 use native.Mathlib.Omega.{arith}
 use native.Mathlib.Decide.{ℕ-discrete, decLe}
-use native.Mathlib.Numerals.{add-one}
 use borrow.Author.Tests.{eq-eqb, ne-eqb, eqb-true}
 use mir.Syntax.{w32}
 use mir.Val.{Fits}
 use lib.Dec.{eqb}
-use lib.ListN.{length, drop, getD, drop-of-length-le}
-use lib.Seq.{drop-cons, getD-take, getD-drop}
+use lib.ListN.{length, drop, drop-of-length-le}
 use Rattle.geometry.specs.declared.rect.Cell.{Cell}
 use Rattle.geometry.specs.declared.rect.Line.{Line}
 use Rattle.geometry.specs.Cells.{onGrid, valid}
@@ -24,14 +22,14 @@ use Rattle.tree.proofs.Lists.{all-append, all-head, all-tail, flatMap-all}
 use Rattle.plane.specs.Lines.{CellEntry}
 use Rattle.plane.specs.Plane.{planeSpace}
 use Rattle.plane.specs.Candidates.{rankLine}
-use Rattle.memory.specs.Layout.{part, itemCount, childrenIn}
+use Rattle.memory.specs.Layout.{part, childrenIn}
 use Rattle.memory.specs.Reading.{readNode}
-use Rattle.memory.proofs.ReadingLaws.{RowParts, row-parts, row-none, row-length, node-parts, node-below, children-length}
+use Rattle.memory.proofs.ReadingLaws.{RowParts, row-parts, row-none, row-length, node-parts}
 use Rattle.index.specs.Answers.{fanout}
 use Rattle.index.specs.Changes.{entryOf}
-use Rattle.index.specs.Walks.{Walkable, countAt, childAt}
-use Rattle.index.proofs.WalkParts.{part-at}
+use Rattle.index.specs.Walks.{countAt, childAt}
 use Rattle.index.proofs.WalkRows.{RowWalkable, walkable}
+use Rattle.index.proofs.WalkLoop.{children-count, next-child}
 use Rattle.split_line.specs.FullLeaf.{OnGrid}
 use Rattle.split_line.specs.Reached.{boundsOf, heldOf, heldUnder}
 use Rattle.split_line.specs.Groups.{halvesOf, groupsIn, groupsAt, NodeHere}
@@ -60,24 +58,6 @@ module _ (n place : ℕ) (l : Line) (e : CellEntry) where
       let r : i + 1 + p ≡ place = omega arith in
       let s : suc p + 1 ≡ suc (p + 1) = omega arith in
       rw (ne-eqb i place (λ q. omega arith), from-start (i + 1) p bs r (omega arith), s)
-
-module _ (n : ℕ) (m : List ℕ) (lo k : ℕ) (v : Walkable n m lo k) where
-  children-count : length (childrenIn (part m k)) ≡ countAt m k
-  children-count =
-      let e = part-at m k 1 (omega arith) in
-      let f = v .few in
-      children-length fanout m k (node-below fanout m n lo k (v .node) (v .reads)) (omega arith) ∙ e
-
-  next-child : (i : ℕ) → i < countAt m k → drop i (childrenIn (part m k)) ≡ childAt m k i ∷ drop (i + 1) (childrenIn (part m k))
-  next-child i h =
-      let c = children-count in
-      let f = v .few in
-      let e = part-at m k 1 (omega arith) in
-      let s : i < length (childrenIn (part m k)) = omega arith in
-      let at : getD (childrenIn (part m k)) i 0 ≡ childAt m k i =
-      getD-take (itemCount (part m k)) (drop 66 (part m k)) i 0 (omega arith) ∙ getD-drop 66 (part m k) i 0 ∙ part-at m k (66 + i) (omega arith)
-      ∙ ap (λ j. getD m j 0) (let q : 64 + 128 * k + (66 + i) ≡ 64 + 128 * k + 66 + i = omega arith in q) in
-      drop-cons (childrenIn (part m k)) i 0 s ∙ rw (at, add-one)
 
 -- Before the i-th branch of the node at part k, whose branches lead to nodes of level n: the bounds of the groups before it are the first
 -- `next` rectangles of the list l.

@@ -1,33 +1,24 @@
 -- What the code reads of a node's children: their parts, their polygons, and the list of these.
-use Prim.Native.Nat.{ℕ, zero, suc, _+_, _*_, _-_, _≤_, _<_}
+use Prim.Native.Nat.{ℕ, _+_, _*_, _≤_, _<_}
 use mathlib.Core.Path.{_≡_, sym, ap, _∙_}
 use mathlib.Core.List.{List, [], _∷_}
 use native.Mathlib.Omega.{arith}
 use native.Mathlib.Numerals.{add-one}
 use mir.Syntax.{w64}
 use mir.Val.{Fits}
-use lib.ListN.{length, take, drop, getD, drop-of-length-le, List·getD-map}
-use lib.Seq.{take-nil, drop-nil, drop-drop, drop-cons, getD-take, getD-drop}
+use lib.ListN.{length, drop, getD, drop-of-length-le, List·getD-map}
+use lib.Seq.{drop-cons, getD-take, getD-drop}
 use Rattle.geometry.specs.declared.polygon.Polygon.{Polygon}
 use Rattle.geometry.specs.Numbers.{rectsIn, PolygonOf}
 use Rattle.memory.specs.Layout.{part, itemCount, polygonIn, childrenIn}
 use Rattle.index.specs.Check.{PolygonPart}
 use Rattle.index.specs.Walks.{rectsAt, countAt, childAt}
-use Rattle.index.proofs.WalkParts.{part-at, part-first}
+use Rattle.index.proofs.WalkParts.{part-at, part-first, part-rest}
 use Rattle.step2.specs.Branches.{polygonsIn, GoodPart, Branches}
-
-drop-take : {A : Type 0} (n k : ℕ) (l : List A) → drop n (take (n + k) l) ≡ take k (drop n l)
-drop-take zero k l = ap (λ j. take j l) (let q : zero + k ≡ k = omega arith in q)
-drop-take (suc n) k [] = simp (take-nil, drop-nil)
-drop-take (suc n) k (a ∷ l) = let e : suc n + k ≡ suc (n + k) = omega arith in rw e (drop-take n k l)
 
 -- the rectangles in place are the polygon's
 pub rects-are : (m : List ℕ) (k : ℕ) → rectsIn (rectsAt m k) (getD m (64 + 128 * k) 0) ≡ polygonIn (part m k)
-unfolding part
-rects-are m k =
-    let e : 64 + 128 * k + 128 - (64 + 128 * k + 2) ≡ 126 = omega arith in
-    let q : drop 2 (part m k) ≡ rectsAt m k = drop-take 2 126 (drop (64 + 128 * k) m) ∙ rw (e, drop-drop 2 (64 + 128 * k) m) in
-    rw (q, part-first m k)
+rects-are m k = rw (part-rest m k, part-first m k)
 
 -- the polygon loaded from its place
 pub loaded : (m : List ℕ) (k : ℕ) (p : Polygon) → PolygonOf (rectsIn (rectsAt m k) (getD m (64 + 128 * k) 0)) p → PolygonOf (polygonIn (part m k)) p
