@@ -2,12 +2,11 @@
 use Prim.Native.Nat.{ℕ}
 use mathlib.Core.Path.{_≡_, _∙_}
 use mathlib.Core.Bool.{Bool, true, false, false≢true}
-use mathlib.Core.List.{List, [], _∷_}
+use mathlib.Core.List.{List}
 use Rattle.memory.specs.Layout.{rightLength}
 use Rattle.memory.specs.Reading.{reading}
 use Rattle.index.specs.declared.opening.Opened.{Opened}
 use Rattle.index.specs.declared.opening.Opened.the-variants as O
-use Rattle.index.specs.Answers.{fanout}
 use Rattle.index.specs.Open.{OpenedAs, Reads}
 use Rattle.index.proofs.ReadsLaws.{reads-opened, reads-right, cleared-reads, insert-reads, remove-reads}
 use Rattle.commands.specs.declared.parsing.Command.{Command}

@@ -1,3 +1,4 @@
 pub mod Opening
 pub mod Response
 pub mod Stream
+pub mod LinesClaim

@@ -1,0 +1,52 @@
+-- Demand 3 for the lines of a session: the calls that the lines made are a list of which the claim holds, and what was printed is what these
+-- calls answered.
+use Prim.Native.Nat.{ℕ}
+use mathlib.Core.Bool.{cond}
+use mathlib.Core.List.{List, [], _∷_, _++_}
+use mathlib.Core.Path.{_≡_}
+use lib.Dec.{eqb}
+use lib.ListN.{getD}
+use Rattle.tree.specs.Calls.{insertCall, removeCall, clearCall, pointCall, windowCall}
+use Rattle.index.specs.Changes.{entryOf}
+use Rattle.index.specs.Numbers.{Told}
+use Rattle.history.specs.Calls.{IndexCall, Made}
+use Rattle.history.specs.Claim.{HistoryClaim}
+use Rattle.commands.specs.declared.parsing.Command.{Command}
+use Rattle.commands.specs.declared.parsing.Command.the-variants.{Insert, Remove, Point, Window, Clear, Other}
+use Rattle.commands.specs.Bytes.{letterC, letterI, letterP, letterR, letterS}
+use Rattle.commands.specs.AnswerText.{heldText, foundText, entriesText, otherText}
+use Rattle.session.specs.Response.{Lent, cellAt, rectOf}
+
+-- the call of a command: another line makes none
+unfoldable pub callsOf : Command → List IndexCall
+callsOf (Insert x y tag) = insertCall (entryOf (cellAt x y) tag) ∷ []
+callsOf (Remove x y) = removeCall (cellAt x y) ∷ []
+callsOf (Point x y) = pointCall (cellAt x y) ∷ []
+callsOf (Window llx lly urx ury) = windowCall (rectOf llx lly urx ury) ∷ []
+callsOf Clear = clearCall ∷ []
+callsOf Other = []
+
+-- the entries that a window query wrote to its list: its matches, if it was accepted
+unfoldable pub listedTold : Told → ℕ
+listedTold t = cond (eqb (t .number) 0) (getD (t .values) 0 0) 0
+
+-- what is printed for a call of a kind, by what it answered and left in its list
+abbrev pub textBy : IndexCall → Made → List ℕ
+textBy (insertCall e) d = heldText letterI (d .told)
+textBy (removeCall c) d = heldText letterR (d .told)
+textBy clearCall d = heldText letterC (d .told)
+textBy (pointCall c) d = foundText letterP (d .told)
+textBy (windowCall w) d = foundText letterS (d .told) ++ entriesText (d .left) (listedTold (d .told))
+
+-- Commands one after another, the calls they made and the text they printed.
+pub data Printed : List Command → List Made → List ℕ → Type 0 where
+  nothing : Printed [] [] []
+  other : {cs : List Command} {ds : List Made} {text : List ℕ} → Printed cs ds text → Printed (Other ∷ cs) ds (otherText ++ text)
+  called : {c : Command} {cs : List Command} {ds : List Made} {text : List ℕ} (d : Made) → callsOf c ≡ d .call ∷ [] → Printed cs ds text
+      → Printed (c ∷ cs) (d ∷ ds) (textBy (d .call) d ++ text)
+
+-- The commands, from a fresh memory of N parts, left the lists b and printed the text.
+pub record LinesClaim (N : ℕ) (cs : List Command) (b : Lent) (text : List ℕ) : Type 0 where
+  pub calls : List Made
+  pub printed : Printed cs calls text
+  pub claim : HistoryClaim N calls (b .index)
