@@ -1,1 +1,2 @@
 pub mod ExportWays
+pub mod ExportedHistory
