@@ -10,6 +10,10 @@ use crate::copies::copy_node;
 use crate::copies::copy_part;
 use crate::leaf::gather;
 use crate::node::put_left;
+use memory::HEAD;
+use memory::ITEM_COUNT;
+use memory::ITEMS;
+use memory::PART;
 
 // Copies the subtree at part k, whose parts are those from lo on, into the parts of the work area from next on; answers the next free part.
 // Only the numbers of a node's children change: they are the parts that the children were copied to.
@@ -17,19 +21,19 @@ pub fn copy_below(m: &[u32], level: u32, lo: u32, k: u32, work: &mut [u32], next
     requires { ⌜ Walkable level (now m) lo k × Room level (now work) next (deepAt level (now m) lo k []) ⌝ }
     ensures { λ r. ⌜ Emits level (now (work .entry)) next (deepAt level (now (m .entry)) lo k []) (now (work .exit)) r ⌝ }
 {
-    let a = 64 + 128 * (k as usize);
-    let e = a + 128;
+    let a = HEAD + PART * (k as usize);
+    let e = a + PART;
     if level == 0 {
         copy_part(&m[a..e], work, next);
         return next + 1;
     }
-    let n = m[a + 1] as usize;
+    let n = m[a + ITEM_COUNT] as usize;
     let mut tops = [0u32; 8];
     let mut free = next;
     let mut low = lo;
     let mut i = 0;
     while i < n {
-        let j = m[a + 66 + i];
+        let j = m[a + ITEMS + i];
         free = copy_below(m, level - 1, low, j, work, free);
         tops[i] = free - 1;
         low = j + 1;
@@ -70,19 +74,19 @@ pub fn emit_below(
     if sides.len() == 0 {
         return copy_below(m, level, lo, k, work, next);
     }
-    let a = 64 + 128 * (k as usize);
-    let e = a + 128;
+    let a = HEAD + PART * (k as usize);
+    let e = a + PART;
     if level == 0 {
         return emit_leaf(&m[a..e], sides, work, next);
     }
-    let n = m[a + 1] as usize;
+    let n = m[a + ITEM_COUNT] as usize;
     let mut tops = [0u32; 8];
     let mut count = 0;
     let mut free = next;
     let mut low = lo;
     let mut i = 0;
     while i < n {
-        let j = m[a + 66 + i];
+        let j = m[a + ITEMS + i];
         let after = emit_below(m, level - 1, low, j, sides, work, free);
         if after != free {
             tops[count] = after - 1;

@@ -17,6 +17,8 @@ use crate::front::put_in_front;
 use crate::path_leaf::gather_with;
 use crate::top::is_kept;
 use geometry::Cell;
+use memory::HEAD;
+use memory::PART;
 use sides::left_side;
 use sides::right_side;
 
@@ -36,8 +38,8 @@ fn count_path_leaf(m: &[u32], path: &[u32], sides: &[u32], c: Cell, tag: u32) ->
     requires { ⌜ PathNode 0 (now path) (now m) ⌝ }
     ensures { λ r. ⌜ r ≡ counted 0 (halfUnder 0 (now (path .entry)) (now (m .entry)) (entryOf c tag) (sidesOf (now (sides .entry)))) ⌝ }
 {
-    let a = 64 + 128 * (path[0] as usize);
-    let e = a + 128;
+    let a = HEAD + PART * (path[0] as usize);
+    let e = a + PART;
     let mut items = [0u32; 27];
     let n = gather_with(&m[a..e], sides, c, tag, &mut items);
     if is_kept(sides, n) {

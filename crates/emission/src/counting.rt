@@ -7,6 +7,10 @@ ghost use Rattle.emission.specs.Emits.{counted, deepAt};
 ghost use Rattle.emission.specs.Leaves.{leafUnder};
 use crate::capped::capped_sum;
 use crate::leaf::any_left;
+use memory::HEAD;
+use memory::ITEM_COUNT;
+use memory::ITEMS;
+use memory::PART;
 
 // How many nodes are left of a leaf under the sides: one, or none where it is dropped.
 fn count_leaf(p: &[u32], sides: &[u32]) -> u32
@@ -27,17 +31,17 @@ pub fn count_below(m: &[u32], level: u32, lo: u32, k: u32, sides: &[u32]) -> u32
     requires { ⌜ Walkable level (now m) lo k ⌝ }
     ensures { λ r. ⌜ r ≡ counted level (deepAt level (now (m .entry)) lo k (now (sides .entry))) ⌝ }
 {
-    let a = 64 + 128 * (k as usize);
-    let e = a + 128;
+    let a = HEAD + PART * (k as usize);
+    let e = a + PART;
     if level == 0 {
         return count_leaf(&m[a..e], sides);
     }
-    let n = m[a + 1] as usize;
+    let n = m[a + ITEM_COUNT] as usize;
     let mut nodes: u32 = 0;
     let mut low = lo;
     let mut i = 0;
     while i < n {
-        let j = m[a + 66 + i];
+        let j = m[a + ITEMS + i];
         let below = count_below(m, level - 1, low, j, sides);
         nodes = capped_sum(nodes, below);
         low = j + 1;

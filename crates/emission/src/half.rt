@@ -13,6 +13,9 @@ use crate::path_leaf::emit_leaf;
 use crate::top::emit_top;
 use crate::tops::Tops;
 use geometry::Cell;
+use memory::HEAD;
+use memory::ITEM_COUNT;
+use memory::PART;
 use sides::left_side;
 use sides::right_side;
 
@@ -50,8 +53,8 @@ fn emit_rest(
     let at = 68 * (level as usize);
     let k = path[at];
     let from = (path[at + 1] as usize) + 1;
-    let a = 64 + 128 * (k as usize);
-    let to = m[a + 1] as usize;
+    let a = HEAD + PART * (k as usize);
+    let to = m[a + ITEM_COUNT] as usize;
     let all = emit_branches(m, level - 1, k, from, to, sides, work, tops);
     let p = path_polygon(path, level as usize);
     let n = all.count;

@@ -8,6 +8,9 @@ ghost use Rattle.index.specs.Check.{NodePart};
 ghost use Rattle.index.specs.Changes.{entryOf};
 ghost use Rattle.emission.specs.Leaves.{onTest, leafLeft, EntryPut, LeafGathered};
 use geometry::Cell;
+use memory::ENTRY;
+use memory::ITEM_COUNT;
+use memory::ITEMS;
 use sides::on_all;
 
 // Whether the i-th entry of a leaf's part is on every side.
@@ -15,7 +18,7 @@ fn is_left(p: &[u32], i: usize, sides: &[u32]) -> bool
     requires { ⌜ (length (now p) ≡ 128) × (i < 8) ⌝ }
     ensures { λ b. ⌜ b ≡ onTest (now (sides .entry)) (entryIn (now (p .entry)) i) ⌝ }
 {
-    let at = 66 + 3 * i;
+    let at = ITEMS + ENTRY * i;
     let c = Cell {
         x: p[at],
         y: p[at + 1],
@@ -28,7 +31,7 @@ pub fn any_left(p: &[u32], sides: &[u32]) -> bool
     requires { ⌜ NodePart (now p) ⌝ }
     ensures { λ b. ⌜ b ≡ notEmpty (leafLeft (now (sides .entry)) (now (p .entry))) ⌝ }
 {
-    let n = p[1] as usize;
+    let n = p[ITEM_COUNT] as usize;
     let mut i = 0;
     while i < n {
         if is_left(p, i, sides) {
@@ -55,7 +58,7 @@ fn copy_entry(p: &[u32], i: usize, list: &mut [u32], at: usize)
     requires { ⌜ (length (now p) ≡ 128) × (i < 8) × (3 * (at + 1) ≤ length (now list)) ⌝ }
     ensures { λ _. ⌜ EntryPut (now (list .entry)) at (entryIn (now (p .entry)) i) (now (list .exit)) ⌝ }
 {
-    let from = 66 + 3 * i;
+    let from = ITEMS + ENTRY * i;
     let c = Cell {
         x: p[from],
         y: p[from + 1],
@@ -69,7 +72,7 @@ pub fn gather(p: &[u32], sides: &[u32], list: &mut [u32]) -> usize
     requires { ⌜ NodePart (now p) × (24 ≤ length (now list)) ⌝ }
     ensures { λ r. ⌜ LeafGathered (now (sides .entry)) (now (p .entry)) (now (list .exit)) r ⌝ }
 {
-    let n = p[1] as usize;
+    let n = p[ITEM_COUNT] as usize;
     let mut count = 0;
     let mut i = 0;
     while i < n {

@@ -10,6 +10,11 @@ use crate::clipping::clipped;
 use geometry::Polygon;
 use geometry::copy;
 use index::fill_zeros;
+use memory::HEAD;
+use memory::ITEM_COUNT;
+use memory::ITEMS;
+use memory::PART;
+use memory::RECTS;
 
 // Writes the rectangles of a polygon, and zeros behind them.
 fn store_rects(list: &mut [u32], p: Polygon)
@@ -26,10 +31,10 @@ pub fn store_node(part: &mut [u32], p: Polygon, count: u32, items: &[u32])
     requires { ⌜ (length (now part) ≡ 128) × (p .count ≤ 16) × (length (now items) ≤ 62) ⌝ }
     ensures { λ _. ⌜ now (part .exit) ≡ nodePart (rectsOf p) count (now (items .entry)) ⌝ }
 {
-    store_rects(&mut part[2..], p);
-    copy(items, items.len(), &mut part[66..]);
+    store_rects(&mut part[RECTS..], p);
+    copy(items, items.len(), &mut part[ITEMS..]);
     part[0] = p.count as u32;
-    part[1] = count;
+    part[ITEM_COUNT] = count;
 }
 
 // Writes a node to the part next of the work area.
@@ -37,8 +42,8 @@ pub fn put_node(work: &mut [u32], next: u32, p: Polygon, count: u32, items: &[u3
     requires { ⌜ PartRoom (now work) next × (p .count ≤ 16) × (length (now items) ≤ 62) ⌝ }
     ensures { λ _. ⌜ PartPut (now (work .entry)) next (nodePart (rectsOf p) count (now (items .entry))) (now (work .exit)) ⌝ }
 {
-    let a = 64 + 128 * (next as usize);
-    let e = a + 128;
+    let a = HEAD + PART * (next as usize);
+    let e = a + PART;
     store_node(&mut work[a..e], p, count, items);
 }
 
@@ -49,7 +54,7 @@ pub fn put_left(p: &[u32], sides: &[u32], count: u32, items: &[u32], work: &mut 
     ensures { λ _. ⌜ PartPut (now (work .entry)) next (leftPart (now (sides .entry)) (now (p .entry)) count (now (items .entry))) (now (work .exit)) ⌝ }
 {
     let n = p[0] as usize;
-    let whole = Polygon::load(&p[2..], n);
+    let whole = Polygon::load(&p[RECTS..], n);
     let left = clipped(whole, sides);
     put_node(work, next, left, count, items);
 }

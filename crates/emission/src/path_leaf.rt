@@ -15,6 +15,8 @@ use crate::leaf::put_entry;
 use crate::path::path_polygon;
 use crate::top::emit_top;
 use geometry::Cell;
+use memory::HEAD;
+use memory::PART;
 use sides::on_all;
 
 // Gathers the entries of a leaf's part and a new one behind them, those on every side; answers how many they are.
@@ -43,8 +45,8 @@ pub fn emit_leaf(
     requires { ⌜ PathNode 0 (now path) (now m) × Room 0 (now work) next (halfUnder 0 (now path) (now m) (entryOf c tag) (sidesOf (now sides))) ⌝ }
     ensures { λ r. ⌜ Emits 0 (now (work .entry)) next (halfUnder 0 (now (path .entry)) (now (m .entry)) (entryOf c tag) (sidesOf (now (sides .entry)))) (now (work .exit)) r ⌝ }
 {
-    let a = 64 + 128 * (path[0] as usize);
-    let e = a + 128;
+    let a = HEAD + PART * (path[0] as usize);
+    let e = a + PART;
     let mut items = [0u32; 27];
     let n = gather_with(&m[a..e], sides, c, tag, &mut items);
     let p = path_polygon(path, 0);

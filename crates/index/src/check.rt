@@ -15,17 +15,23 @@ use crate::leaf::entries_apart;
 use crate::leaf::entries_inside;
 use crate::part::node_fits;
 use geometry::all_valid;
+use memory::ENTRY;
+use memory::HEAD;
+use memory::ITEM_COUNT;
+use memory::ITEMS;
+use memory::PART;
+use memory::RECTS;
 
 // Whether the polygon at part j is inside the one at part k.
 fn child_inside(m: &[u32], k: usize, j: usize) -> bool
     requires { ⌜ PolygonPart (now m) k × PolygonPart (now m) j ⌝ }
     ensures { λ b. ⌜ b ≡ insideOf (polygonIn (part (now (m .entry)) k)) (polygonIn (part (now (m .entry)) j)) ⌝ }
 {
-    let a = 64 + 128 * k;
-    let p = &m[a..a + 128];
-    let b = 64 + 128 * j;
-    let q = &m[b..b + 128];
-    inside(&p[2..], p[0] as usize, &q[2..], q[0] as usize)
+    let a = HEAD + PART * k;
+    let p = &m[a..a + PART];
+    let b = HEAD + PART * j;
+    let q = &m[b..b + PART];
+    inside(&p[RECTS..], p[0] as usize, &q[RECTS..], q[0] as usize)
 }
 
 // Whether the polygons at parts i and j share no cell.
@@ -33,11 +39,11 @@ fn parts_apart(m: &[u32], i: usize, j: usize) -> bool
     requires { ⌜ PolygonPart (now m) i × PolygonPart (now m) j ⌝ }
     ensures { λ b. ⌜ b ≡ partsApart (now (m .entry)) i j ⌝ }
 {
-    let a = 64 + 128 * i;
-    let p = &m[a..a + 128];
-    let b = 64 + 128 * j;
-    let q = &m[b..b + 128];
-    are_apart(&p[2..], p[0] as usize, &q[2..], q[0] as usize)
+    let a = HEAD + PART * i;
+    let p = &m[a..a + PART];
+    let b = HEAD + PART * j;
+    let q = &m[b..b + PART];
+    are_apart(&p[RECTS..], p[0] as usize, &q[RECTS..], q[0] as usize)
 }
 
 // Whether the polygon of the i-th of some parts shares no cell with the later ones'.
@@ -80,9 +86,9 @@ fn head_fits(m: &[u32], k: usize, w: usize) -> bool
     if !node_fits(m, k, w) {
         return false;
     }
-    let at = 64 + 128 * k;
-    let p = &m[at..at + 128];
-    all_valid(&p[2..], p[0] as usize)
+    let at = HEAD + PART * k;
+    let p = &m[at..at + PART];
+    all_valid(&p[RECTS..], p[0] as usize)
 }
 
 // 1 where part k is a sound leaf, 0 otherwise.
@@ -90,11 +96,11 @@ fn check_leaf(m: &[u32], k: usize) -> u32
     requires { ⌜ RightLength (now m) ⌝ }
     ensures { λ r. ⌜ r ≡ checkedAt 0 (now (m .entry)) 0 k ⌝ }
 {
-    if !head_fits(m, k, 3) {
+    if !head_fits(m, k, ENTRY) {
         return 0;
     }
-    let at = 64 + 128 * k;
-    let p = &m[at..at + 128];
+    let at = HEAD + PART * k;
+    let p = &m[at..at + PART];
     if !entries_inside(p) {
         return 0;
     }
@@ -116,10 +122,10 @@ pub fn check_node(m: &[u32], level: u32, lo: usize, k: usize) -> u32
     if !head_fits(m, k, 1) {
         return 0;
     }
-    let at = 64 + 128 * k;
-    let p = &m[at..at + 128];
-    let end = 66 + p[1] as usize;
-    let ks = &p[66..end];
+    let at = HEAD + PART * k;
+    let p = &m[at..at + PART];
+    let end = ITEMS + p[ITEM_COUNT] as usize;
+    let ks = &p[ITEMS..end];
     let mut low = lo;
     let mut sum: u32 = 1;
     let mut i = 0;

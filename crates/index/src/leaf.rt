@@ -10,6 +10,10 @@ ghost use Rattle.index.specs.Answers.{fanout};
 ghost use Rattle.index.specs.Check.{NodePart};
 use geometry::Cell;
 use geometry::rect_at;
+use memory::ENTRY;
+use memory::ITEM_COUNT;
+use memory::ITEMS;
+use memory::RECTS;
 
 // Whether one of the first n rectangles has the cell.
 pub fn any_has(rects: &[u32], n: usize, c: Cell) -> bool
@@ -33,11 +37,11 @@ pub fn entries_inside(p: &[u32]) -> bool
     ensures { λ b. ⌜ b ≡ allPass (itemTest fanout 0 (polygonIn (now (p .entry)))) (entriesIn (now (p .entry)) (itemCount (now (p .entry)))) ⌝ }
 {
     let n = p[0] as usize;
-    let count = p[1] as usize;
-    let rects = &p[2..];
+    let count = p[ITEM_COUNT] as usize;
+    let rects = &p[RECTS..];
     let mut i = 0;
     while i < count {
-        let at = 66 + 3 * i;
+        let at = ITEMS + ENTRY * i;
         let c = Cell {
             x: p[at],
             y: p[at + 1],
@@ -56,12 +60,12 @@ fn none_like(p: &[u32], n: usize, i: usize) -> bool
     requires { ⌜ (i < n) × (n ≤ 8) × (length (now p) ≡ 128) ⌝ }
     ensures { λ b. ⌜ b ≡ allPass (apartTest fanout 0 (entryIn (now (p .entry)) i)) (drop (i + 1) (entriesIn (now (p .entry)) n)) ⌝ }
 {
-    let at = 66 + 3 * i;
+    let at = ITEMS + ENTRY * i;
     let x = p[at];
     let y = p[at + 1];
     let mut j = i + 1;
     while j < 8 {
-        let other = 66 + 3 * j;
+        let other = ITEMS + ENTRY * j;
         if p[other] == x {
             if p[other + 1] == y {
                 if j < n {
@@ -79,7 +83,7 @@ pub fn entries_apart(p: &[u32]) -> bool
     requires { ⌜ NodePart (now p) ⌝ }
     ensures { λ b. ⌜ b ≡ pairsPass (apartTest fanout 0) (entriesIn (now (p .entry)) (itemCount (now (p .entry)))) ⌝ }
 {
-    let count = p[1] as usize;
+    let count = p[ITEM_COUNT] as usize;
     let mut i = 0;
     while i < 8 {
         if count <= i {

@@ -9,6 +9,10 @@ use crate::bits::bits_set;
 use crate::bits::in_use;
 use crate::check::check_node;
 use crate::part::all_zero;
+use memory::HEAD;
+use memory::HEIGHT;
+use memory::PART;
+use memory::ROOT;
 
 pub enum Opened {
     // the memory reads as no sound tree
@@ -24,11 +28,11 @@ pub fn right_length(m: &[u32]) -> bool
     ensures { λ b. ⌜ b ≡ rightLength (now (m .entry)) ⌝ }
 {
     let len = m.len();
-    if len < 64 {
+    if len < HEAD {
         return false;
     }
-    let n = (len - 64) / 128;
-    if len != 64 + 128 * n {
+    let n = (len - HEAD) / PART;
+    if len != HEAD + PART * n {
         return false;
     }
     if n < 1 {
@@ -45,8 +49,8 @@ fn used_or_zero(m: &[u32], k: usize) -> bool
     if in_use(m, k) {
         return true;
     }
-    let at = 64 + 128 * k;
-    all_zero(&m[at..at + 128])
+    let at = HEAD + PART * k;
+    all_zero(&m[at..at + PART])
 }
 
 // Whether every part is in use or all zero.
@@ -54,7 +58,7 @@ fn others_zero(m: &[u32]) -> bool
     requires { ⌜ RightLength (now m) ⌝ }
     ensures { λ b. ⌜ b ≡ othersZero (now (m .entry)) (partsOf (now (m .entry))) ⌝ }
 {
-    let n = (m.len() - 64) / 128;
+    let n = (m.len() - HEAD) / PART;
     let mut k = 0;
     while k < n {
         if !used_or_zero(m, k) {
@@ -70,7 +74,7 @@ pub fn open(m: &[u32]) -> Opened
     requires { ⌜ rightLength (now m) ≡ true ⌝ }
     ensures { λ r. ⌜ OpenedAs (now (m .entry)) r ⌝ }
 {
-    let height = m[8];
+    let height = m[HEIGHT];
     if height == 0 {
         if all_zero(m) {
             return Opened::Empty;
@@ -79,11 +83,11 @@ pub fn open(m: &[u32]) -> Opened
     }
     // each level down takes a lower part: this bounds the recursion by the number of parts
     let level = height - 1;
-    let root = m[9];
+    let root = m[ROOT];
     if root < level {
         return Opened::NoTree;
     }
-    if !all_zero(&m[10..64]) {
+    if !all_zero(&m[10..HEAD]) {
         return Opened::NoTree;
     }
     let k = root as usize;
@@ -95,7 +99,7 @@ pub fn open(m: &[u32]) -> Opened
         return Opened::NoTree;
     }
     // the root's polygon is one rectangle
-    if m[64 + 128 * k] != 1 {
+    if m[HEAD + PART * k] != 1 {
         return Opened::NoTree;
     }
     if !others_zero(m) {
@@ -109,11 +113,11 @@ pub fn reopen(m: &[u32]) -> Opened
     requires { ⌜ Reads (now m) ⌝ }
     ensures { λ r. ⌜ OpenedAs (now (m .entry)) r ⌝ }
 {
-    let height = m[8];
+    let height = m[HEIGHT];
     if height == 0 {
         return Opened::Empty;
     }
     let level = height - 1;
-    let root = m[9];
+    let root = m[ROOT];
     Opened::Tree { level, root }
 }

@@ -7,6 +7,12 @@ ghost use Rattle.memory.proofs.ReadingLaws.{RightLength};
 ghost use Rattle.index.specs.Answers.{fanout};
 ghost use Rattle.index.specs.Check.{NodePart};
 use crate::bits::in_use;
+use memory::HEAD;
+use memory::ITEM_COUNT;
+use memory::ITEMS;
+use memory::ITEMS_END;
+use memory::PART;
+use memory::RECTS;
 
 // Whether every number is zero. No early return: all are read at once where they are zero, which is the usual case.
 pub fn all_zero(s: &[u32]) -> bool
@@ -33,7 +39,7 @@ fn counts_fit(p: &[u32]) -> bool
     if 16 < rects {
         return false;
     }
-    let items = p[1];
+    let items = p[ITEM_COUNT];
     if items < 1 {
         return false;
     }
@@ -47,10 +53,10 @@ fn zero_behind_rects(p: &[u32]) -> bool
 {
     let n = p[0] as usize;
     if n == 1 {
-        return all_zero(&p[6..66]);
+        return all_zero(&p[6..ITEMS]);
     }
-    let a = 2 + 4 * n;
-    all_zero(&p[a..66])
+    let a = RECTS + 4 * n;
+    all_zero(&p[a..ITEMS])
 }
 
 // Whether the numbers behind the rectangles and behind the items, of w numbers each, are zero.
@@ -59,13 +65,13 @@ fn rest_zero(p: &[u32], w: usize) -> bool
     ensures { λ b. ⌜ b ≡ restZero w (now (p .entry)) ⌝ }
 {
     // no items reach beyond 90: a constant length
-    if !all_zero(&p[90..]) {
+    if !all_zero(&p[ITEMS_END..]) {
         return false;
     }
     if zero_behind_rects(p) {
-        let count = p[1] as usize;
-        let b = 66 + w * count;
-        return all_zero(&p[b..90]);
+        let count = p[ITEM_COUNT] as usize;
+        let b = ITEMS + w * count;
+        return all_zero(&p[b..ITEMS_END]);
     }
     false
 }
@@ -75,14 +81,14 @@ pub fn node_fits(m: &[u32], k: usize, w: usize) -> bool
     requires { ⌜ RightLength (now m) × (w ≤ 3) ⌝ }
     ensures { λ b. ⌜ b ≡ nodeFits fanout w (now (m .entry)) k ⌝ }
 {
-    if (m.len() - 64) / 128 <= k {
+    if (m.len() - HEAD) / PART <= k {
         return false;
     }
     if !in_use(m, k) {
         return false;
     }
-    let at = 64 + 128 * k;
-    let p = &m[at..at + 128];
+    let at = HEAD + PART * k;
+    let p = &m[at..at + PART];
     if !counts_fit(p) {
         return false;
     }

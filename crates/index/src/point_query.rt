@@ -15,13 +15,18 @@ use crate::opening::right_length;
 use crate::walk::Found;
 use crate::walk::polygon_has;
 use geometry::Cell;
+use memory::ENTRY;
+use memory::HEAD;
+use memory::ITEM_COUNT;
+use memory::ITEMS;
+use memory::PART;
 
 // Whether the i-th entry of a leaf's part is of the cell.
 pub fn is_of_cell(p: &[u32], i: usize, c: Cell) -> bool
     requires { ⌜ (length (now p) ≡ 128) × (i < 8) ⌝ }
     ensures { λ b. ⌜ b ≡ cellTest c (entryIn (now (p .entry)) i) ⌝ }
 {
-    let at = 66 + 3 * i;
+    let at = ITEMS + ENTRY * i;
     if p[at] != c.x {
         return false;
     }
@@ -33,11 +38,11 @@ fn point_in_leaf(p: &[u32], c: Cell) -> Found
     requires { ⌜ NodePart (now p) ⌝ }
     ensures { λ r. ⌜ r ≡ found (leafEntries (cellTest c) (now (p .entry))) 1 ⌝ }
 {
-    let n = p[1] as usize;
+    let n = p[ITEM_COUNT] as usize;
     let mut i = 0;
     while i < n {
         if is_of_cell(p, i, c) {
-            let tag = p[66 + 3 * i + 2];
+            let tag = p[ITEMS + ENTRY * i + 2];
             return Found {
                 held: true,
                 tag,
@@ -59,12 +64,12 @@ pub fn point_below(m: &[u32], level: u32, lo: u32, k: u32, c: Cell) -> Found
     requires { ⌜ Walkable level (now m) lo k ⌝ }
     ensures { λ r. ⌜ r ≡ found (heldBelow c level (now (m .entry)) lo k) (visitsBelow (hasTest c) level (now (m .entry)) lo k) ⌝ }
 {
-    let a = 64 + 128 * (k as usize);
-    let e = a + 128;
+    let a = HEAD + PART * (k as usize);
+    let e = a + PART;
     if level == 0 {
         return point_in_leaf(&m[a..e], c);
     }
-    let n = m[a + 1] as usize;
+    let n = m[a + ITEM_COUNT] as usize;
     let mut so_far = Found {
         held: false,
         tag: 0,
@@ -73,7 +78,7 @@ pub fn point_below(m: &[u32], level: u32, lo: u32, k: u32, c: Cell) -> Found
     let mut low = lo;
     let mut i = 0;
     while i < n {
-        let j = m[a + 66 + i];
+        let j = m[a + ITEMS + i];
         if polygon_has(m, j, c) {
             let below = point_below(m, level - 1, low, j, c);
             so_far = so_far.then(below);

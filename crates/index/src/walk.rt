@@ -8,6 +8,9 @@ use crate::leaf::any_has;
 use geometry::Cell;
 use geometry::Rect;
 use geometry::any_shares;
+use memory::HEAD;
+use memory::PART;
+use memory::RECTS;
 
 // What the walk of a point query found: whether an entry of the cell is held, its tag (0 where none is),
 // and the nodes visited.
@@ -44,10 +47,10 @@ pub fn polygon_has(m: &[u32], k: u32, c: Cell) -> bool
     requires { ⌜ PolygonPart (now m) k ⌝ }
     ensures { λ b. ⌜ b ≡ hasTest c (polygonIn (part (now (m .entry)) k)) ⌝ }
 {
-    let a = 64 + 128 * (k as usize);
+    let a = HEAD + PART * (k as usize);
     let n = m[a] as usize;
-    let from = a + 2;
-    let to = a + 128;
+    let from = a + RECTS;
+    let to = a + PART;
     any_has(&m[from..to], n, c)
 }
 
@@ -56,9 +59,9 @@ pub fn polygon_meets(m: &[u32], k: u32, w: Rect) -> bool
     requires { ⌜ PolygonPart (now m) k ⌝ }
     ensures { λ b. ⌜ b ≡ meetsTest w (polygonIn (part (now (m .entry)) k)) ⌝ }
 {
-    let a = 64 + 128 * (k as usize);
+    let a = HEAD + PART * (k as usize);
     let n = m[a] as usize;
-    let from = a + 2;
-    let to = a + 128;
+    let from = a + RECTS;
+    let to = a + PART;
     any_shares(&m[from..to], n, w)
 }

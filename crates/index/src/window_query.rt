@@ -14,6 +14,11 @@ use crate::opening::right_length;
 use crate::walk::polygon_meets;
 use geometry::Cell;
 use geometry::Rect;
+use memory::ENTRY;
+use memory::HEAD;
+use memory::ITEM_COUNT;
+use memory::ITEMS;
+use memory::PART;
 
 // How many entries match a window, and the nodes visited.
 pub struct Matched {
@@ -26,7 +31,7 @@ fn is_inside(p: &[u32], i: usize, w: Rect) -> bool
     requires { ⌜ (length (now p) ≡ 128) × (i < 8) ⌝ }
     ensures { λ b. ⌜ b ≡ insideTest w (entryIn (now (p .entry)) i) ⌝ }
 {
-    let at = 66 + 3 * i;
+    let at = ITEMS + ENTRY * i;
     let c = Cell {
         x: p[at],
         y: p[at + 1],
@@ -39,7 +44,7 @@ fn count_leaf(p: &[u32], w: Rect) -> u32
     requires { ⌜ NodePart (now p) ⌝ }
     ensures { λ r. ⌜ r ≡ length (leafEntries (insideTest w) (now (p .entry))) ⌝ }
 {
-    let n = p[1] as usize;
+    let n = p[ITEM_COUNT] as usize;
     let mut matches: u32 = 0;
     let mut i = 0;
     while i < n {
@@ -57,13 +62,13 @@ pub fn count_below(m: &[u32], level: u32, lo: u32, k: u32, w: Rect) -> Matched
     requires { ⌜ Walkable level (now m) lo k ⌝ }
     ensures { λ r. ⌜ r ≡ matched (matchesBelow w level (now (m .entry)) lo k) (visitsBelow (meetsTest w) level (now (m .entry)) lo k) ⌝ }
 {
-    let a = 64 + 128 * (k as usize);
-    let e = a + 128;
+    let a = HEAD + PART * (k as usize);
+    let e = a + PART;
     if level == 0 {
         let matches = count_leaf(&m[a..e], w);
         return Matched { matches, visits: 1 };
     }
-    let n = m[a + 1] as usize;
+    let n = m[a + ITEM_COUNT] as usize;
     let mut so_far = Matched {
         matches: 0,
         visits: 1,
@@ -71,7 +76,7 @@ pub fn count_below(m: &[u32], level: u32, lo: u32, k: u32, w: Rect) -> Matched
     let mut low = lo;
     let mut i = 0;
     while i < n {
-        let j = m[a + 66 + i];
+        let j = m[a + ITEMS + i];
         if polygon_meets(m, j, w) {
             let below = count_below(m, level - 1, low, j, w);
             so_far.matches += below.matches;
@@ -88,7 +93,7 @@ fn put_entry(p: &[u32], i: usize, list: &mut [u32], at: usize)
     requires { ⌜ (length (now p) ≡ 128) × (i < 8) × (3 * at + 3 ≤ length (now list)) ⌝ }
     ensures { λ _. ⌜ now (list .exit) ≡ putEntry (now (list .entry)) at (entryIn (now (p .entry)) i) ⌝ }
 {
-    let from = 66 + 3 * i;
+    let from = ITEMS + ENTRY * i;
     let to = 3 * at;
     list[to] = p[from];
     list[to + 1] = p[from + 1];
@@ -101,7 +106,7 @@ fn write_leaf(p: &[u32], w: Rect, list: &mut [u32], at: usize) -> usize
     requires { ⌜ LeafRoom (now p) w (now list) at ⌝ }
     ensures { λ r. ⌜ Listed (now (list .entry)) at (leafEntries (insideTest w) (now (p .entry))) (now (list .exit)) r ⌝ }
 {
-    let n = p[1] as usize;
+    let n = p[ITEM_COUNT] as usize;
     let mut next = at;
     let mut i = 0;
     while i < n {
@@ -128,17 +133,17 @@ pub fn write_below(
     requires { ⌜ WalkRoom level (now m) lo k w (now list) at ⌝ }
     ensures { λ r. ⌜ Listed (now (list .entry)) at (matchesBelow w level (now (m .entry)) lo k) (now (list .exit)) r ⌝ }
 {
-    let a = 64 + 128 * (k as usize);
-    let e = a + 128;
+    let a = HEAD + PART * (k as usize);
+    let e = a + PART;
     if level == 0 {
         return write_leaf(&m[a..e], w, list, at);
     }
-    let n = m[a + 1] as usize;
+    let n = m[a + ITEM_COUNT] as usize;
     let mut next = at;
     let mut low = lo;
     let mut i = 0;
     while i < n {
-        let j = m[a + 66 + i];
+        let j = m[a + ITEMS + i];
         if polygon_meets(m, j, w) {
             next = write_below(m, level - 1, low, j, w, list, next);
         }

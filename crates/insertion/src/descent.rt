@@ -7,6 +7,9 @@ ghost use Rattle.insertion.specs.Descent.{LevelPut, Descending, Descende
 use emission::path_polygon;
 use geometry::Cell;
 use geometry::Polygon;
+use memory::HEAD;
+use memory::ITEMS;
+use memory::PART;
 use step2::Taken;
 use step2::choose;
 
@@ -42,7 +45,7 @@ pub fn descend(m: &[u32], level: u32, c: Cell, path: &mut [u32]) -> bool
         return false;
     };
     path[at + 1] = place as u32;
-    let child = m[64 + 128 * (k as usize) + 66 + place];
+    let child = m[HEAD + PART * (k as usize) + ITEMS + place];
     put_level(path, n - 1, child, choice.polygon);
     descend(m, level - 1, c, path)
 }

@@ -24,6 +24,9 @@ use index::fill_zeros;
 use index::is_held;
 use index::open;
 use index::right_length;
+use memory::HEAD;
+use memory::PART;
+use memory::RECTS;
 
 // Steps 1 to 4, planned: the path from the root, whose rectangle grows to the cell, and the lines of the
 // nodes that are split. False where step 2 refuses.
@@ -32,7 +35,7 @@ fn find_path(m: &[u32], level: u32, root: u32, c: Cell, path: &mut [u32]) -> boo
     ensures { λ b. ⌜ PathFound (now (m .entry)) level c (now (path .exit)) b ⌝ }
     ensures { λ _. ⌜ length (now (path .exit)) ≡ length (now (path .entry)) ⌝ }
 {
-    let from = 64 + 128 * (root as usize) + 2;
+    let from = HEAD + PART * (root as usize) + RECTS;
     let r = rect_at(&m[from..], 0);
     put_level(path, level as usize, root, Polygon::of(r.grow(c)));
     if !descend(m, level, c, path) {
@@ -59,7 +62,7 @@ fn build(
     if !find_path(m, level, root, c, path) {
         return Inserted::PolygonLimit;
     }
-    let room = (m.len() - 64) / 128;
+    let room = (m.len() - HEAD) / PART;
     if room < count_tree(m, path, level, c, tag) as usize {
         return Inserted::NodeLimit;
     }

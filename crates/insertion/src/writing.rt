@@ -6,6 +6,10 @@ ghost use Rattle.memory.specs.Image.{bitsWord, headNumbers};
 ghost use Rattle.insertion.specs.Writing.{written};
 use geometry::copy;
 use index::fill_zeros;
+use memory::HEAD;
+use memory::HEIGHT;
+use memory::PART;
+use memory::ROOT;
 
 // The j-th word of bits where the first n parts are in use.
 fn bits_word(n: u32, j: u32) -> u32
@@ -37,8 +41,8 @@ fn put_head(head: &mut [u32], parts: u32, height: u32)
     head[5] = bits_word(parts, 5);
     head[6] = bits_word(parts, 6);
     head[7] = bits_word(parts, 7);
-    head[8] = height;
-    head[9] = parts - 1;
+    head[HEIGHT] = height;
+    head[ROOT] = parts - 1;
 }
 
 // Writes the first parts of the work area to the index, which has no others then.
@@ -46,8 +50,8 @@ pub fn put_tree(m: &mut [u32], work: &[u32], parts: u32, height: u32)
     requires { ⌜ (1 ≤ parts) × (parts ≤ 256) × (64 + 128 * parts ≤ length (now m)) × (length (now work) ≡ length (now m)) ⌝ }
     ensures { λ _. ⌜ now (m .exit) ≡ written (length (now (m .entry))) parts height (now (work .entry)) ⌝ }
 {
-    let end = 64 + 128 * (parts as usize);
-    put_head(&mut m[0..64], parts, height);
-    copy(&work[64..end], end - 64, &mut m[64..end]);
+    let end = HEAD + PART * (parts as usize);
+    put_head(&mut m[0..HEAD], parts, height);
+    copy(&work[HEAD..end], end - HEAD, &mut m[HEAD..end]);
     fill_zeros(&mut m[end..]);
 }

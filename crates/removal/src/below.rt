@@ -6,6 +6,9 @@ use crate::gap::drop_entry;
 use crate::place::child_place;
 use crate::place::entry_place;
 use geometry::Cell;
+use memory::HEAD;
+use memory::ITEM_COUNT;
+use memory::PART;
 
 // Takes the i-th entry out of the leaf at part k, which is set free if it was the last. Answers whether
 // the leaf is left.
@@ -13,9 +16,9 @@ fn take_entry(m: &mut [u32], k: u32, i: usize) -> bool
     requires { ⌜ TakesItem (now m) k i ⌝ }
     ensures { λ r. ⌜ EntryTaken (now (m .entry)) k i (now (m .exit)) r ⌝ }
 {
-    let a = 64 + 128 * (k as usize);
-    let e = a + 128;
-    if m[a + 1] == 1 {
+    let a = HEAD + PART * (k as usize);
+    let e = a + PART;
+    if m[a + ITEM_COUNT] == 1 {
         set_free(m, k);
         return false;
     }
@@ -28,9 +31,9 @@ fn take_branch(m: &mut [u32], k: u32, i: usize) -> bool
     requires { ⌜ TakesItem (now m) k i ⌝ }
     ensures { λ r. ⌜ BranchTaken (now (m .entry)) k i (now (m .exit)) r ⌝ }
 {
-    let a = 64 + 128 * (k as usize);
-    let e = a + 128;
-    if m[a + 1] == 1 {
+    let a = HEAD + PART * (k as usize);
+    let e = a + PART;
+    if m[a + ITEM_COUNT] == 1 {
         set_free(m, k);
         return false;
     }
@@ -45,8 +48,8 @@ pub fn remove_below(m: &mut [u32], level: u32, lo: u32, k: u32, c: Cell) -> bool
     ensures { λ r. ⌜ RemovedBelow level (now (m .entry)) lo k c (now (m .exit)) r ⌝ }
 {
     if level == 0 {
-        let a = 64 + 128 * (k as usize);
-        let e = a + 128;
+        let a = HEAD + PART * (k as usize);
+        let e = a + PART;
         let i = entry_place(&m[a..e], c);
         return take_entry(m, k, i);
     }

@@ -2,6 +2,8 @@
 ghost use mathlib.Core.Path.{_≡_};
 ghost use Rattle.removal.specs.Parts.{UsedPart, withoutBit, freed};
 use index::fill_zeros;
+use memory::HEAD;
+use memory::PART;
 
 // Clears the bit of part k.
 fn clear_bit(m: &mut [u32], k: u32)
@@ -18,7 +20,7 @@ pub fn set_free(m: &mut [u32], k: u32)
     ensures { λ _. ⌜ now (m .exit) ≡ freed (now (m .entry)) k ⌝ }
 {
     clear_bit(m, k);
-    let a = 64 + 128 * (k as usize);
-    let e = a + 128;
+    let a = HEAD + PART * (k as usize);
+    let e = a + PART;
     fill_zeros(&mut m[a..e]);
 }

@@ -2,6 +2,9 @@
 ghost use Prim.Native.Nat.{_+_, _≤_};
 ghost use lib.ListN.{length};
 ghost use Rattle.removal.specs.Gap.{MovedDown, ItemIn, EntryDropped, BranchDropped};
+use memory::ENTRY;
+use memory::ITEM_COUNT;
+use memory::ITEMS;
 
 // Gives each number from `from` to before `end` the value that stands w places behind it.
 fn move_down(p: &mut [u32], w: usize, from: usize, end: usize)
@@ -21,11 +24,11 @@ pub fn drop_entry(p: &mut [u32], i: usize)
     requires { ⌜ ItemIn i (now p) ⌝ }
     ensures { λ _. ⌜ EntryDropped i (now (p .entry)) (now (p .exit)) ⌝ }
 {
-    let n = p[1];
-    let from = 66 + 3 * i;
-    let end = 66 + 3 * (n as usize);
-    move_down(p, 3, from, end);
-    p[1] = n - 1;
+    let n = p[ITEM_COUNT];
+    let from = ITEMS + ENTRY * i;
+    let end = ITEMS + ENTRY * (n as usize);
+    move_down(p, ENTRY, from, end);
+    p[ITEM_COUNT] = n - 1;
 }
 
 // Takes the i-th branch out of a routing node's part.
@@ -33,9 +36,9 @@ pub fn drop_branch(p: &mut [u32], i: usize)
     requires { ⌜ ItemIn i (now p) ⌝ }
     ensures { λ _. ⌜ BranchDropped i (now (p .entry)) (now (p .exit)) ⌝ }
 {
-    let n = p[1];
-    let from = 66 + i;
-    let end = 66 + (n as usize);
+    let n = p[ITEM_COUNT];
+    let from = ITEMS + i;
+    let end = ITEMS + (n as usize);
     move_down(p, 1, from, end);
-    p[1] = n - 1;
+    p[ITEM_COUNT] = n - 1;
 }

@@ -3,6 +3,9 @@ ghost use Rattle.removal.specs.Place.{HoldsCell, EntryPlace, ChildrenHav
 use geometry::Cell;
 use index::is_of_cell;
 use index::polygon_has;
+use memory::HEAD;
+use memory::ITEMS;
+use memory::PART;
 
 // A child of a routing node: its place among the branches, the lower end of its subtree and its part.
 pub struct Child {
@@ -29,7 +32,7 @@ pub fn child_place(m: &[u32], lo: u32, k: u32, c: Cell) -> Child
     requires { ⌜ ChildrenHave (now m) k c ⌝ }
     ensures { λ r. ⌜ ChildPlace (now (m .entry)) lo k c r ⌝ }
 {
-    let a = 64 + 128 * (k as usize) + 66;
+    let a = HEAD + PART * (k as usize) + ITEMS;
     let mut at = 0;
     let mut low = lo;
     let mut part = m[a];

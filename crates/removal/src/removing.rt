@@ -10,6 +10,8 @@ use index::entries_below;
 use index::is_held;
 use index::open;
 use index::right_length;
+use memory::HEIGHT;
+use memory::ROOT;
 
 // Removal from the tree in a memory. 'The last removal leaves all zeros.'
 fn remove_in_tree(m: &mut [u32], level: u32, root: u32, c: Cell) -> Removed
@@ -24,8 +26,8 @@ fn remove_in_tree(m: &mut [u32], level: u32, root: u32, c: Cell) -> Removed
         return Removed::Accepted(entries);
     }
     // the root is gone: its height and its part are numbers of no tree
-    m[8] = 0;
-    m[9] = 0;
+    m[HEIGHT] = 0;
+    m[ROOT] = 0;
     Removed::Accepted(entries)
 }
 

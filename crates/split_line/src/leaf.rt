@@ -2,6 +2,9 @@
 ghost use mathlib.Core.Path.{_≡_};
 ghost use Rattle.split_line.specs.FullLeaf.{entriesOf, LeafHere, LeafLineIs, sumsOf, addedSums, SmallSums};
 use geometry::Cell;
+use memory::ENTRY;
+use memory::ITEM_COUNT;
+use memory::ITEMS;
 
 // The sums of coordinates and of their squares.
 struct Sums {
@@ -33,7 +36,7 @@ fn leaf_sums(p: &[u32], c: Cell) -> Sums
     requires { ⌜ LeafHere (now p) c ⌝ }
     ensures { λ r. ⌜ r ≡ addedSums (sumsOf (entriesOf (now (p .entry)))) c ⌝ }
 {
-    let n = p[1] as usize;
+    let n = p[ITEM_COUNT] as usize;
     let mut sums = Sums {
         x: 0,
         xx: 0,
@@ -42,7 +45,7 @@ fn leaf_sums(p: &[u32], c: Cell) -> Sums
     };
     let mut i = 0;
     while i < n {
-        let at = 66 + 3 * i;
+        let at = ITEMS + ENTRY * i;
         let held = Cell {
             x: p[at],
             y: p[at + 1],
@@ -59,7 +62,7 @@ pub fn leaf_line(p: &[u32], c: Cell) -> u32
     requires { ⌜ LeafHere (now p) c ⌝ }
     ensures { λ r. ⌜ LeafLineIs (now (p .entry)) c r ⌝ }
 {
-    let n = (p[1] as u64) + 1;
+    let n = (p[ITEM_COUNT] as u64) + 1;
     let sums = leaf_sums(p, c);
     let spread_x = n * sums.xx - sums.x * sums.x;
     let spread_y = n * sums.yy - sums.y * sums.y;

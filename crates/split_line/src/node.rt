@@ -13,6 +13,10 @@ use crate::reach::reach_under;
 use geometry::Cell;
 use geometry::Rect;
 use geometry::put_rect;
+use memory::HEAD;
+use memory::ITEM_COUNT;
+use memory::ITEMS;
+use memory::PART;
 use sides::is_on;
 use sides::left_side;
 use sides::right_side;
@@ -82,13 +86,13 @@ fn put_bounds(
     requires { ⌜ NodeHere (now m) level lo k place below c × (length (now list) ≡ 36) ⌝ }
     ensures { λ r. ⌜ GroupBounds (now (m .entry)) level lo k place below c (now (list .exit)) r ⌝ }
 {
-    let a = 64 + 128 * (k as usize);
-    let n = m[a + 1];
+    let a = HEAD + PART * (k as usize);
+    let n = m[a + ITEM_COUNT];
     let mut next = 0;
     let mut low = lo;
     let mut i: u32 = 0;
     while i < n {
-        let j = m[a + 66 + (i as usize)];
+        let j = m[a + ITEMS + (i as usize)];
         next = put_branch(m, level - 1, low, j, i == place, below, c, list, next);
         low = j + 1;
         i += 1;

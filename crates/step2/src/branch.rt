@@ -8,16 +8,21 @@ ghost use Rattle.step2.specs.Branches.{polygonsIn, Branches, firstPlace}
 use geometry::Cell;
 use geometry::Polygon;
 use index::polygon_has;
+use memory::HEAD;
+use memory::ITEM_COUNT;
+use memory::ITEMS;
+use memory::PART;
+use memory::RECTS;
 
 // The polygon of the node at part k.
 pub fn polygon_at(m: &[u32], k: u32) -> Polygon
     requires { ⌜ PolygonPart (now m) k ⌝ }
     ensures { λ p. ⌜ PolygonOf (polygonIn (part (now (m .entry)) k)) p ⌝ }
 {
-    let a = 64 + 128 * (k as usize);
+    let a = HEAD + PART * (k as usize);
     let n = m[a] as usize;
-    let from = a + 2;
-    let to = a + 128;
+    let from = a + RECTS;
+    let to = a + PART;
     Polygon::load(&m[from..to], n)
 }
 
@@ -27,11 +32,11 @@ pub fn first_with(m: &[u32], k: u32, c: Cell) -> usize
     requires { ⌜ Branches (now m) k ⌝ }
     ensures { λ r. ⌜ r ≡ firstPlace (hasTest c) (polygonsIn (now (m .entry)) k) ⌝ }
 {
-    let a = 64 + 128 * (k as usize);
-    let n = m[a + 1] as usize;
+    let a = HEAD + PART * (k as usize);
+    let n = m[a + ITEM_COUNT] as usize;
     let mut i = 0;
     while i < n {
-        let j = m[a + 66 + i];
+        let j = m[a + ITEMS + i];
         if polygon_has(m, j, c) {
             return i;
         }

@@ -14,6 +14,10 @@ use crate::pieces::put_grown;
 use geometry::Cell;
 use geometry::Count;
 use geometry::Polygon;
+use memory::HEAD;
+use memory::ITEM_COUNT;
+use memory::ITEMS;
+use memory::PART;
 
 // The branch at a place of the node's row, or refusal 7.
 pub enum Taken {
@@ -52,13 +56,13 @@ fn choose_branch(m: &[u32], k: u32, p: Polygon, c: Cell) -> Choice
     requires { ⌜ Branches (now m) k × (p .count ≤ 16) × (onGrid c ≡ true) ⌝ }
     ensures { λ r. ⌜ ChoiceIs (now (m .entry)) k (rectsOf p) c r ⌝ }
 {
-    let a = 64 + 128 * (k as usize);
-    let n = m[a + 1] as usize;
+    let a = HEAD + PART * (k as usize);
+    let n = m[a + ITEM_COUNT] as usize;
     let place = first_with(m, k, c);
     if n <= place {
         return choose_nearest(m, k, p, c);
     }
-    let j = m[a + 66 + place];
+    let j = m[a + ITEMS + place];
     let polygon = polygon_at(m, j);
     let taken = Taken::Branch(place);
     Choice { taken, polygon }

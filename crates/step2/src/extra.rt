@@ -12,6 +12,11 @@ ghost use Rattle.step2.specs.Extra.{noneYet, nearestIn, nearestFrom};
 use geometry::Cell;
 use geometry::Rect;
 use geometry::rect_at;
+use memory::HEAD;
+use memory::ITEM_COUNT;
+use memory::ITEMS;
+use memory::PART;
+use memory::RECTS;
 
 // The rectangle of least extra area so far, by its branch and its place in the branch's polygon.
 pub struct Nearest {
@@ -56,10 +61,10 @@ fn nearest_at(m: &[u32], j: u32, branch: usize, c: Cell, known: Nearest) -> Near
     requires { ⌜ GoodPart (now m) j × (onGrid c ≡ true) ⌝ }
     ensures { λ r. ⌜ r ≡ nearestIn c branch 0 known (polygonIn (part (now (m .entry)) j)) ⌝ }
 {
-    let a = 64 + 128 * (j as usize);
+    let a = HEAD + PART * (j as usize);
     let n = m[a] as usize;
-    let from = a + 2;
-    let to = a + 128;
+    let from = a + RECTS;
+    let to = a + PART;
     nearest_in(&m[from..to], n, branch, c, known)
 }
 
@@ -69,8 +74,8 @@ pub fn find_nearest(m: &[u32], k: u32, c: Cell) -> Nearest
     requires { ⌜ Branches (now m) k × (onGrid c ≡ true) ⌝ }
     ensures { λ r. ⌜ r ≡ nearestFrom c 0 noneYet (polygonsIn (now (m .entry)) k) ⌝ }
 {
-    let a = 64 + 128 * (k as usize);
-    let n = m[a + 1] as usize;
+    let a = HEAD + PART * (k as usize);
+    let n = m[a + ITEM_COUNT] as usize;
     let mut best = Nearest {
         branch: 0,
         rect: 0,
@@ -78,7 +83,7 @@ pub fn find_nearest(m: &[u32], k: u32, c: Cell) -> Nearest
     };
     let mut i = 0;
     while i < n {
-        let j = m[a + 66 + i];
+        let j = m[a + ITEMS + i];
         best = nearest_at(m, j, i, c, best);
         i += 1;
     }

@@ -22,6 +22,10 @@ use geometry::Rect;
 use geometry::common_parts;
 use geometry::put_rect;
 use geometry::rect_at;
+use memory::HEAD;
+use memory::ITEMS;
+use memory::PART;
+use memory::RECTS;
 
 // Writes the pieces of the grown rectangle g of the branch at a place: outside its siblings, inside the parent's
 // polygon p. The list holds the pieces on the way.
@@ -51,9 +55,9 @@ fn grown_rect(m: &[u32], j: u32, rect: usize, c: Cell) -> Rect
     requires { ⌜ PolygonPart (now m) j × (rect < rectCount (part (now m) j)) × (onGrid c ≡ true) ⌝ }
     ensures { λ g. ⌜ g ≡ grown (getD (polygonIn (part (now (m .entry)) j)) rect noRect) c ⌝ }
 {
-    let a = 64 + 128 * (j as usize);
-    let from = a + 2;
-    let to = a + 128;
+    let a = HEAD + PART * (j as usize);
+    let from = a + RECTS;
+    let to = a + PART;
     let r = rect_at(&m[from..to], rect);
     r.grow(c)
 }
@@ -73,7 +77,7 @@ pub fn put_grown(
     requires { ⌜ Branches (now m) k × (place < countAt (now m) k) × (rect < length (getD (polygonsIn (now m) k) place [])) × (p .count ≤ 16) × (onGrid c ≡ true) × (1088 ≤ length (now list)) × (1088 ≤ length (now spare)) ⌝ }
     ensures { λ n. ⌜ Written (now (list .entry)) (grownAt (rectsOf p) (polygonsIn (now (m .entry)) k) place rect c) n (now (list .exit)) ⌝ }
 {
-    let j = m[64 + 128 * (k as usize) + 66 + place];
+    let j = m[HEAD + PART * (k as usize) + ITEMS + place];
     let g = grown_rect(m, j, rect, c);
     let inner = put_inner(m, k, place, g, p, list, spare);
     let Count::Rects(count) = inner else {

@@ -9,6 +9,9 @@ use geometry::Count;
 use geometry::put_rect;
 use geometry::rect_at;
 use geometry::refine_list;
+use memory::HEAD;
+use memory::PART;
+use memory::RECTS;
 
 // Writes the rectangles from the given one up to before the e-th of one list behind the first n of another.
 fn put_rects(list: &mut [u32], n: usize, source: &[u32], from: usize, e: usize) -> usize
@@ -75,9 +78,9 @@ pub fn put_polygon(
     requires { ⌜ PolygonPart (now m) j × (rect < rectCount (part (now m) j)) × (count ≤ 256) × (4 * count ≤ length (now pieces)) × (1088 ≤ length (now list)) ⌝ }
     ensures { λ c. ⌜ Written (now (list .entry)) (refinedLimited (replaced (polygonIn (part (now (m .entry)) j)) rect (rectsIn (now (pieces .entry)) count))) c (now (list .exit)) ⌝ }
 {
-    let a = 64 + 128 * (j as usize);
+    let a = HEAD + PART * (j as usize);
     let n = m[a] as usize;
-    let from = a + 2;
-    let to = a + 128;
+    let from = a + RECTS;
+    let to = a + PART;
     put_refined(list, &m[from..to], n, rect, pieces, count)
 }
