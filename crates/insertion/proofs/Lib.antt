@@ -1,7 +1,5 @@
 pub mod LevelLaws
 pub mod DescentLaws
-pub mod Ways
-pub mod SplitGroups
 pub mod NodePlan
 pub mod PlanTree
 pub mod PathLaws

@@ -33,12 +33,12 @@ use Rattle.split_line.specs.FullLeaf.{OnGrid, entriesOf, LeafHere, FullLeaf, Le
 use Rattle.split_line.specs.Reached.{heldOf, heldUnder}
 use Rattle.split_line.specs.Groups.{groupsAt, NodeHere, LineFits, NodeLineIs}
 use Rattle.emission.specs.Path.{partOn, placeOn, lineOn, polygonOn, wayAt, PathNode, PathFrom}
-use Rattle.insertion.specs.Ways.{GoodWay}
+use Rattle.tree.proofs.GoodWays.{GoodWay}
 use Rattle.insertion.specs.Descent.{itemsAt}
 use Rattle.insertion.specs.Planning.{GoodPath, PlannedAt, SplitBelow, Full, LineOfLevel}
 use Rattle.insertion.proofs.DescentLaws.{items-are}
-use Rattle.insertion.proofs.Ways.{way-entries}
-use Rattle.insertion.proofs.SplitGroups.{row-entries, line-row, bag-all, bag-sym}
+use Rattle.tree.proofs.Ways.{way-entries}
+use Rattle.tree.proofs.SplitGroups.{row-entries, line-row, bag-all, bag-sym}
 use Rattle.insertion.proofs.NodePlan.{node-line-is, node-line-fits}
 use Rattle.insertion.proofs.PathLaws.{path-below, node-at}
 use Rattle.insertion.proofs.PlanLoop.{level-length}

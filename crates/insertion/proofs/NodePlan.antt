@@ -42,9 +42,9 @@ use Rattle.split_line.specs.Groups.{halvesOf, groupsIn, groupsOf, groupsAt, Lin
 use Rattle.emission.specs.Path.{partOn, placeOn, lineOn, polygonOn, rowAt, wayAt}
 use Rattle.insertion.specs.Descent.{itemsAt}
 use Rattle.insertion.proofs.DescentLaws.{items-are, row-is}
-use Rattle.insertion.specs.Ways.{GoodWay}
-use Rattle.insertion.proofs.Ways.{Descent, descent, way-entries}
-use Rattle.insertion.proofs.SplitGroups.{split-groups, few-row, row-entries, line-row, bag-trans, bag-sym, bag-keep, bag-length, bag-all, alike-mid, alike-all, map-append}
+use Rattle.tree.proofs.GoodWays.{GoodWay}
+use Rattle.tree.proofs.Ways.{Descent, descent, way-entries}
+use Rattle.tree.proofs.SplitGroups.{split-groups, few-row, row-entries, line-row, bag-trans, bag-sym, bag-keep, bag-length, bag-all, alike-mid, alike-all, map-append}
 
 abbrev laws : Laws (planeSpace fanout)
 laws = plane-space-laws fanout

@@ -18,7 +18,7 @@ use Rattle.index.specs.Answers.{fanout}
 use Rattle.index.specs.Changes.{entryOf}
 use Rattle.index.specs.Walks.{Walkable, countAt}
 use Rattle.emission.specs.Path.{partOn, placeOn, lineOn, polygonOn, rowAt, wayAt, PathNode, PathFrom}
-use Rattle.insertion.specs.Ways.{GoodWay}
+use Rattle.tree.proofs.GoodWays.{GoodWay}
 use Rattle.insertion.specs.Descent.{itemsAt}
 use Rattle.insertion.specs.Planning.{GoodPath, PlannedAt}
 

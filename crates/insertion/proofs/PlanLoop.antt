@@ -23,9 +23,9 @@ use Rattle.index.specs.Walks.{Walkable, countAt}
 use Rattle.index.proofs.WalkParts.{part-at}
 use Rattle.split_line.specs.LineNumber.{LineIs}
 use Rattle.emission.specs.Path.{partOn, placeOn, lineOn, polygonOn, rowAt, wayAt, PathNode, PathFrom}
-use Rattle.insertion.specs.Ways.{GoodWay}
+use Rattle.tree.proofs.GoodWays.{GoodWay}
 use Rattle.insertion.specs.Planning.{GoodPath, Plannable, PlannedAt, Planned, SplitBelow, Full, LineOfLevel, PlanMade}
-use Rattle.insertion.proofs.SplitGroups.{split-one, split-two, few-row}
+use Rattle.tree.proofs.SplitGroups.{split-one, split-two, few-row}
 use Rattle.insertion.proofs.NodePlan.{way-fits, row-length-is}
 use Rattle.insertion.proofs.PathLaws.{part-kept, line-kept, line-put, way-kept, polygon-kept, path-few, good-kept, path-below, node-at}
 

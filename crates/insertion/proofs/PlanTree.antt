@@ -26,9 +26,9 @@ use Rattle.plane.specs.Plane.{planeSpace, planeRoot}
 use Rattle.plane.specs.Candidates.{rankLine}
 use Rattle.index.specs.Answers.{fanout}
 use Rattle.emission.specs.Path.{lineOn, polygonOn, rowAt, wayAt, rowUnder, cutUnder, plannedTree}
-use Rattle.insertion.specs.Ways.{GoodWay}
+use Rattle.tree.proofs.GoodWays.{GoodWay}
 use Rattle.insertion.specs.Planning.{PlannedAt}
-use Rattle.insertion.proofs.SplitGroups.{split-one, split-two, few-row}
+use Rattle.tree.proofs.SplitGroups.{split-one, split-two, few-row}
 use Rattle.insertion.proofs.NodePlan.{way-fits}
 
 -- the branches of a node, by a plan and by the definition

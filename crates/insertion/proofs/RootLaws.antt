@@ -49,12 +49,12 @@ use Rattle.index.proofs.WalkRows.{walkable}
 use Rattle.index.proofs.TreeWalk.{tree-walkable}
 use Rattle.emission.specs.Path.{partOn, lineOn, polygonOn, wayAt, PathFrom, plannedTree}
 use Rattle.index.specs.Held.{heldRead}
-use Rattle.insertion.specs.Ways.{GoodWay}
+use Rattle.tree.proofs.GoodWays.{GoodWay}
 use Rattle.insertion.specs.Descent.{itemsAt, LevelPut, Descending, Kept, Reached, Stopped, Descended}
 use Rattle.insertion.specs.Planning.{GoodPath, Plannable, Planned, PlanMade}
 use Rattle.insertion.specs.Insert.{Inserting, PathPlanned, PathRefused}
 use Rattle.insertion.proofs.DescentLaws.{items-are, same-drop, same-polygon}
-use Rattle.insertion.proofs.Ways.{SoundWay, sound-way}
+use Rattle.tree.proofs.Ways.{SoundWay, sound-way}
 use Rattle.insertion.proofs.PlanTree.{planned-insert}
 
 abbrev laws : Laws (planeSpace fanout)

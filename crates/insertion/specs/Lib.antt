@@ -1,4 +1,3 @@
-pub mod Ways
 pub mod Descent
 pub mod Planning
 pub mod Writing

@@ -17,7 +17,7 @@ use Rattle.index.specs.Changes.{entryOf}
 use Rattle.index.specs.Walks.{countAt}
 use Rattle.split_line.specs.LineNumber.{LineIs}
 use Rattle.emission.specs.Path.{partOn, lineOn, polygonOn, wayAt, PathFrom}
-use Rattle.insertion.specs.Ways.{GoodWay}
+use Rattle.tree.proofs.GoodWays.{GoodWay}
 use Rattle.insertion.specs.Descent.{itemsAt}
 
 -- A path that is that of the definition from each level on, through sound nodes.

@@ -32,3 +32,6 @@ pub mod Refused
 pub mod Emission
 pub mod PlanIndex
 pub mod Pass
+pub mod GoodWays
+pub mod Ways
+pub mod SplitGroups
