@@ -30,7 +30,6 @@ use Rattle.index.specs.Walks.{Walkable, countAt, partAt}
 use Rattle.index.proofs.WalkRows.{leaf-part, part-is}
 use Rattle.split_line.specs.LineNumber.{LineIs}
 use Rattle.split_line.specs.FullLeaf.{OnGrid, entriesOf, LeafHere, FullLeaf, LeafLineIs}
-use Rattle.split_line.specs.Reached.{heldOf, heldUnder}
 use Rattle.split_line.specs.Groups.{groupsAt, NodeHere, LineFits, NodeLineIs}
 use Rattle.emission.specs.Path.{partOn, placeOn, lineOn, polygonOn, wayAt, PathNode, PathFrom}
 use Rattle.tree.proofs.GoodWays.{GoodWay}
@@ -39,6 +38,8 @@ use Rattle.insertion.specs.Planning.{GoodPath, PlannedAt, SplitBelow, Fu
 use Rattle.insertion.proofs.DescentLaws.{items-are}
 use Rattle.tree.proofs.Ways.{way-entries}
 use Rattle.tree.proofs.SplitGroups.{row-entries, line-row, bag-all, bag-sym}
+use Rattle.index.specs.Count as count
+use Rattle.index.specs.Count.{entriesAt}
 use Rattle.insertion.proofs.NodePlan.{node-line-is, node-line-fits}
 use Rattle.insertion.proofs.PathLaws.{path-below, node-at}
 use Rattle.insertion.proofs.PlanLoop.{level-length}
@@ -104,8 +105,8 @@ module _ (n level : ℕ) (path m : List ℕ) (c : Cell) (f : Full (suc n) level 
       unmap : (l : List (Item (planeSpace fanout) (suc n))) → All (λ g. All (λ i. onGrid (i .cell) ≡ true) g) (map (held (planeSpace fanout) (suc n)) l) → All (λ x. All (λ i. onGrid (i .cell) ≡ true) (held (planeSpace fanout) (suc n) x)) l
       unmap l h = map-all (λ g. All (λ i. onGrid (i .cell) ≡ true) g) (held (planeSpace fanout) (suc n)) l h
 
-  under-grid : OnGrid (heldUnder (suc n) m 0 at)
-  unfolding heldUnder heldOf held
+  under-grid : OnGrid (entriesAt (suc n) m 0 at)
+  unfolding entriesAt count.entriesOf held
   under-grid = rw (here .reads) held-grid
 
   place-in : placeOn path (suc n) < countAt m at

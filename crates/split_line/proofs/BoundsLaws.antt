@@ -21,10 +21,11 @@ use Rattle.plane.specs.Candidates.{extentOf, extents}
 use Rattle.plane.proofs.Kept.{keep-all}
 use Rattle.index.specs.Answers.{fanout}
 use Rattle.index.specs.Changes.{entryOf}
+use Rattle.index.specs.Count.{entriesAt}
 use Rattle.sides.specs.Sides.{sideOf, sidesOf, onSide, onEvery}
 use Rattle.split_line.specs.declared.reach.Reach.{Reach}
 use Rattle.split_line.specs.FullLeaf.{OnGrid}
-use Rattle.split_line.specs.Reached.{extentRect, boundsOf, reachOf, reachAdd, onSides, heldUnder, keptUnder, NodeReach}
+use Rattle.split_line.specs.Reached.{extentRect, boundsOf, reachOf, reachAdd, onSides, keptUnder, NodeReach}
 use Rattle.split_line.specs.Bounds.{rectExtent}
 use Rattle.split_line.specs.GroupBounds.{GridNode, sideBounds}
 use Rattle.split_line.proofs.ReachLaws.{reach-more}
@@ -68,18 +69,18 @@ on-one : (side : ℕ) (e : CellEntry) → onSides (side ∷ []) e ≡ entryOn (p
 unfolding onSides onEvery onAll sidesOf
 on-one side e = and-true (on (planeSpace fanout) (sideOf side) (e .cell))
 
-kept-one : (side n : ℕ) (m : List ℕ) (lo k : ℕ) → keptUnder (side ∷ []) n m lo k ≡ keep (entryOn (planeSpace fanout) (sideOf side)) (heldUnder n m lo k)
+kept-one : (side n : ℕ) (m : List ℕ) (lo k : ℕ) → keptUnder (side ∷ []) n m lo k ≡ keep (entryOn (planeSpace fanout) (sideOf side)) (entriesAt n m lo k)
 unfolding keptUnder
-kept-one side n m lo k = ap (λ t. keep t (heldUnder n m lo k)) (fun-ext (on-one side))
+kept-one side n m lo k = ap (λ t. keep t (entriesAt n m lo k)) (fun-ext (on-one side))
 
 keep-every : (es : List CellEntry) → keep (onSides []) es ≡ es
 unfolding keep onSides onEvery onAll sidesOf
 keep-every [] = refl
 keep-every (e ∷ es) = ap (λ l. e ∷ l) (keep-every es)
 
-kept-none : (n : ℕ) (m : List ℕ) (lo k : ℕ) → keptUnder [] n m lo k ≡ heldUnder n m lo k
+kept-none : (n : ℕ) (m : List ℕ) (lo k : ℕ) → keptUnder [] n m lo k ≡ entriesAt n m lo k
 unfolding keptUnder
-kept-none n m lo k = keep-every (heldUnder n m lo k)
+kept-none n m lo k = keep-every (entriesAt n m lo k)
 
 pub grid-kept : (t : CellEntry → Bool) (es : List CellEntry) → OnGrid es → OnGrid (keep t es)
 grid-kept t es g = keep-all t (λ e. onGrid (e .cell) ≡ true) es (all-map (λ e. onGrid (e .cell) ≡ true) (λ e. t e ≡ true → onGrid (e .cell) ≡ true) es (λ e h k. h) g)
@@ -103,14 +104,14 @@ module _ (s : Side Line) (es : List CellEntry) (c : Cell) where
 module _ (n : ℕ) (m : List ℕ) (lo k : ℕ) where
   pub node-reach : (ss : List ℕ) → GridNode n m lo k → NodeReach n m lo k ss
   unfolding keptUnder
-  node-reach ss v = record { walk = v .walk; grid = grid-kept (onSides ss) (heldUnder n m lo k) (v .grid) }
+  node-reach ss v = record { walk = v .walk; grid = grid-kept (onSides ss) (entriesAt n m lo k) (v .grid) }
 
-  pub whole-is : (r : Reach) → r ≡ reachOf (keptUnder [] n m lo k) → r .bounds ≡ boundsOf (heldUnder n m lo k)
+  pub whole-is : (r : Reach) → r ≡ reachOf (keptUnder [] n m lo k) → r .bounds ≡ boundsOf (entriesAt n m lo k)
   unfolding reachOf
   whole-is r e = ap (λ q. q .bounds) e ∙ ap boundsOf (kept-none n m lo k)
 
   module _ (side : ℕ) (c : Cell) (r : Reach) (e : r ≡ reachOf (keptUnder (side ∷ []) n m lo k)) (b : Bool) (f : b ≡ onSide side c) where
-    kept : r ≡ reachOf (keep (entryOn (planeSpace fanout) (sideOf side)) (heldUnder n m lo k))
+    kept : r ≡ reachOf (keep (entryOn (planeSpace fanout) (sideOf side)) (entriesAt n m lo k))
     kept = e ∙ ap reachOf (kept-one side n m lo k)
 
     tested : b ≡ on (planeSpace fanout) (sideOf side) c
@@ -120,11 +121,11 @@ module _ (n : ℕ) (m : List ℕ) (lo k : ℕ) where
     pub side-hit : (d r′ : Reach) → b ≡ true → d ≡ reachAdd r c → r′ ≡ d → r′ .bounds ≡ sideBounds n m lo k (sideOf side) c
     unfolding sideBounds reachOf
     side-hit d r′ h g j =
-        let q = j ∙ g ∙ ap (λ x. reachAdd x c) kept ∙ reach-more (keep (entryOn (planeSpace fanout) (sideOf side)) (heldUnder n m lo k)) (entryOf c 0) in
-        ap (λ x. x .bounds) q ∙ ap boundsOf (sym (keep-one (sideOf side) (heldUnder n m lo k) (entryOf c 0) ∙ rw (← tested, h)))
+        let q = j ∙ g ∙ ap (λ x. reachAdd x c) kept ∙ reach-more (keep (entryOn (planeSpace fanout) (sideOf side)) (entriesAt n m lo k)) (entryOf c 0) in
+        ap (λ x. x .bounds) q ∙ ap boundsOf (sym (keep-one (sideOf side) (entriesAt n m lo k) (entryOf c 0) ∙ rw (← tested, h)))
 
     pub side-miss : (r′ : Reach) → b ≡ false → r′ ≡ r → r′ .bounds ≡ sideBounds n m lo k (sideOf side) c
     unfolding sideBounds reachOf
     side-miss r′ h j =
         let q = j ∙ kept in
-        ap (λ x. x .bounds) q ∙ ap boundsOf (sym (keep-one (sideOf side) (heldUnder n m lo k) (entryOf c 0) ∙ rw (← tested, h, append-nil)))
+        ap (λ x. x .bounds) q ∙ ap boundsOf (sym (keep-one (sideOf side) (entriesAt n m lo k) (entryOf c 0) ∙ rw (← tested, h, append-nil)))

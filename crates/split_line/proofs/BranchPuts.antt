@@ -12,8 +12,9 @@ use Rattle.geometry.proofs.NumberLaws.{length-put}
 use Rattle.geometry.proofs.AppendLaws.{append-one, append-more}
 use Rattle.tree.specs.Space.{left, right}
 use Rattle.plane.specs.Candidates.{rankLine}
+use Rattle.index.specs.Count.{entriesAt}
 use Rattle.sides.specs.Sides.{sideOf}
-use Rattle.split_line.specs.Reached.{boundsOf, heldUnder}
+use Rattle.split_line.specs.Reached.{boundsOf}
 use Rattle.split_line.specs.GroupBounds.{BranchHere, sideBounds, branchBounds}
 
 module _ (n : ℕ) (m : List ℕ) (lo k : ℕ) (halved : Bool) (below : ℕ) (c : Cell) (l : List ℕ) (at : ℕ) (v : BranchHere n m lo k halved below c l at) where
@@ -41,6 +42,6 @@ module _ (n : ℕ) (m : List ℕ) (lo k : ℕ) (halved : Bool) (below : ℕ) (c 
       let g : at + 1 + 1 ≡ at + 2 = omega arith in
       rw (h, ← p, ← p′, ← q, ← q′, ← g) z
 
-  pub put-whole : (a : Rect) (l₁ : List ℕ) → halved ≡ false → a ≡ boundsOf (heldUnder n m lo k) → l₁ ≡ putAt l at a → Appended l at (branchBounds n m lo k halved below c) 2 l₁ (at + 1)
+  pub put-whole : (a : Rect) (l₁ : List ℕ) → halved ≡ false → a ≡ boundsOf (entriesAt n m lo k) → l₁ ≡ putAt l at a → Appended l at (branchBounds n m lo k halved below c) 2 l₁ (at + 1)
   unfolding branchBounds
   put-whole a l₁ h q e = rw (h, ← q) (append-one l at a 2 (omega arith) (room-one h) l₁ e)

@@ -27,11 +27,12 @@ use Rattle.memory.specs.Reading.{readNode}
 use Rattle.memory.proofs.ReadingLaws.{RowParts, row-parts, row-none, row-length, node-parts}
 use Rattle.index.specs.Answers.{fanout}
 use Rattle.index.specs.Changes.{entryOf}
+use Rattle.index.specs.Count.{entriesAt, entriesOf}
 use Rattle.index.specs.Walks.{countAt, childAt}
 use Rattle.index.proofs.WalkRows.{RowWalkable, walkable}
 use Rattle.index.proofs.WalkLoop.{children-count, next-child}
 use Rattle.split_line.specs.FullLeaf.{OnGrid}
-use Rattle.split_line.specs.Reached.{boundsOf, heldOf, heldUnder}
+use Rattle.split_line.specs.Reached.{boundsOf}
 use Rattle.split_line.specs.Groups.{halvesOf, groupsIn, groupsAt, NodeHere}
 use Rattle.split_line.specs.GroupBounds.{sideBounds, branchBounds, BranchHere, GroupBounds}
 use Rattle.split_line.proofs.BoundsLaws.{bounds-valid, grid-kept}
@@ -72,8 +73,8 @@ pub record AtBranch (n : ℕ) (m : List ℕ) (level lo k place below : ℕ) (c :
   pub each : All (λ r. valid r ≡ true) (rectsIn l next)
   pub list : rectsIn l next ++ map boundsOf (groupsFrom n place (rankLine below) (entryOf c 0) i (row .row)) ≡ map boundsOf (groupsAt level m lo k place below (entryOf c 0))
 
-held-read : (n : ℕ) (m : List ℕ) (lo k : ℕ) (b : Item (planeSpace fanout) (suc n)) → readNode fanout n m lo k ≡ some b → heldUnder n m lo k ≡ held (planeSpace fanout) (suc n) b
-unfolding heldUnder heldOf
+held-read : (n : ℕ) (m : List ℕ) (lo k : ℕ) (b : Item (planeSpace fanout) (suc n)) → readNode fanout n m lo k ≡ some b → entriesAt n m lo k ≡ held (planeSpace fanout) (suc n) b
+unfolding entriesAt entriesOf held
 held-read n m lo k b e = rw e
 
 start-at : (n : ℕ) (m : List ℕ) (lo k place below : ℕ) (c : Cell) (l : List ℕ) → NodeHere m (suc n) lo k place below c → length l ≡ 36 → AtBranch n m (suc n) lo k place below c 0 lo l 0
@@ -110,14 +111,14 @@ all-cond P false x y p q = q
 
 -- the bounds of a branch by the entries it holds
 module _ (n : ℕ) (m : List ℕ) (lo k : ℕ) (halved : Bool) (below : ℕ) (c : Cell) where
-  branch-groups : branchBounds n m lo k halved below c ≡ map boundsOf (cond halved (halvesOf (rankLine below) (heldUnder n m lo k ++ (entryOf c 0 ∷ []))) (heldUnder n m lo k ∷ []))
+  branch-groups : branchBounds n m lo k halved below c ≡ map boundsOf (cond halved (halvesOf (rankLine below) (entriesAt n m lo k ++ (entryOf c 0 ∷ []))) (entriesAt n m lo k ∷ []))
   unfolding branchBounds sideBounds
-  branch-groups = map-cond boundsOf halved (halvesOf (rankLine below) (heldUnder n m lo k ++ (entryOf c 0 ∷ []))) (heldUnder n m lo k ∷ [])
+  branch-groups = map-cond boundsOf halved (halvesOf (rankLine below) (entriesAt n m lo k ++ (entryOf c 0 ∷ []))) (entriesAt n m lo k ∷ [])
 
-  branch-valid : OnGrid (heldUnder n m lo k) → onGrid c ≡ true → All (λ r. valid r ≡ true) (branchBounds n m lo k halved below c)
+  branch-valid : OnGrid (entriesAt n m lo k) → onGrid c ≡ true → All (λ r. valid r ≡ true) (branchBounds n m lo k halved below c)
   unfolding branchBounds sideBounds All
   branch-valid g h =
-      let more = all-append (λ e. onGrid (e .cell) ≡ true) (heldUnder n m lo k) (entryOf c 0 ∷ []) g (h, tt) in
+      let more = all-append (λ e. onGrid (e .cell) ≡ true) (entriesAt n m lo k) (entryOf c 0 ∷ []) g (h, tt) in
       all-cond (λ r. valid r ≡ true) halved _ _ (bounds-valid _ (grid-kept _ _ more), (bounds-valid _ (grid-kept _ _ more), tt)) (bounds-valid _ g, tt)
 
 module _ (n : ℕ) (m : List ℕ) (level lo k place below : ℕ) (c : Cell) (i low : ℕ) (l : List ℕ) (next : ℕ) (a : AtBranch n m level lo k place below c i low l next) where
@@ -142,13 +143,13 @@ module _ (n : ℕ) (m : List ℕ) (level lo k place below : ℕ) (c : Cell) (i l
     parts : RowParts (readNode fanout n m) low k (childAt m k i) (drop (i + 1) (childrenIn (part m k))) (a .row .row)
     parts = row-parts (readNode fanout n m) low k (childAt m k i) _ (a .row .row) (rw (next-child level m lo k (a .here .walk) i h) at (a .row .reads))
 
-    held-is : heldUnder n m low (childAt m k i) ≡ held (planeSpace fanout) (suc n) (parts .first)
+    held-is : entriesAt n m low (childAt m k i) ≡ held (planeSpace fanout) (suc n) (parts .first)
     held-is = held-read n m low (childAt m k i) (parts .first) (parts .head)
 
     grids : All (λ b. OnGrid (held (planeSpace fanout) (suc n) b)) (parts .first ∷ parts .others)
     grids = rw (parts .whole) (a .grid)
 
-    branch-grid : OnGrid (heldUnder n m low (childAt m k i))
+    branch-grid : OnGrid (entriesAt n m low (childAt m k i))
     branch-grid = subst OnGrid (sym held-is) (all-head _ (parts .first) (parts .others) grids)
 
     pub branch-below : childAt m k i < k

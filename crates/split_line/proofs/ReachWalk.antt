@@ -15,6 +15,7 @@ use Rattle.plane.specs.Lines.{CellEntry}
 use Rattle.plane.specs.Plane.{planeSpace}
 use Rattle.memory.specs.Layout.{itemCount, entryIn}
 use Rattle.index.specs.Answers.{fanout}
+use Rattle.index.specs.Count.{entriesAt, entriesOf}
 use Rattle.index.specs.Walks.{visitsBelow, entriesFrom, entriesBelow, leafEntries, Walkable, countAt, childAt, partAt}
 use Rattle.index.proofs.WalkRows.{leaf-entries, leaf-part, part-is}
 use Rattle.index.proofs.WalkLeaf.{AtEntry, entry-start, entry-miss, entry-hit, entry-end}
@@ -22,7 +23,7 @@ use Rattle.index.proofs.WalkLoop.{AtChild, child-start, child-walkable, child-h
 use Rattle.sides.specs.Sides.{onEvery}
 use Rattle.split_line.specs.declared.reach.Reach.{Reach}
 use Rattle.split_line.specs.FullLeaf.{OnGrid}
-use Rattle.split_line.specs.Reached.{reachOf, reachAdd, reachJoin, onSides, heldOf, heldUnder, keptUnder, LeafReach, NodeReach}
+use Rattle.split_line.specs.Reached.{reachOf, reachAdd, reachJoin, onSides, keptUnder, LeafReach, NodeReach}
 use Rattle.split_line.proofs.ReachLaws.{reach-more, reach-append}
 
 -- the test of the walk
@@ -36,7 +37,7 @@ walk-all u zero es = ap (keep u) (flatMap-single (held (planeSpace fanout) zero)
 walk-all u (suc n) bs = keep-flatMap u (held (planeSpace fanout) (suc n)) bs ∙ flatMap-same _ _ bs (λ b. walk-all u n (b .child))
 
 kept-walk : (ss : List ℕ) (n : ℕ) (m : List ℕ) (lo k : ℕ) → Walkable n m lo k → keptUnder ss n m lo k ≡ entriesBelow every (onSides ss) n m lo k
-unfolding keptUnder heldUnder heldOf entriesBelow entriesFrom held
+unfolding keptUnder entriesAt entriesOf entriesBelow entriesFrom held
 kept-walk ss n m lo k v = rw (v .reads) (walk-all (onSides ss) n (v .node .child))
 
 -- Before the i-th entry of a leaf: what those before it reach.

@@ -17,25 +17,26 @@ use Rattle.plane.specs.Candidates.{rankLine}
 use Rattle.index.specs.Answers.{fanout}
 use Rattle.index.specs.Walks.{Walkable}
 use Rattle.index.specs.Changes.{entryOf}
+use Rattle.index.specs.Count.{entriesAt}
 use Rattle.split_line.specs.FullLeaf.{OnGrid}
-use Rattle.split_line.specs.Reached.{boundsOf, heldUnder}
+use Rattle.split_line.specs.Reached.{boundsOf}
 use Rattle.split_line.specs.Bounds.{BoundsList}
 use Rattle.split_line.specs.Groups.{groupsAt}
 
 -- A node that can be walked, all its entries on the grid.
 pub record GridNode (n : ℕ) (m : List ℕ) (lo k : ℕ) : Type 0 where
   pub walk : Walkable n m lo k
-  pub grid : OnGrid (heldUnder n m lo k)
+  pub grid : OnGrid (entriesAt n m lo k)
 
 -- the bounds of the entries below the node at part k, with one at the cell c, that are on a side; a tag does not matter
 unfoldable pub sideBounds : ℕ → List ℕ → ℕ → ℕ → Side Line → Cell → Rect
-sideBounds n m lo k s c = boundsOf (keep (entryOn (planeSpace fanout) s) (heldUnder n m lo k ++ (entryOf c 0 ∷ [])))
+sideBounds n m lo k s c = boundsOf (keep (entryOn (planeSpace fanout) s) (entriesAt n m lo k ++ (entryOf c 0 ∷ [])))
 
 -- the bounds of the groups of the branch at part k: of two where it was split, else of one
 unfoldable pub branchBounds : ℕ → List ℕ → ℕ → ℕ → Bool → ℕ → Cell → List Rect
 branchBounds n m lo k halved below c =
     cond halved (sideBounds n m lo k (left (rankLine below)) c ∷ sideBounds n m lo k (right (rankLine below)) c ∷ [])
-    (boundsOf (heldUnder n m lo k) ∷ [])
+    (boundsOf (entriesAt n m lo k) ∷ [])
 
 -- A branch whose bounds fit into the list l from the at-th place on.
 pub record BranchHere (n : ℕ) (m : List ℕ) (lo k : ℕ) (halved : Bool) (below : ℕ) (c : Cell) (l : List ℕ) (at : ℕ) : Type 0 where

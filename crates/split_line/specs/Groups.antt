@@ -21,9 +21,9 @@ use Rattle.memory.specs.Reading.{readNode}
 use Rattle.index.specs.Answers.{fanout}
 use Rattle.index.specs.Walks.{Walkable, countAt}
 use Rattle.index.specs.Changes.{entryOf}
+use Rattle.index.specs.Count.{entriesAt}
 use Rattle.split_line.specs.LineNumber.{LineIs}
 use Rattle.split_line.specs.FullLeaf.{OnGrid}
-use Rattle.split_line.specs.Reached.{heldUnder}
 
 -- the entries left and right of a line, each side a group
 abbrev pub halvesOf : Line → List CellEntry → List (List CellEntry)
@@ -52,7 +52,7 @@ pub record NodeHere (m : List ℕ) (level lo k place below : ℕ) (c : Cell) : T
   pub routing : 1 ≤ level
   pub place-in : place < countAt m k
   pub line : below < 131072
-  pub grid : OnGrid (heldUnder level m lo k)
+  pub grid : OnGrid (entriesAt level m lo k)
   pub cell : onGrid c ≡ true
 
 -- 'A fitting line always exists': some line fits the groups, and each group holds entries, all on the grid.

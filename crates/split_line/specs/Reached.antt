@@ -1,21 +1,19 @@
 -- What entries reach: the smallest rectangle with their cells. The entries meant are those below a node of a memory that are on every
 -- side of a list.
-use Prim.Native.Nat.{ℕ, suc, _+_}
+use Prim.Native.Nat.{ℕ, _+_}
 use mathlib.Core.Bool.{Bool, true, cond}
-use mathlib.Core.List.{List, []}
-use mathlib.Core.Option.{Option, none, some}
+use mathlib.Core.List.{List}
+use mathlib.Core.Option.{none, some}
 use Rattle.geometry.specs.declared.rect.Cell.{Cell}
 use Rattle.geometry.specs.declared.rect.Rect.{Rect}
 use Rattle.geometry.specs.Grow.{grown}
 use Rattle.geometry.specs.Refine.{union}
 use Rattle.tree.specs.Lists.{keep, notEmpty}
-use Rattle.tree.specs.Nodes.{Item, held}
 use Rattle.plane.specs.Lines.{CellEntry}
 use Rattle.plane.specs.Candidates.{Extent, extentOf}
-use Rattle.plane.specs.Plane.{planeSpace, cellRect}
-use Rattle.memory.specs.Reading.{readNode}
-use Rattle.index.specs.Answers.{fanout}
+use Rattle.plane.specs.Plane.{cellRect}
 use Rattle.index.specs.Check.{NodePart}
+use Rattle.index.specs.Count.{entriesAt}
 use Rattle.index.specs.Walks.{Walkable, leafEntries}
 use Rattle.sides.specs.Sides.{onEvery}
 use Rattle.split_line.specs.declared.reach.Reach.{Reach}
@@ -44,17 +42,9 @@ reachJoin r s = cond (r .any) (cond (s .any) (record { any = true; bounds = unio
 unfoldable pub onSides : List ℕ → CellEntry → Bool
 onSides ss e = onEvery ss (e .cell)
 
--- the entries below the node at part k, in depth-first order; none where it does not read
-unfoldable pub heldOf : (n : ℕ) → Option (Item (planeSpace fanout) (suc n)) → List CellEntry
-heldOf n none = []
-heldOf n (some b) = held (planeSpace fanout) (suc n) b
-
-unfoldable pub heldUnder : ℕ → List ℕ → ℕ → ℕ → List CellEntry
-heldUnder n m lo k = heldOf n (readNode fanout n m lo k)
-
--- those of them that are on every side
+-- the entries below the node at part k that are on every side
 unfoldable pub keptUnder : List ℕ → ℕ → List ℕ → ℕ → ℕ → List CellEntry
-keptUnder ss n m lo k = keep (onSides ss) (heldUnder n m lo k)
+keptUnder ss n m lo k = keep (onSides ss) (entriesAt n m lo k)
 
 -- A leaf's part, whose entries on the sides are on the grid.
 pub record LeafReach (p : List ℕ) (ss : List ℕ) : Type 0 where

@@ -4,8 +4,9 @@ ghost use mathlib.Core.Bool.{true};
 ghost use lib.ListN.{length};
 ghost use Rattle.geometry.specs.Cells.{onGrid};
 ghost use Rattle.geometry.specs.Numbers.{Appended};
+ghost use Rattle.index.specs.Count.{entriesAt};
 ghost use Rattle.sides.specs.Sides.{sideOf};
-ghost use Rattle.split_line.specs.Reached.{boundsOf, heldUnder};
+ghost use Rattle.split_line.specs.Reached.{boundsOf};
 ghost use Rattle.split_line.specs.Groups.{NodeHere, NodeLineIs};
 ghost use Rattle.split_line.specs.GroupBounds.{GridNode, sideBounds, branchBounds, BranchHere, GroupBounds};
 use crate::candidates::best_line;
@@ -24,7 +25,7 @@ use sides::right_side;
 // The bounds of the entries below the node at part k.
 fn whole_bounds(m: &[u32], level: u32, lo: u32, k: u32) -> Rect
     requires { ⌜ GridNode level (now m) lo k ⌝ }
-    ensures { λ r. ⌜ r ≡ boundsOf (heldUnder level (now (m .entry)) lo k) ⌝ }
+    ensures { λ r. ⌜ r ≡ boundsOf (entriesAt level (now (m .entry)) lo k) ⌝ }
 {
     let no_sides: [u32; 0] = [];
     let reach = reach_under(m, level, lo, k, &no_sides);
