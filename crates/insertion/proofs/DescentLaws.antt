@@ -1,19 +1,17 @@
 -- The descent, one level after another: the node that step 2 goes to is sound again, and the path is that of the definition.
-use Prim.Native.Nat.{ℕ, zero, suc, _+_, _*_, _-_, _≤_, _<_}
+use Prim.Native.Nat.{ℕ, suc, _+_, _*_, _-_, _≤_, _<_}
 use mathlib.Core.Path.{_≡_, refl, sym, ap, _∙_, subst}
 use mathlib.Core.Bool.{Bool, true, false}
 use mathlib.Core.List.{List, [], _∷_, _++_, flatMap}
 use mathlib.Core.Option.{Option, none, some, bind}
 use native.Mathlib.Omega.{arith}
 use native.Mathlib.Decide.{decLe}
-use lib.ListN.{length, take, drop, getD, set, length-set, length-append}
+use lib.ListN.{length, take, drop, getD, set, length-set}
 use lib.Seq.{drop-drop, getD-drop, getD-take, getD-set-same, getD-set-other, drop-set-lt, getD-append-seam, length-take-le}
 use Rattle.geometry.specs.declared.rect.Cell.{Cell}
 use Rattle.geometry.specs.declared.rect.Rect.{Rect}
 use Rattle.geometry.specs.declared.polygon.Polygon.{Polygon}
-use Rattle.geometry.specs.Cells.{onGrid}
-use Rattle.geometry.specs.Numbers.{rectsIn, rectsOf, PolygonOf}
-use Rattle.tree.specs.Lists.{All}
+use Rattle.geometry.specs.Numbers.{rectsOf}
 use Rattle.tree.specs.Nodes.{Item, held}
 use Rattle.tree.specs.Sound.{SoundItem, SoundItems, Count}
 use Rattle.tree.specs.Plan as P
@@ -25,21 +23,18 @@ use Rattle.plane.specs.Lines.{CellEntry}
 use Rattle.plane.specs.Plane.{planeSpace}
 use Rattle.plane.proofs.Rects.{plane-space-laws}
 use Rattle.plane.proofs.Steps.{plane-steps}
-use Rattle.memory.specs.Layout.{part, itemCount, entriesIn, childrenIn}
-use Rattle.memory.specs.Reading.{readRow, readNode}
-use Rattle.memory.proofs.ReadingLaws.{leaf-parts, node-parts, NodeParts, row-at, row-length, lowAt, low-to, part-below, node-lower}
+use Rattle.memory.specs.Layout.{part, itemCount, childrenIn}
+use Rattle.memory.specs.Reading.{readNode}
+use Rattle.memory.proofs.ReadingLaws.{leaf-parts, node-parts, NodeParts, row-at, row-length, lowAt, node-lower}
 use Rattle.index.specs.Answers.{fanout}
 use Rattle.index.specs.Changes.{entryOf}
 use Rattle.index.specs.Walks.{Walkable, countAt, childAt}
 use Rattle.index.proofs.WalkParts.{part-at}
 use Rattle.index.proofs.WalkRows.{walkable}
 use Rattle.index.proofs.WalkLoop.{children-count}
-use Rattle.step2.specs.declared.choosing.Choice.{Choice}
-use Rattle.step2.specs.declared.choosing.Taken.the-variants.{Branch, Over}
-use Rattle.step2.specs.Choose.{Routing, ChosenBranch, ChosenAt, NoneChosen, ChoiceIs}
-use Rattle.step2.proofs.ChoiceCases.{taken-branch, taken-over}
+use Rattle.step2.specs.Choose.{Routing, ChosenBranch, ChosenAt, NoneChosen}
 use Rattle.emission.specs.Path.{partOn, placeOn, lineOn, polygonOn, rowOr, rowAt, wayAt, PathNode, PathFrom}
-use Rattle.insertion.specs.Descent.{childOr, itemsAt, LevelPut, Descending, Kept, Reached, Stopped, DescentIs, Descended}
+use Rattle.insertion.specs.Descent.{childOr, itemsAt, LevelPut, Descending, Kept, Reached, Stopped, Descended}
 
 abbrev laws : Laws (planeSpace fanout)
 laws = plane-space-laws fanout

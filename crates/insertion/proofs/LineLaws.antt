@@ -1,40 +1,32 @@
 -- The line of a node on the path that gets one item too many: what the search for it asks, and that it is the definition's.
-use Prim.Native.Nat.{ℕ, zero, suc, _+_, _*_, _-_, _≤_, _<_}
-use mathlib.Core.Bool.{Bool, true, false}
-use mathlib.Core.Path.{_≡_, refl, sym, ap, _∙_, subst}
+use Prim.Native.Nat.{ℕ, suc, _+_, _-_, _<_}
+use mathlib.Core.Bool.{true}
+use mathlib.Core.Path.{_≡_, sym, ap, _∙_, subst}
 use mathlib.Core.List.{List, [], _∷_, _++_, map, flatMap}
 use mathlib.Core.Option.{some}
 use native.Mathlib.Omega.{arith}
-use lib.ListN.{length, getD, take, drop}
 use Rattle.geometry.specs.declared.rect.Cell.{Cell}
-use Rattle.geometry.specs.declared.rect.Line.{Line}
 use Rattle.geometry.specs.Cells.{onGrid}
 use Rattle.tree.specs.Lists.{All}
 use Rattle.tree.specs.Nodes.{Item, held}
-use Rattle.tree.specs.Plan.{Way, row, few, lineAt}
-use Rattle.tree.specs.Pass.{wayHeld, Bag}
+use Rattle.tree.specs.Plan.{row}
+use Rattle.tree.specs.Pass.{wayHeld}
 use Rattle.tree.proofs.Lists.{all-first, all-flatMap}
-use Rattle.tree.proofs.Laws.{Laws, Steps}
-use Rattle.plane.specs.Lines.{CellEntry, leafLine, nodeLine}
+use Rattle.plane.specs.Lines.{CellEntry, leafLine}
 use Rattle.plane.specs.Plane.{planeSpace}
-use Rattle.plane.specs.Candidates.{rankLine}
 use Rattle.plane.proofs.Kept.{map-all}
 use Rattle.plane.proofs.Rects.{plane-space-laws}
 use Rattle.plane.proofs.Steps.{plane-steps}
-use Rattle.memory.specs.Layout.{part, itemCount, entriesIn}
-use Rattle.memory.specs.Reading.{readNode}
 use Rattle.index.specs.Answers.{fanout}
-use Rattle.index.specs.Check.{NodePart}
 use Rattle.index.specs.Changes.{entryOf}
 use Rattle.index.specs.Walks.{Walkable, countAt, partAt}
 use Rattle.index.proofs.WalkRows.{leaf-part, part-is}
-use Rattle.split_line.specs.LineNumber.{LineIs}
 use Rattle.split_line.specs.FullLeaf.{OnGrid, entriesOf, LeafHere, FullLeaf, LeafLineIs}
-use Rattle.split_line.specs.Groups.{groupsAt, NodeHere, LineFits, NodeLineIs}
-use Rattle.emission.specs.Path.{partOn, placeOn, lineOn, polygonOn, wayAt, PathNode, PathFrom}
+use Rattle.split_line.specs.Groups.{NodeHere, NodeLineIs}
+use Rattle.emission.specs.Path.{partOn, placeOn, lineOn, polygonOn, wayAt, PathFrom}
 use Rattle.tree.proofs.GoodWays.{GoodWay}
 use Rattle.insertion.specs.Descent.{itemsAt}
-use Rattle.insertion.specs.Planning.{GoodPath, PlannedAt, SplitBelow, Full, LineOfLevel}
+use Rattle.insertion.specs.Planning.{Full, LineOfLevel}
 use Rattle.insertion.proofs.DescentLaws.{items-are}
 use Rattle.tree.proofs.Ways.{way-entries}
 use Rattle.tree.proofs.SplitGroups.{row-entries, line-row, bag-all, bag-sym}

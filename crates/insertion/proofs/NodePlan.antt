@@ -1,23 +1,20 @@
 -- The line of a routing node on the path whose child on the path is split: the entries that the code groups are those of the definition.
-use Prim.Native.Nat.{ℕ, zero, suc, _+_, _*_, _-_, _<_, _≤_}
-use mathlib.Core.Bool.{Bool, true, false, cond, not, _&&_}
-use mathlib.Core.Path.{_≡_, refl, sym, ap, _∙_, subst}
+use Prim.Native.Nat.{ℕ, zero, suc, _+_, _-_, _<_, _≤_}
+use mathlib.Core.Bool.{true, false}
+use mathlib.Core.Path.{_≡_, sym, ap, _∙_, subst}
 use mathlib.Core.List.{List, [], _∷_, _++_, map, flatMap, append-nil}
-use mathlib.Core.Option.{Option, none, some}
-use lib.Dec.{leb}
-use lib.ListN.{length, take, drop, length-append, length-take, length-map}
-use lib.Seq.{drop-at, length-take-le}
+use mathlib.Core.Option.{some}
+use lib.ListN.{length, take, drop, length-append, length-take}
+use lib.Seq.{drop-at}
 use native.Mathlib.Omega.{arith}
-use borrow.Author.Tests.{leb-false, leb-true}
-use Rattle.geometry.specs.declared.rect.Cell.{Cell}
-use Rattle.geometry.specs.declared.rect.Rect.{Rect}
+use borrow.Author.Tests.{leb-false}
 use Rattle.geometry.specs.declared.rect.Line.{Line}
 use Rattle.geometry.specs.Cells.{onGrid}
 use Rattle.geometry.specs.Clip.{below}
-use Rattle.tree.specs.Lists.{All, keep, notEmpty}
-use Rattle.tree.specs.Space.{Side, left, right}
+use Rattle.tree.specs.Lists.{All, keep}
+use Rattle.tree.specs.Space.{left, right}
 use Rattle.tree.specs.Nodes.{Item, entryOn, held}
-use Rattle.tree.specs.Split.{halfItems, lineOf, split}
+use Rattle.tree.specs.Split.{lineOf, split}
 use Rattle.tree.specs.Plan as P
 use Rattle.tree.specs.Plan.{Way, descend, row, groups, few, lineAt}
 use Rattle.tree.specs.Pass.{wayHeld, Bag, Alike}
@@ -29,22 +26,21 @@ use Rattle.plane.specs.Plane.{planeSpace}
 use Rattle.plane.specs.Candidates.{rankLine}
 use Rattle.plane.proofs.Rects.{plane-space-laws}
 use Rattle.plane.proofs.Steps.{plane-steps, fits-of-fit}
-use Rattle.plane.proofs.NodeLine.{Fits, GridGroups}
-use Rattle.plane.proofs.Extents.{SomeEach, on-same, count-same, node-same}
+use Rattle.plane.proofs.NodeLine.{Fits}
+use Rattle.plane.proofs.Extents.{on-same, count-same, node-same}
 use Rattle.memory.specs.Layout.{part, itemCount, childrenIn}
 use Rattle.memory.specs.Reading.{readNode}
 use Rattle.memory.proofs.ReadingLaws.{node-parts, row-length, children-length, node-below}
 use Rattle.index.specs.Answers.{fanout}
-use Rattle.index.specs.Changes.{entryOf}
 use Rattle.index.specs.Walks.{Walkable, countAt}
 use Rattle.index.proofs.WalkParts.{part-at}
-use Rattle.split_line.specs.Groups.{halvesOf, groupsIn, groupsOf, groupsAt, LineFits}
+use Rattle.split_line.specs.Groups.{halvesOf, groupsAt, LineFits}
 use Rattle.emission.specs.Path.{partOn, placeOn, lineOn, polygonOn, rowAt, wayAt}
 use Rattle.insertion.specs.Descent.{itemsAt}
 use Rattle.insertion.proofs.DescentLaws.{items-are, row-is}
 use Rattle.tree.proofs.GoodWays.{GoodWay}
 use Rattle.tree.proofs.Ways.{Descent, descent, way-entries}
-use Rattle.tree.proofs.SplitGroups.{split-groups, few-row, row-entries, line-row, bag-trans, bag-sym, bag-keep, bag-length, bag-all, alike-mid, alike-all, map-append}
+use Rattle.tree.proofs.SplitGroups.{split-groups, few-row, row-entries, line-row, bag-keep, bag-length, bag-all, alike-mid, alike-all, map-append}
 
 abbrev laws : Laws (planeSpace fanout)
 laws = plane-space-laws fanout

@@ -1,11 +1,11 @@
 -- A line written into the path leaves its nodes and polygons, and so the way.
 use Prim.Native.Nat.{ℕ, zero, suc, _+_, _*_, _-_, _≤_, _<_}
-use mathlib.Core.Path.{_≡_, refl, sym, ap, _∙_, subst}
-use mathlib.Core.List.{List, [], _∷_, _++_}
+use mathlib.Core.Path.{_≡_, sym, ap, _∙_, subst}
+use mathlib.Core.List.{List}
 use mathlib.Core.Option.{some}
 use native.Mathlib.Omega.{arith}
-use native.Mathlib.Decide.{decLt, ℕ-discrete}
-use lib.ListN.{length, take, drop, getD, set, length-set}
+use native.Mathlib.Decide.{ℕ-discrete}
+use lib.ListN.{length, drop, getD, set, length-set}
 use lib.Seq.{getD-set-same, getD-set-other, getD-drop}
 use Rattle.geometry.specs.declared.rect.Cell.{Cell}
 use Rattle.geometry.specs.declared.rect.Rect.{Rect}
@@ -17,10 +17,10 @@ use Rattle.plane.specs.Plane.{planeSpace}
 use Rattle.index.specs.Answers.{fanout}
 use Rattle.index.specs.Changes.{entryOf}
 use Rattle.index.specs.Walks.{Walkable, countAt}
-use Rattle.emission.specs.Path.{partOn, placeOn, lineOn, polygonOn, rowAt, wayAt, PathNode, PathFrom}
+use Rattle.emission.specs.Path.{partOn, placeOn, lineOn, polygonOn, wayAt, PathNode, PathFrom}
 use Rattle.tree.proofs.GoodWays.{GoodWay}
 use Rattle.insertion.specs.Descent.{itemsAt}
-use Rattle.insertion.specs.Planning.{GoodPath, PlannedAt}
+use Rattle.insertion.specs.Planning.{GoodPath}
 
 module _ (path : List ℕ) (n x : ℕ) where
   abbrev path′ : List ℕ

@@ -2,17 +2,16 @@
 use Prim.Native.Nat.{ℕ, zero, suc, _+_, _*_, _-_, _≤_, _<_}
 use mathlib.Core.Bool.{Bool, true, false}
 use mathlib.Core.Path.{_≡_, refl, sym, ap, _∙_, subst}
-use mathlib.Core.List.{List, [], _∷_, _++_}
+use mathlib.Core.List.{List, [], _∷_}
 use native.Mathlib.Omega.{arith}
 use native.Mathlib.Nat.{le-refl}
-use native.Mathlib.Decide.{decLt, decLe, ℕ-discrete}
+use native.Mathlib.Decide.{decLt, ℕ-discrete}
 use borrow.Author.Tests.{le-leb, lt-leb, leb-true, leb-false, eq-eqb, ne-eqb}
 use lib.Dec.{leb, eqb}
-use lib.ListN.{length, getD, set, length-set, length-append}
+use lib.ListN.{length, set, length-set, length-append}
 use Rattle.geometry.specs.declared.rect.Cell.{Cell}
 use Rattle.tree.specs.Split.{split}
-use Rattle.tree.specs.Plan.{Way, row, few, lineAt}
-use Rattle.plane.specs.Lines.{CellEntry}
+use Rattle.tree.specs.Plan.{row, few, lineAt}
 use Rattle.plane.specs.Plane.{planeSpace}
 use Rattle.plane.specs.Candidates.{rankLine}
 use Rattle.memory.specs.Layout.{part, itemCount, entriesIn}
@@ -21,9 +20,7 @@ use Rattle.index.specs.Answers.{fanout}
 use Rattle.index.specs.Changes.{entryOf}
 use Rattle.index.specs.Walks.{Walkable, countAt}
 use Rattle.index.proofs.WalkParts.{part-at}
-use Rattle.split_line.specs.LineNumber.{LineIs}
-use Rattle.emission.specs.Path.{partOn, placeOn, lineOn, polygonOn, rowAt, wayAt, PathNode, PathFrom}
-use Rattle.tree.proofs.GoodWays.{GoodWay}
+use Rattle.emission.specs.Path.{partOn, lineOn, polygonOn, wayAt, PathNode, PathFrom}
 use Rattle.insertion.specs.Planning.{GoodPath, Plannable, PlannedAt, Planned, SplitBelow, Full, LineOfLevel, PlanMade}
 use Rattle.tree.proofs.SplitGroups.{split-one, split-two, few-row}
 use Rattle.insertion.proofs.NodePlan.{way-fits, row-length-is}

@@ -1,23 +1,22 @@
 -- A planned path is emitted as the tree that the definition gives.
-use Prim.Native.Nat.{ℕ, zero, suc, _+_, _≤_}
-use mathlib.Core.Bool.{Bool, true, false, cond}
+use Prim.Native.Nat.{ℕ, zero, suc, _≤_}
+use mathlib.Core.Bool.{Bool, true, false}
 use mathlib.Core.Path.{_≡_, refl, sym, ap, _∙_}
-use mathlib.Core.List.{List, [], _∷_, _++_, flatMap}
+use mathlib.Core.List.{List, [], _∷_}
 use mathlib.Core.Option.{some, bind}
 use lib.Dec.{eqb}
 use lib.ListN.{length}
 use native.Mathlib.Omega.{arith}
 use native.Mathlib.Nat.{le-refl}
-use borrow.Author.Tests.{leb-true, leb-false}
+use borrow.Author.Tests.{leb-false}
 use Rattle.geometry.specs.declared.rect.Rect.{Rect}
 use Rattle.geometry.specs.declared.rect.Line.{Line}
-use Rattle.tree.specs.Space.{Space, Side, left, right}
-use Rattle.tree.specs.Nodes.{EntryOf, Item}
+use Rattle.tree.specs.Space.{Side, left, right}
+use Rattle.tree.specs.Nodes.{Item}
 use Rattle.tree.specs.Tree.{Tree}
 use Rattle.tree.specs.Insert.{rooted, insertTree}
 use Rattle.tree.specs.Plan as P
-use Rattle.tree.specs.Plan.{Way, descend, row, build, few, lineAt, under, branchUnder, cutInto, emitRow, emit}
-use Rattle.tree.specs.Pass.{deep}
+use Rattle.tree.specs.Plan.{Way, descend, row, few, lineAt, cutInto, emitRow, emit}
 use Rattle.tree.proofs.Emission.{emit-all}
 use Rattle.tree.proofs.PlanIndex.{insert-by-plan}
 use Rattle.tree.proofs.Pass.{under-deep}
@@ -25,10 +24,10 @@ use Rattle.plane.specs.Lines.{CellEntry}
 use Rattle.plane.specs.Plane.{planeSpace, planeRoot}
 use Rattle.plane.specs.Candidates.{rankLine}
 use Rattle.index.specs.Answers.{fanout}
-use Rattle.emission.specs.Path.{lineOn, polygonOn, rowAt, wayAt, rowUnder, cutUnder, plannedTree}
+use Rattle.emission.specs.Path.{lineOn, polygonOn, wayAt, rowUnder, cutUnder, plannedTree}
 use Rattle.tree.proofs.GoodWays.{GoodWay}
 use Rattle.insertion.specs.Planning.{PlannedAt}
-use Rattle.tree.proofs.SplitGroups.{split-one, split-two, few-row}
+use Rattle.tree.proofs.SplitGroups.{split-two, few-row}
 use Rattle.insertion.proofs.NodePlan.{way-fits}
 
 -- the branches of a node, by a plan and by the definition

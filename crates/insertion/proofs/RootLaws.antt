@@ -1,8 +1,8 @@
 -- The start of an insertion at the root, and its path found: the tree after is the planned one.
 use Prim.Native.Nat.{ℕ, zero, suc, _+_, _*_, _-_, _≤_, _<_}
 use mathlib.Core.Bool.{Bool, true, false}
-use mathlib.Core.Path.{_≡_, refl, sym, ap, _∙_, subst}
-use mathlib.Core.List.{List, [], _∷_, _++_, map, flatMap}
+use mathlib.Core.Path.{_≡_, sym, ap, _∙_, subst}
+use mathlib.Core.List.{List, [], _∷_, flatMap}
 use mathlib.Core.Option.{Option, none, some, bind, Option·some-injective}
 use native.Mathlib.Omega.{arith}
 use native.Mathlib.Nat.{le-refl}
@@ -15,9 +15,8 @@ use Rattle.geometry.specs.Cells.{onGrid}
 use Rattle.geometry.specs.Grow.{grown}
 use Rattle.geometry.specs.declared.polygon.Polygon.{Polygon}
 use Rattle.geometry.specs.Numbers.{rectAt, rectsIn, rectsOf, PolygonOf}
-use Rattle.geometry.proofs.CellLaws.{OnGrid, grid-of}
+use Rattle.geometry.proofs.CellLaws.{grid-of}
 use Rattle.geometry.proofs.NumberLaws.{length-rects}
-use Rattle.tree.specs.Lists.{All}
 use Rattle.tree.specs.Nodes.{Item, held}
 use Rattle.tree.specs.Sound.{Count, SoundItem, SoundItems}
 use Rattle.tree.specs.Tree.{Tree, top, entries, SoundTree}
@@ -27,10 +26,9 @@ use Rattle.tree.specs.Plan.{Way, descend}
 use Rattle.tree.specs.Query.{ofCell, holds}
 use Rattle.tree.proofs.Any.{any-false}
 use Rattle.tree.proofs.Lists.{all-map}
-use Rattle.tree.proofs.Laws.{Laws, Steps, RootLaws}
+use Rattle.tree.proofs.Laws.{Laws, Steps}
 use Rattle.tree.proofs.Keeps.{sound-wider}
 use Rattle.tree.proofs.InsertAt.{Fresh}
-use Rattle.tree.proofs.Emission.{insert-is}
 use Rattle.tree.proofs.PlanIndex.{insert-by-plan}
 use Rattle.plane.specs.Lines.{CellEntry}
 use Rattle.plane.specs.Plane.{planeSpace, planeRoot}
@@ -39,22 +37,21 @@ use Rattle.plane.proofs.Steps.{plane-steps}
 use Rattle.plane.proofs.Roots.{plane-root-laws}
 use Rattle.memory.specs.Layout.{part, rectCount, polygonIn, rootIn}
 use Rattle.memory.specs.Reading.{readNode, reading}
-use Rattle.memory.proofs.ReadingLaws.{ReadAs, read-as, ReadSound, read-sound, leaf-parts, node-parts, node-below, length-right}
+use Rattle.memory.proofs.ReadingLaws.{ReadAs, read-as, read-sound, leaf-parts, node-parts}
 use Rattle.index.specs.Answers.{fanout}
 use Rattle.index.specs.Changes.{entryOf}
-use Rattle.index.specs.Open.{TreeIn}
 use Rattle.index.specs.Walks.{Walkable}
 use Rattle.index.proofs.WalkParts.{part-at}
 use Rattle.index.proofs.WalkRows.{walkable}
 use Rattle.index.proofs.TreeWalk.{tree-walkable}
-use Rattle.emission.specs.Path.{partOn, lineOn, polygonOn, wayAt, PathFrom, plannedTree}
+use Rattle.emission.specs.Path.{partOn, polygonOn, wayAt, plannedTree}
 use Rattle.index.specs.Held.{heldRead}
 use Rattle.tree.proofs.GoodWays.{GoodWay}
 use Rattle.insertion.specs.Descent.{itemsAt, LevelPut, Descending, Kept, Reached, Stopped, Descended}
-use Rattle.insertion.specs.Planning.{GoodPath, Plannable, Planned, PlanMade}
+use Rattle.insertion.specs.Planning.{GoodPath, Plannable, PlanMade}
 use Rattle.insertion.specs.Insert.{Inserting, PathPlanned, PathRefused}
 use Rattle.insertion.proofs.DescentLaws.{items-are, same-drop, same-polygon}
-use Rattle.tree.proofs.Ways.{SoundWay, sound-way}
+use Rattle.tree.proofs.Ways.{sound-way}
 use Rattle.insertion.proofs.PlanTree.{planned-insert}
 
 abbrev laws : Laws (planeSpace fanout)

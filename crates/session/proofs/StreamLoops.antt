@@ -1,6 +1,6 @@
 -- The loops over the lines of an input, and over the bytes that are kept of it.
 use Prim.Native.Nat.{ℕ, suc, _+_, _*_, _-_, _≤_, _<_, min}
-use mathlib.Core.Path.{_≡_, refl, sym, ap, _∙_}
+use mathlib.Core.Path.{_≡_, refl, sym, _∙_}
 use mathlib.Core.Bool.{Bool, true, false, true≢false, false≢true}
 use mathlib.Core.List.{List, [], _∷_, _++_, append-nil, append-assoc}
 use native.Mathlib.Numerals.{add-one}
@@ -9,15 +9,13 @@ use native.Mathlib.Decide.{decLe}
 use lib.ListN.{length, getD, take, drop, set, length-set, length-take, length-drop, drop-of-length-le}
 use lib.Seq.{drop-cons, take-suc, take-suc-set, drop-set-lt, getD-drop, drop-drop, take-take, take-all}
 use Rattle.commands.specs.declared.parsing.Command.{Command}
-use Rattle.commands.specs.Split.{splitAt, piecesBehind, PieceEnd}
+use Rattle.commands.specs.Split.{piecesBehind, PieceEnd}
 use Rattle.commands.specs.Commands.{commandOf}
-use Rattle.commands.specs.Text.{Appended}
 use Rattle.index.specs.declared.opening.Opened.{Opened}
 use Rattle.index.specs.Open.{OpenedAs, Reads}
-use Rattle.session.specs.declared.stream.Progress.{Progress}
 use Rattle.session.specs.Opening.{isIndex}
 use Rattle.session.specs.Response.{Lent, lent, CarriedOut, longest, Responded}
-use Rattle.session.specs.Stream.{commandsOf, OnePiece, Ran, none, first, LinesAnswered, Kept}
+use Rattle.session.specs.Stream.{commandsOf, Ran, none, first, LinesAnswered, Kept}
 use Rattle.session.proofs.OpeningLaws.{opened-reads, carried-reads}
 use Rattle.session.proofs.StreamLaws.{line-ended}
 

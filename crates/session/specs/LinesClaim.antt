@@ -17,7 +17,7 @@ use Rattle.commands.specs.Bytes.{letterC, letterI, letterP, letterR, letterS}
 use Rattle.commands.specs.AnswerText.{heldText, foundText, entriesText, otherText}
 use Rattle.session.specs.Response.{Lent, cellAt, rectOf}
 
--- the call of a command: another line makes none
+-- the call of a command, 'Commands: `I x y tag`, `R x y`, `P x y`, `S llx lly urx ury`, `C`': another line makes none
 unfoldable pub callsOf : Command → List IndexCall
 callsOf (Insert x y tag) = insertCall (entryOf (cellAt x y) tag) ∷ []
 callsOf (Remove x y) = removeCall (cellAt x y) ∷ []
@@ -26,11 +26,12 @@ callsOf (Window llx lly urx ury) = windowCall (rectOf llx lly urx ury) ∷ []
 callsOf Clear = clearCall ∷ []
 callsOf Other = []
 
--- the entries that a window query wrote to its list: its matches, if it was accepted
+-- how many entries have 'an E line per entry': the matches of a window query, if it was accepted
 unfoldable pub listedTold : Told → ℕ
 listedTold t = cond (eqb (t .number) 0) (getD (t .values) 0 0) 0
 
--- what is printed for a call of a kind, by what it answered and left in its list
+-- what is printed for a call of a kind, by what it answered and left in its list: 'I, R and C print 0 and entries held. P prints 1 or 0,
+-- visits, then the tag if held. S prints matches and visits, then an E line per entry'
 abbrev pub textBy : IndexCall → Made → List ℕ
 textBy (insertCall e) d = heldText letterI (d .told)
 textBy (removeCall c) d = heldText letterR (d .told)
@@ -38,7 +39,7 @@ textBy clearCall d = heldText letterC (d .told)
 textBy (pointCall c) d = foundText letterP (d .told)
 textBy (windowCall w) d = foundText letterS (d .told) ++ entriesText (d .left) (listedTold (d .told))
 
--- Commands one after another, the calls they made and the text they printed.
+-- Commands one after another, the calls they made and the text they printed. 'Other lines .. print `?`'.
 pub data Printed : List Command → List Made → List ℕ → Type 0 where
   nothing : Printed [] [] []
   other : {cs : List Command} {ds : List Made} {text : List ℕ} → Printed cs ds text → Printed (Other ∷ cs) ds (otherText ++ text)

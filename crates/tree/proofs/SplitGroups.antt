@@ -2,7 +2,7 @@
 use Prim.Native.Nat.{ℕ, zero, suc, _+_, _<_, _≤_}
 use mathlib.Core.Bool.{Bool, true, false, cond, not, _&&_}
 use mathlib.Core.Path.{_≡_, refl, sym, ap, _∙_}
-use mathlib.Core.List.{List, [], _∷_, _++_, map, flatMap, append-nil}
+use mathlib.Core.List.{List, [], _∷_, _++_, map, flatMap}
 use lib.Dec.{leb}
 use lib.ListN.{length, length-append, length-map}
 use native.Mathlib.Omega.{arith}
@@ -12,7 +12,7 @@ use Rattle.tree.specs.Space.{Space, Side, left, right}
 use Rattle.tree.specs.Nodes.{EntryOf, Item, entryOn, held}
 use Rattle.tree.specs.Split.{branchIf, half, halfItems, lineOf, halves, split}
 use Rattle.tree.specs.Plan as P
-use Rattle.tree.specs.Plan.{Way, row, flat, groups, few, lineAt, lineFor}
+use Rattle.tree.specs.Plan.{Way, row, flat, groups, few, lineAt}
 use Rattle.tree.specs.Pass.{wayHeld, Bag, Alike}
 use Rattle.tree.proofs.Lists.{flatMap-flatMap, flatMap-same, keep-flatMap, all-map}
 use Rattle.tree.proofs.Counts.{countOf-keep, countOf-every, keep-none}

@@ -1,30 +1,30 @@
 -- The way of an insertion: what soundness gives at each of its nodes, for the plan of its splits.
 use Prim.Native.Nat.{ℕ, zero, suc, _+_, _<_, _≤_}
-use mathlib.Core.Bool.{Bool, true, false}
-use mathlib.Core.Path.{_≡_, refl, sym, ap, _∙_, subst}
+use mathlib.Core.Bool.{Bool, true}
+use mathlib.Core.Path.{_≡_, sym, ap, _∙_}
 use mathlib.Core.List.{List, [], _∷_, _++_, map, flatMap}
-use mathlib.Core.Option.{Option, none, some, bind}
+use mathlib.Core.Option.{some, bind}
 use lib.ListN.{length, length-append}
 use native.Mathlib.Omega.{arith}
-use Rattle.tree.specs.Lists.{All, Pairs, countOf}
-use Rattle.tree.specs.Space.{Space, Branch, Chosen}
+use Rattle.tree.specs.Lists.{All, countOf}
+use Rattle.tree.specs.Space.{Space, Chosen}
 use Rattle.tree.specs.Nodes.{EntryOf, Item, itemHas, held}
-use Rattle.tree.specs.Sound.{Apart, Count, SoundItem, SoundItems}
+use Rattle.tree.specs.Sound.{Count, SoundItem, SoundItems}
 use Rattle.tree.specs.Split.{split, lineOf}
 use Rattle.tree.specs.Insert.{insertAt}
-use Rattle.tree.specs.Plan.{Way, Turn, descend, row, build}
+use Rattle.tree.specs.Plan.{Way, descend, row, build}
 use Rattle.tree.specs.Pass.{wayHeld, Bag}
 use Rattle.tree.proofs.Lists.{all-map, all-of-map, flatMap-append}
 use Rattle.tree.proofs.Counts.{countOf-append}
 use Rattle.tree.proofs.Any.{bind-some}
 use Rattle.tree.proofs.Laws.{Laws, Chose, Steps}
-use Rattle.tree.proofs.Keeps.{Good, Shape, replaced-row, below-fits}
+use Rattle.tree.proofs.Keeps.{Good, replaced-row, below-fits}
 use Rattle.tree.proofs.Fits.{FitAt, line-fits, leaf-line-fits}
 use Rattle.tree.proofs.Emission.{insert-is}
 use Rattle.tree.proofs.InsertAt.{Fresh, insert-good, leaf-row, chose-at, down, all-real}
 use Rattle.tree.proofs.InsertEntries.{held-zero}
 use Rattle.tree.proofs.RemoveIndex.{held-some}
-use Rattle.tree.proofs.GoodWays.{LeafWay, NodeWay, GoodWay}
+use Rattle.tree.proofs.GoodWays.{GoodWay}
 
 module _ (S : Space) where
   -- One step of the descent taken apart.
