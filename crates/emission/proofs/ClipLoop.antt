@@ -14,7 +14,7 @@ use Rattle.geometry.specs.Numbers.{rectsOf, PolygonOf}
 use Rattle.geometry.specs.Refine.{refine}
 use Rattle.tree.specs.Plan.{clips}
 use Rattle.plane.specs.Plane.{planeSpace, rectSide}
-use Rattle.index.specs.Answers.{fanout}
+use Rattle.memory.specs.Fanout.{fanout}
 use Rattle.sides.specs.Sides.{sideOf, sidesOf}
 
 -- Before the i-th side: q, clipped to the sides that are left, gives the whole.

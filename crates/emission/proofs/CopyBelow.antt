@@ -10,19 +10,18 @@ use Rattle.tree.specs.Nodes.{Item, nodes}
 use Rattle.tree.specs.Pass.{onAll}
 use Rattle.plane.specs.Lines.{CellEntry}
 use Rattle.plane.specs.Plane.{planeSpace}
-use Rattle.memory.specs.Layout.{part, itemCount, polygonIn, entriesIn}
+use Rattle.memory.specs.Layout.{part, itemCount, polygonIn, entriesIn, childAt}
 use Rattle.memory.specs.Image.{nodePart, entryNumbers}
 use Rattle.memory.proofs.ReadingLaws.{fits-as, leaf-parts, node-parts, part-length, entries-length}
-use Rattle.index.specs.Answers.{fanout}
-use Rattle.index.specs.Walks.{Walkable, countAt, childAt, partAt, leafEntries}
+use Rattle.memory.specs.Fanout.{fanout}
+use Rattle.layout.specs.Parts.{PartRoom, PartPut, withItems}
+use Rattle.layout.proofs.PartCopies.{leaf-image, items-replaced}
+use Rattle.index.specs.Walks.{Walkable, leafEntries}
 use Rattle.index.proofs.WalkParts.{part-at}
-use Rattle.index.proofs.WalkRows.{part-is, leaf-part}
 use Rattle.sides.specs.Sides.{sidesOf, onEvery}
 use Rattle.emission.specs.Emits.{Emits, Room, deepAt}
-use Rattle.emission.specs.Parts.{PartRoom, PartPut, withItems}
 use Rattle.emission.specs.Leaves.{onTest, leafLeft, leafUnder}
 use Rattle.emission.proofs.EmitLaws.{nodesOf, topsFrom, emits-leaf, emits-node}
-use Rattle.emission.proofs.PartCopies.{leaf-image, items-replaced}
 use Rattle.emission.proofs.DeepRows.{deep-leaf, deep-node, childrenLeft}
 use Rattle.emission.proofs.EmitLoop.{EmitLoop, child-walk, again-one, all-written, own-room}
 
@@ -53,9 +52,6 @@ moved-on n m lo k w next w′ next′ v e =
     let q = e .next-is in
     omega arith
 
-pub part-long : (n : ℕ) (m : List ℕ) (lo k : ℕ) → Walkable n m lo k → length (partAt m k) ≡ 128
-part-long n m lo k v = leaf-part n m lo k v .length-is
-
 -- a node that is a leaf
 module _ (level : ℕ) (m : List ℕ) (lo k : ℕ) (w : List ℕ) (next : ℕ) (z : level ≡ 0) (v : Walkable level m lo k) where
   pub copy-leaf-room : Room level w next (deepAt level m lo k []) → PartRoom w next
@@ -65,8 +61,8 @@ module _ (level : ℕ) (m : List ℕ) (lo k : ℕ) (w : List ℕ) (next : ℕ) (
       let g = r .small in
       record { fits = omega arith; small = g }
 
-  pub copy-leaf : (w′ : List ℕ) → PartPut w next (partAt m k) w′ → Emits level w next (deepAt level m lo k []) w′ (next + 1)
-  copy-leaf w′ x =
+  pub copy-leaf : (p w′ : List ℕ) → p ≡ part m k → PartPut w next p w′ → Emits level w next (deepAt level m lo k []) w′ (next + 1)
+  copy-leaf p₀ w′ q x =
       let v′ : Walkable 0 m lo k = rw z at v in
       let p = part m k in
       let f = fits-as fanout 3 m k (leaf-parts fanout m lo k (v′ .node) (v′ .reads) .fits) in
@@ -75,34 +71,34 @@ module _ (level : ℕ) (m : List ℕ) (lo k : ℕ) (w : List ℕ) (next : ℕ) (
       let i : p ≡ nodePart (polygonIn p) (length es) (flatMap entryNumbers es) =
       leaf-image p l (f .few-rects) (f .few-items) (f .rest)
       ∙ ap (λ (c : ℕ). nodePart (polygonIn p) c (flatMap entryNumbers es)) (sym (entries-length p (itemCount p))) in
-      let y : PartPut w next (nodePart (polygonIn p) (length es) (flatMap entryNumbers es)) w′ = rw (part-is 0 m lo k v′ ∙ i) at x in
+      let y : PartPut w next (nodePart (polygonIn p) (length es) (flatMap entryNumbers es)) w′ = rw (q ∙ i) at x in
       rw (z, deep-leaf m lo k [] v′, leaf-plain p) (emits-leaf w next (polygonIn p) es w′ y)
 
-module _ (level : ℕ) (m : List ℕ) (lo k : ℕ) (w₀ : List ℕ) (next₀ i low : ℕ) (w : List ℕ) (next : ℕ) (tops : List ℕ)
-    (a : EmitLoop level m lo k [] w₀ next₀ i low w next tops i) where
-  pub copy-again : (w′ : List ℕ) (next′ : ℕ) → i < countAt m k → Emits (level - 1) w next (deepAt (level - 1) m low (childAt m k i) []) w′ next′
-      → EmitLoop level m lo k [] w₀ next₀ (i + 1) (childAt m k i + 1) w′ next′ (set tops i (next′ - 1)) (i + 1)
-  copy-again w′ next′ h e =
-      let v = child-walk level m lo k [] w₀ next₀ i low w next tops i a h in
-      let g = moved-on (level - 1) m low (childAt m k i) w next w′ next′ v e in
-      again-one level m lo k [] w₀ next₀ i low w next tops i a h w′ next′ e (λ q. omega arith)
+module _ (level : ℕ) (m : List ℕ) (lo k : ℕ) (w₀ : List ℕ) (next₀ size i low : ℕ) (w : List ℕ) (next : ℕ) (tops : List ℕ)
+    (a : EmitLoop level m lo k [] w₀ next₀ size i low w next tops i) where
+  -- the child at part j was copied
+  module _ (j : ℕ) (h : i < size) (j-is : j ≡ childAt m k i) (w′ : List ℕ) (next′ : ℕ) (e : Emits (level - 1) w next (deepAt (level - 1) m low j []) w′ next′) where
+    on : next < next′
+    on = moved-on (level - 1) m low j w next w′ next′ (child-walk level m lo k [] w₀ next₀ size i low w next tops i a h j j-is) e
 
-  pub copy-moved : (w′ : List ℕ) (next′ : ℕ) → i < countAt m k → Emits (level - 1) w next (deepAt (level - 1) m low (childAt m k i) []) w′ next′ → 1 ≤ next′
-  copy-moved w′ next′ h e =
-      let v = child-walk level m lo k [] w₀ next₀ i low w next tops i a h in
-      let g = moved-on (level - 1) m low (childAt m k i) w next w′ next′ v e in
-      omega arith
+    pub copy-again : EmitLoop level m lo k [] w₀ next₀ size (i + 1) (j + 1) w′ next′ (set tops i (next′ - 1)) (i + 1)
+    copy-again =
+        let g = on in
+        again-one level m lo k [] w₀ next₀ size i low w next tops i a h j j-is w′ next′ e (λ q. omega arith)
+
+    pub copy-moved : 1 ≤ next′
+    copy-moved = let g = on in omega arith
 
   -- the children's parts, as they are lent
-  pub tops-count : countAt m k ≡ length (take (countAt m k) tops)
-  tops-count = let f = a .at .walk .few in let l = a .long in sym (length-take-le (countAt m k) tops (omega arith))
+  pub tops-count : size ≡ length (take size tops)
+  tops-count = let f = a .at .walk .few in let q = a .at .size-is in let l = a .long in sym (length-take-le size tops (omega arith))
 
-  pub tops-few : length (take (countAt m k) tops) ≤ 62
-  tops-few = let f = a .at .walk .few in let c = tops-count in omega arith
+  pub tops-few : length (take size tops) ≤ 62
+  tops-few = let f = a .at .walk .few in let q = a .at .size-is in let c = tops-count in omega arith
 
-  module _ (h : countAt m k ≤ i) where
+  module _ (h : size ≤ i) where
     -- all children are there
-    at-end : i ≡ countAt m k
+    at-end : i ≡ size
     at-end = let l = a .at .i-le in omega arith
 
     some-children : 1 ≤ i
@@ -111,30 +107,32 @@ module _ (level : ℕ) (m : List ℕ) (lo k : ℕ) (w₀ : List ℕ) (next₀ i 
         let f = fits-as fanout 1 m k (node-parts fanout (level - 1) m lo k (v .node) (v .reads) .fits) in
         let s = f .some-items in
         let e = part-at m k 1 (omega arith) in
+        let q = a .at .size-is in
         omega arith
 
     pub copy-room : PartRoom w next
-    copy-room = own-room level m lo k [] w₀ next₀ i low w next tops i a h some-children
+    copy-room = own-room level m lo k [] w₀ next₀ size i low w next tops i a h some-children
 
-    pub copy-end : (w′ : List ℕ) → PartPut w next (withItems (partAt m k) (take (countAt m k) tops)) w′ → Emits level w₀ next₀ (deepAt level m lo k []) w′ (next + 1)
-    copy-end w′ x =
+    pub copy-end : (p w′ : List ℕ) → p ≡ part m k → PartPut w next (withItems p (take size tops)) w′ → Emits level w₀ next₀ (deepAt level m lo k []) w′ (next + 1)
+    copy-end p₀ w′ p-is x =
         let v = a .at .walk in
         let n : ℕ = level - 1 in
         let p = part m k in
         let f = fits-as fanout 1 m k (node-parts fanout n m lo k (v .node) (v .reads) .fits) in
         let l = part-length m k (f .below) in
-        let r = all-written level m lo k [] w₀ next₀ i low w next tops i a h in
+        let r = all-written level m lo k [] w₀ next₀ size i low w next tops i a h in
         let bs : List (Item (planeSpace fanout) (suc n)) = childrenLeft n m lo k [] in
-        let ts : List ℕ = take (countAt m k) tops in
+        let ts : List ℕ = take size tops in
         let c = part-at m k 1 (omega arith) in
+        let z = a .at .size-is in
         let few = f .few-items in
         let d = a .long in
         let ie = at-end in
-        let s : length ts ≡ 1 * itemCount p = length-take-le (countAt m k) tops (omega arith) ∙ (let q : countAt m k ≡ 1 * itemCount p = omega arith in q) in
+        let s : length ts ≡ 1 * itemCount p = length-take-le size tops (omega arith) ∙ (let q : size ≡ 1 * itemCount p = omega arith in q) in
         let t : ts ≡ topsFrom n next₀ bs = ap (λ (j : ℕ). take j tops) (sym ie) ∙ r .tops-are in
         let o : itemCount p ≡ length bs = (let q : itemCount p ≡ i = omega arith in q) ∙ r .count-is in
-        let image : withItems (partAt m k) ts ≡ nodePart (polygonIn p) (length bs) (topsFrom n next₀ bs) =
-        ap (λ (y : List ℕ). withItems y ts) (part-is (suc n) m lo k v)
+        let image : withItems p₀ ts ≡ nodePart (polygonIn p) (length bs) (topsFrom n next₀ bs) =
+        ap (λ (y : List ℕ). withItems y ts) p-is
         ∙ items-replaced 1 p l (f .few-rects) (omega arith) (f .rest) ts s
         ∙ ap (λ (j : ℕ). nodePart (polygonIn p) j ts) o ∙ ap (nodePart (polygonIn p) (length bs)) t in
         let y : PartPut w next (nodePart (polygonIn p) (length bs) (topsFrom n next₀ bs)) w′ = rw image at x in

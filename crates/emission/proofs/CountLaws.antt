@@ -15,7 +15,7 @@ use Rattle.plane.specs.Plane.{planeSpace}
 use Rattle.memory.specs.Layout.{polygonIn}
 use Rattle.memory.specs.Image.{emitNode}
 use Rattle.memory.proofs.NodeImage.{length-node}
-use Rattle.index.specs.Answers.{fanout}
+use Rattle.memory.specs.Fanout.{fanout}
 use Rattle.sides.specs.Sides.{sidesOf}
 use Rattle.emission.specs.Emits.{counted}
 use Rattle.emission.specs.Leaves.{leafLeft, leafUnder}

@@ -17,11 +17,11 @@ use Rattle.tree.specs.Plan.{branchUnder, clips}
 use Rattle.tree.specs.Pass.{deep}
 use Rattle.plane.specs.Lines.{CellEntry}
 use Rattle.plane.specs.Plane.{planeSpace}
-use Rattle.memory.specs.Layout.{part, itemCount, polygonIn, entriesIn, childrenIn}
+use Rattle.memory.specs.Layout.{part, itemCount, polygonIn, entriesIn, childrenIn, countAt, childAt}
 use Rattle.memory.specs.Reading.{readRow, readNode}
 use Rattle.memory.proofs.ReadingLaws.{row-parts, leaf-parts, node-parts}
-use Rattle.index.specs.Answers.{fanout}
-use Rattle.index.specs.Walks.{Walkable, countAt, childAt, leafEntries}
+use Rattle.memory.specs.Fanout.{fanout}
+use Rattle.index.specs.Walks.{Walkable, leafEntries}
 use Rattle.index.proofs.WalkRows.{RowWalkable, walkable}
 use Rattle.index.proofs.WalkLoop.{children-count, next-child}
 use Rattle.sides.specs.Sides.{sidesOf, onEvery}
@@ -126,16 +126,18 @@ deep-step n m lo hi j ks ss v =
       whole = rw (e, r .head, r .tail);
     }
 
--- Before the i-th child of the node at part k: bs are left of those that were passed, and low is the child's lower end.
-pub record AtDeep (n : ℕ) (m : List ℕ) (lo k : ℕ) (ss : List ℕ) (i low : ℕ) (bs : List (Item (planeSpace fanout) (suc n))) : Type 0 where
-  pub i-le : i ≤ countAt m k
+-- Before the i-th of the size children of the node at part k: bs are left of those that were passed, and low is the child's lower end.
+pub record AtDeep (n : ℕ) (m : List ℕ) (lo k : ℕ) (ss : List ℕ) (size i low : ℕ) (bs : List (Item (planeSpace fanout) (suc n))) : Type 0 where
+  pub size-is : size ≡ countAt m k
+  pub i-le : i ≤ size
   pub few : length bs ≤ i
   pub walk : Walkable (suc n) m lo k
   pub row : RowWalkable n m low k (drop i (childrenIn (part m k)))
   pub whole : bs ++ deepRow n m low k (drop i (childrenIn (part m k))) ss ≡ childrenLeft n m lo k ss
 
-pub deep-start : (n : ℕ) (m : List ℕ) (lo k : ℕ) (ss : List ℕ) → Walkable (suc n) m lo k → AtDeep n m lo k ss 0 lo []
-deep-start n m lo k ss v = record {
+pub deep-start : (n : ℕ) (m : List ℕ) (lo k : ℕ) (ss : List ℕ) (size : ℕ) → size ≡ countAt m k → Walkable (suc n) m lo k → AtDeep n m lo k ss size 0 lo []
+deep-start n m lo k ss size q v = record {
+  size-is = q;
   i-le = omega arith;
   few = omega arith;
   walk = v;
@@ -143,35 +145,37 @@ deep-start n m lo k ss v = record {
   whole = refl;
 }
 
-module _ (n : ℕ) (m : List ℕ) (lo k : ℕ) (ss : List ℕ) (i low : ℕ) (bs : List (Item (planeSpace fanout) (suc n))) (a : AtDeep n m lo k ss i low bs) where
-  pub deep-end : countAt m k ≤ i → bs ≡ childrenLeft n m lo k ss
+module _ (n : ℕ) (m : List ℕ) (lo k : ℕ) (ss : List ℕ) (size i low : ℕ) (bs : List (Item (planeSpace fanout) (suc n))) (a : AtDeep n m lo k ss size i low bs) where
+  pub deep-end : size ≤ i → bs ≡ childrenLeft n m lo k ss
   deep-end h =
+      let q = a .size-is in
       let c = children-count (suc n) m lo k (a .walk) in
       let s : length (childrenIn (part m k)) ≤ i = omega arith in
       sym (append-nil bs) ∙ ap (λ (l : List (Item (planeSpace fanout) (suc n))). bs ++ l) (sym (no-row n m low k ss))
       ∙ (rw (drop-of-length-le (childrenIn (part m k)) s) at (a .whole))
 
-  module _ (h : i < countAt m k) where
-    step : DeepStep n m low k (childAt m k i) (drop (i + 1) (childrenIn (part m k))) ss
-    step = deep-step n m low k _ _ ss (rw (next-child (suc n) m lo k (a .walk) i h) at (a .row))
+  module _ (h : i < size) (j : ℕ) (j-is : j ≡ childAt m k i) where
+    next : drop i (childrenIn (part m k)) ≡ j ∷ drop (i + 1) (childrenIn (part m k))
+    next = rw j-is (next-child (suc n) m lo k (a .walk) i (rw (a .size-is) at h))
 
-    pub deep-child : Walkable n m low (childAt m k i)
+    step : DeepStep n m low k j (drop (i + 1) (childrenIn (part m k))) ss
+    step = deep-step n m low k _ _ ss (rw next at (a .row))
+
+    pub deep-child : Walkable n m low j
     deep-child = step .child
 
-    pub deep-fits : Fits w32 (childAt m k i + 1)
+    pub deep-fits : Fits w32 (j + 1)
     deep-fits = let b = step .below in let v = a .walk .below in omega arith
 
     -- those passed, the child and the others give the whole
-    pub deep-whole : bs ++ (deepAt n m low (childAt m k i) ss ++ deepRow n m (childAt m k i + 1) k (drop (i + 1) (childrenIn (part m k))) ss)
-        ≡ childrenLeft n m lo k ss
-    deep-whole =
-        ap (λ (l : List (Item (planeSpace fanout) (suc n))). bs ++ l) (sym (step .whole))
-        ∙ (rw (next-child (suc n) m lo k (a .walk) i h) at (a .whole))
+    pub deep-whole : bs ++ (deepAt n m low j ss ++ deepRow n m (j + 1) k (drop (i + 1) (childrenIn (part m k))) ss) ≡ childrenLeft n m lo k ss
+    deep-whole = ap (λ (l : List (Item (planeSpace fanout) (suc n))). bs ++ l) (sym (step .whole)) ∙ (rw next at (a .whole))
 
-    pub deep-next : AtDeep n m lo k ss (i + 1) (childAt m k i + 1) (bs ++ deepAt n m low (childAt m k i) ss)
+    pub deep-next : AtDeep n m lo k ss size (i + 1) (j + 1) (bs ++ deepAt n m low j ss)
     deep-next = record {
+      size-is = a .size-is;
       i-le = omega arith;
-      few = let o = deep-one n m low (childAt m k i) ss in let f = a .few in rw length-append (omega arith);
+      few = let o = deep-one n m low j ss in let f = a .few in rw length-append (omega arith);
       walk = a .walk;
       row = step .others;
       whole = append-assoc bs _ _ ∙ deep-whole;

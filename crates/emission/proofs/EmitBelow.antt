@@ -9,15 +9,15 @@ use Rattle.tree.specs.Lists.{total}
 use Rattle.tree.specs.Nodes.{Item, nodes}
 use Rattle.tree.specs.Plan.{clips}
 use Rattle.plane.specs.Plane.{planeSpace}
-use Rattle.memory.specs.Layout.{part, polygonIn}
+use Rattle.memory.specs.Layout.{part, polygonIn, childAt}
 use Rattle.memory.specs.Image.{nodePart, entryNumbers, emitRow}
 use Rattle.memory.proofs.PartImage.{length-entries}
-use Rattle.index.specs.Answers.{fanout}
-use Rattle.index.specs.Walks.{Walkable, countAt, childAt, partAt}
-use Rattle.index.proofs.WalkRows.{part-is}
+use Rattle.memory.specs.Fanout.{fanout}
+use Rattle.layout.specs.Parts.{PartRoom, PartPut}
+use Rattle.index.specs.Walks.{Walkable}
 use Rattle.sides.specs.Sides.{sidesOf}
 use Rattle.emission.specs.Emits.{Emits, Room, deepAt}
-use Rattle.emission.specs.Parts.{PartRoom, PartPut, leftPart}
+use Rattle.emission.specs.Parts.{leftPart}
 use Rattle.emission.specs.Leaves.{leafLeft, leafUnder, LeafGathered}
 use Rattle.emission.proofs.EmitLaws.{topsFrom, emits-none, emits-leaf, emits-node}
 use Rattle.emission.proofs.DeepRows.{under-some, under-none, length-sides, deep-leaf, deep-node, childrenLeft}
@@ -34,6 +34,11 @@ module _ (level : ℕ) (m : List ℕ) (lo k : ℕ) (ss w : List ℕ) (next : ℕ
 
   pub plain-emits : (w′ : List ℕ) (next′ : ℕ) → Emits level w next (deepAt level m lo k []) w′ next′ → Emits level w next (deepAt level m lo k ss) w′ next′
   plain-emits w′ next′ e = rw (no-side ss z) e
+
+-- where something was written, the next free part is not the first
+pub emit-moved : (n : ℕ) (w : List ℕ) (next : ℕ) (bs : List (Item (planeSpace fanout) (suc n))) (w′ : List ℕ) (next′ : ℕ) → Emits n w next bs w′ next′ → (next′ ≡ next → ⊥)
+    → 1 ≤ next′
+emit-moved n w next bs w′ next′ e ne = let q = e .next-is in omega arith
 
 -- nothing is left, at whatever level
 nothing-left : (n n′ : ℕ) (w : List ℕ) (next : ℕ) (w′ : List ℕ) (next′ : ℕ) → Emits n w next [] w′ next′ → Emits n′ w next [] w′ next′
@@ -93,37 +98,34 @@ module _ (ss p l w : List ℕ) (next count : ℕ) (g : LeafGathered ss p l count
         rw leaf-branch (emits-leaf w next q (leafLeft ss p) w′ (rw e at x))
 
 -- a node that is a leaf
-module _ (level : ℕ) (m : List ℕ) (lo k : ℕ) (ss w : List ℕ) (next : ℕ) (z : level ≡ 0) (v : Walkable level m lo k) where
-  pub at-leaf-room : Room level w next (deepAt level m lo k ss) → Room 0 w next (leafUnder ss (partAt m k))
+module _ (level : ℕ) (m : List ℕ) (lo k : ℕ) (ss w : List ℕ) (next : ℕ) (z : level ≡ 0) (v : Walkable level m lo k)
+    (p : List ℕ) (p-is : p ≡ part m k) where
+  pub at-leaf-room : Room level w next (deepAt level m lo k ss) → Room 0 w next (leafUnder ss p)
   at-leaf-room r =
       let v′ : Walkable 0 m lo k = rw z at v in
       let r′ : Room 0 w next (deepAt 0 m lo k ss) = rw z at r in
-      rw (part-is 0 m lo k v′) (rw (deep-leaf m lo k ss v′) at r′)
+      rw p-is (rw (deep-leaf m lo k ss v′) at r′)
 
-  pub at-leaf-emits : (w′ : List ℕ) (next′ : ℕ) → Emits 0 w next (leafUnder ss (partAt m k)) w′ next′ → Emits level w next (deepAt level m lo k ss) w′ next′
+  pub at-leaf-emits : (w′ : List ℕ) (next′ : ℕ) → Emits 0 w next (leafUnder ss p) w′ next′ → Emits level w next (deepAt level m lo k ss) w′ next′
   at-leaf-emits w′ next′ e =
       let v′ : Walkable 0 m lo k = rw z at v in
-      rw (z, deep-leaf m lo k ss v′, ← (part-is 0 m lo k v′)) e
+      rw (z, deep-leaf m lo k ss v′, ← p-is) e
 
 -- the loop over the children
-module _ (level : ℕ) (m : List ℕ) (lo k : ℕ) (ss w₀ : List ℕ) (next₀ i low : ℕ) (w : List ℕ) (next : ℕ) (tops : List ℕ) (count : ℕ)
-    (a : EmitLoop level m lo k ss w₀ next₀ i low w next tops count) where
-  module _ (w′ : List ℕ) (next′ : ℕ) (h : i < countAt m k)
-      (e : Emits (level - 1) w next (deepAt (level - 1) m low (childAt m k i) ss) w′ next′) where
+module _ (level : ℕ) (m : List ℕ) (lo k : ℕ) (ss w₀ : List ℕ) (next₀ size i low : ℕ) (w : List ℕ) (next : ℕ) (tops : List ℕ) (count : ℕ)
+    (a : EmitLoop level m lo k ss w₀ next₀ size i low w next tops count) where
+  module _ (j : ℕ) (h : i < size) (j-is : j ≡ childAt m k i) (w′ : List ℕ) (next′ : ℕ) (e : Emits (level - 1) w next (deepAt (level - 1) m low j ss) w′ next′) where
     pub emit-one : (tops′ : List ℕ) (count′ : ℕ) → (next′ ≡ next → ⊥) → tops′ ≡ set tops count (next′ - 1) → count′ ≡ count + 1
-        → EmitLoop level m lo k ss w₀ next₀ (i + 1) (childAt m k i + 1) w′ next′ tops′ count′
-    emit-one tops′ count′ ne q r = rw (q, r) (again-one level m lo k ss w₀ next₀ i low w next tops count a h w′ next′ e ne)
+        → EmitLoop level m lo k ss w₀ next₀ size (i + 1) (j + 1) w′ next′ tops′ count′
+    emit-one tops′ count′ ne q r = rw (q, r) (again-one level m lo k ss w₀ next₀ size i low w next tops count a h j j-is w′ next′ e ne)
 
     pub emit-nothing : (tops′ : List ℕ) (count′ : ℕ) → next′ ≡ next → tops′ ≡ tops → count′ ≡ count
-        → EmitLoop level m lo k ss w₀ next₀ (i + 1) (childAt m k i + 1) w′ next′ tops′ count′
-    emit-nothing tops′ count′ z q r = rw (q, r) (again-nothing level m lo k ss w₀ next₀ i low w next tops count a h w′ next′ e z)
-
-    pub emit-moved : (next′ ≡ next → ⊥) → 1 ≤ next′
-    emit-moved ne = let q = e .next-is in omega arith
+        → EmitLoop level m lo k ss w₀ next₀ size (i + 1) (j + 1) w′ next′ tops′ count′
+    emit-nothing tops′ count′ z q r = rw (q, r) (again-nothing level m lo k ss w₀ next₀ size i low w next tops count a h j j-is w′ next′ e z)
 
   -- the children's parts, as they are lent
   tops-long : count ≤ 8
-  tops-long = let f = a .few in let g = a .at .i-le in let b = a .at .walk .few in omega arith
+  tops-long = let f = a .few in let g = a .at .i-le in let b = a .at .walk .few in let q = a .at .size-is in omega arith
 
   pub left-count : count ≡ length (take count tops)
   left-count = let f = tops-long in let l = a .long in sym (length-take-le count tops (omega arith))
@@ -131,10 +133,10 @@ module _ (level : ℕ) (m : List ℕ) (lo k : ℕ) (ss w₀ : List ℕ) (next₀
   pub left-few : length (take count tops) ≤ 62
   left-few = let f = tops-long in let c = left-count in omega arith
 
-  module _ (h : countAt m k ≤ i) where
+  module _ (h : size ≤ i) where
     pub node-gone : (length ss ≡ 0 → ⊥) → count ≡ 0 → Emits level w₀ next₀ (deepAt level m lo k ss) w next
     node-gone ne z =
-        let r = all-written level m lo k ss w₀ next₀ i low w next tops count a h in
+        let r = all-written level m lo k ss w₀ next₀ size i low w next tops count a h in
         let bs = childrenLeft (level - 1) m lo k ss in
         let c = r .count-is in
         let e : bs ≡ [] = empty bs (omega arith) in
@@ -145,20 +147,19 @@ module _ (level : ℕ) (m : List ℕ) (lo k : ℕ) (ss w₀ : List ℕ) (next₀
 
     module _ (ne : count ≡ 0 → ⊥) where
       pub node-own-room : PartRoom w next
-      node-own-room = own-room level m lo k ss w₀ next₀ i low w next tops count a h (omega arith)
+      node-own-room = own-room level m lo k ss w₀ next₀ size i low w next tops count a h (omega arith)
 
-      pub node-emits : (w′ : List ℕ)
-          → PartPut w next (leftPart ss (partAt m k) count (take count tops)) w′
+      pub node-emits : (p w′ : List ℕ) → p ≡ part m k → PartPut w next (leftPart ss p count (take count tops)) w′
           → Emits level w₀ next₀ (deepAt level m lo k ss) w′ (next + 1)
-      node-emits w′ x =
-          let r = all-written level m lo k ss w₀ next₀ i low w next tops count a h in
+      node-emits p w′ p-is x =
+          let r = all-written level m lo k ss w₀ next₀ size i low w next tops count a h in
           let n : ℕ = level - 1 in
           let bs : List (Item (planeSpace fanout) (suc n)) = childrenLeft n m lo k ss in
           let v = a .at .walk in
           let c = r .count-is in
           let q = clips (planeSpace fanout) (sidesOf ss) (polygonIn (part m k)) in
-          let image : leftPart ss (partAt m k) count (take count tops) ≡ nodePart q (length bs) (topsFrom n next₀ bs) =
-          ap (λ (y : List ℕ). leftPart ss y count (take count tops)) (part-is (suc n) m lo k v)
+          let image : leftPart ss p count (take count tops) ≡ nodePart q (length bs) (topsFrom n next₀ bs) =
+          ap (λ (y : List ℕ). leftPart ss y count (take count tops)) p-is
           ∙ ap (λ (j : ℕ). nodePart q j (take count tops)) c ∙ ap (nodePart q (length bs)) (r .tops-are) in
           rw (a .level-is, deep-node n m lo k ss v, under-some (polygonIn (part m k)) bs (sidesOf ss) (omega arith))
           (emits-node n w₀ next₀ q bs w next w′ (r .emitted) (rw image at x))

@@ -5,9 +5,8 @@ use mathlib.Core.Path.{_≡_, refl, sym, ap, _∙_}
 use mathlib.Core.List.{List, [], _∷_, _++_, append-assoc, append-nil, flatMap}
 use native.Mathlib.Omega.{arith}
 use native.Mathlib.Numerals.{add-one}
-use borrow.Rule.Slice.PartMut.{putMid, same-len-mid, mid-len}
-use lib.ListN.{length, take, drop, set, length-append}
-use lib.Seq.{take-at, length-take-le, take-suc-set}
+use lib.ListN.{length, take, set, length-append}
+use lib.Seq.{take-suc-set}
 use Rattle.geometry.specs.declared.rect.Rect.{Rect}
 use Rattle.tree.specs.Lists.{total}
 use Rattle.tree.specs.Nodes.{Item, nodes}
@@ -17,9 +16,9 @@ use Rattle.plane.specs.Lines.{CellEntry}
 use Rattle.plane.specs.Plane.{planeSpace}
 use Rattle.memory.specs.Image.{nodePart, entryNumbers, emitRow, emitNode}
 use Rattle.memory.proofs.NodeImage.{length-row, length-node}
-use Rattle.index.specs.Answers.{fanout}
+use Rattle.memory.specs.Fanout.{fanout}
+use Rattle.layout.specs.Parts.{PartPut}
 use Rattle.emission.specs.Emits.{Emits}
-use Rattle.emission.specs.Parts.{PartPut}
 
 -- the numbers of some parts, one after another
 abbrev pub numbers : List (List ℕ) → List ℕ
@@ -89,22 +88,6 @@ emits-more n w next bs w₁ next₁ cs w₂ next₂ x y =
           (sym (flatMap-append (λ p. p) (partsFrom n next bs) (partsFrom n next₁ cs)) ∙ ap numbers (sym all));
       next-is = omega arith;
       same-length = y .same-length ∙ x .same-length;
-    }
-
--- a part of the work area that was lent and came back with 128 other numbers
-pub part-put : (w : List ℕ) (next : ℕ) (p w₁ : List ℕ) → 64 + 128 * (next + 1) ≤ length w → length p ≡ 128
-    → w₁ ≡ putMid (64 + 128 * next) (64 + 128 * next + 128 - (64 + 128 * next)) w p → PartPut w next p w₁
-part-put w next p w₁ fits l e =
-    let a : ℕ = 64 + 128 * next in
-    let rest : List ℕ = drop (a + 128 - a) (drop a w) in
-    let s : 64 + 128 * (next + 1) ≡ a + 128 = omega arith in
-    let t : length (take a w ++ p) ≡ a + 128 = rw (length-append, length-take-le a w (omega arith), l) in
-    let k : a + 128 ≤ length w = omega arith in
-    let q : a + 128 - a ≡ 128 = omega arith in
-    record {
-      written = ap (λ (z : List ℕ). take (64 + 128 * (next + 1)) z) e ∙ ap (λ (i : ℕ). take i (take a w ++ (p ++ rest))) s
-          ∙ ap (take (a + 128)) (sym (append-assoc (take a w) p rest)) ∙ take-at (take a w ++ p) rest (a + 128) t;
-      same-length = ap length e ∙ same-len-mid a (a + 128 - a) w p (l ∙ sym q ∙ sym (mid-len a (a + 128) w k));
     }
 
 -- A leaf written to the part next.

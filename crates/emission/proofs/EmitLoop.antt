@@ -12,12 +12,12 @@ use Rattle.tree.specs.Nodes.{Item, nodes}
 use Rattle.tree.specs.Plan.{branchUnder, clips}
 use Rattle.tree.proofs.Counts.{total-append}
 use Rattle.plane.specs.Plane.{planeSpace}
-use Rattle.memory.specs.Layout.{part, polygonIn, childrenIn}
-use Rattle.index.specs.Answers.{fanout}
-use Rattle.index.specs.Walks.{Walkable, countAt, childAt}
+use Rattle.memory.specs.Layout.{part, polygonIn, childrenIn, countAt, childAt}
+use Rattle.memory.specs.Fanout.{fanout}
+use Rattle.layout.specs.Parts.{PartRoom}
+use Rattle.index.specs.Walks.{Walkable}
 use Rattle.sides.specs.Sides.{sidesOf}
 use Rattle.emission.specs.Emits.{Emits, Room, deepAt}
-use Rattle.emission.specs.Parts.{PartRoom}
 use Rattle.emission.proofs.EmitLaws.{nodesOf, Row, row-start, row-nothing, row-one}
 use Rattle.emission.proofs.DeepRows.{under-some, deep-one, deep-node, deepRow, childrenLeft, AtDeep, deep-start, deep-child, deep-whole, deep-next, deep-end}
 
@@ -53,12 +53,12 @@ module _ (n : ℕ) (m : List ℕ) (lo k : ℕ) (ss w : List ℕ) (next : ℕ) (v
       let g = nodes-some n (polygonIn (part m k)) (sidesOf ss) (childrenLeft n m lo k ss) h in
       omega arith
 
--- Before the i-th child: what is left of those passed was written from next₀ on; the first count numbers of tops are the parts of their top
+-- Before the i-th of the size children: what is left of those passed was written from next₀ on; the first count numbers of tops are the parts of their top
 -- nodes, and next is the next free part.
-pub record EmitLoop (level : ℕ) (m : List ℕ) (lo k : ℕ) (ss w₀ : List ℕ) (next₀ i low : ℕ) (w : List ℕ) (next : ℕ) (tops : List ℕ) (count : ℕ) : Type 0 where
+pub record EmitLoop (level : ℕ) (m : List ℕ) (lo k : ℕ) (ss w₀ : List ℕ) (next₀ size i low : ℕ) (w : List ℕ) (next : ℕ) (tops : List ℕ) (count : ℕ) : Type 0 where
   pub level-is : level ≡ suc (level - 1)
   pub bs : List (Item (planeSpace fanout) (suc (level - 1)))
-  pub at : AtDeep (level - 1) m lo k ss i low bs
+  pub at : AtDeep (level - 1) m lo k ss size i low bs
   pub row : Row (level - 1) w₀ next₀ bs w next tops count
   pub room : Room level w₀ next₀ (deepAt level m lo k ss)
   pub long : length tops ≡ 8
@@ -67,16 +67,16 @@ pub record EmitLoop (level : ℕ) (m : List ℕ) (lo k : ℕ) (ss w₀ : List �
   pub same-length : length w ≡ length w₀
 
 module _ (level : ℕ) (m : List ℕ) (lo k : ℕ) (ss w₀ : List ℕ) (next₀ : ℕ) where
-  pub emit-start : (tops : List ℕ) → (level ≡ 0 → ⊥) → Walkable level m lo k → Room level w₀ next₀ (deepAt level m lo k ss) → length tops ≡ 8
-      → EmitLoop level m lo k ss w₀ next₀ 0 lo w₀ next₀ tops 0
-  emit-start tops ne v r l =
+  pub emit-start : (size : ℕ) (tops : List ℕ) → (level ≡ 0 → ⊥) → Walkable level m lo k → Room level w₀ next₀ (deepAt level m lo k ss) → size ≡ countAt m k → length tops ≡ 8
+      → EmitLoop level m lo k ss w₀ next₀ size 0 lo w₀ next₀ tops 0
+  emit-start size tops ne v r q l =
       let e : level ≡ suc (level - 1) = omega arith in
       let f = r .fits in
       let s = r .small in
       record {
         level-is = e;
         bs = [];
-        at = deep-start (level - 1) m lo k ss (rw e at v);
+        at = deep-start (level - 1) m lo k ss size q (rw e at v);
         row = row-start (level - 1) w₀ next₀ tops;
         room = r;
         long = l;
@@ -85,25 +85,28 @@ module _ (level : ℕ) (m : List ℕ) (lo k : ℕ) (ss w₀ : List ℕ) (next₀
         same-length = refl;
       }
 
-  module _ (i low : ℕ) (w : List ℕ) (next : ℕ) (tops : List ℕ) (count : ℕ) (a : EmitLoop level m lo k ss w₀ next₀ i low w next tops count) where
+  module _ (size i low : ℕ) (w : List ℕ) (next : ℕ) (tops : List ℕ) (count : ℕ) (a : EmitLoop level m lo k ss w₀ next₀ size i low w next tops count) where
     -- the room as that of the node above its children
     node-room : Room (suc (level - 1)) w₀ next₀ (deepAt (suc (level - 1)) m lo k ss)
     node-room = rw (a .level-is) at (a .room)
 
-    module _ (h : i < countAt m k) where
-      pub child-walk : Walkable (level - 1) m low (childAt m k i)
-      child-walk = deep-child (level - 1) m lo k ss i low (a .bs) (a .at) h
+    pub count-small : i < size → count < 8
+    count-small h = let f = a .few in let g = a .at .walk .few in let q = a .at .size-is in omega arith
 
-      child-nodes : nodesOf (level - 1) (a .bs) + nodesOf (level - 1) (deepAt (level - 1) m low (childAt m k i) ss) ≤ nodesOf (level - 1) (childrenLeft (level - 1) m lo k ss)
+    module _ (h : i < size) (j : ℕ) (j-is : j ≡ childAt m k i) where
+      pub child-walk : Walkable (level - 1) m low j
+      child-walk = deep-child (level - 1) m lo k ss size i low (a .bs) (a .at) h j j-is
+
+      child-nodes : nodesOf (level - 1) (a .bs) + nodesOf (level - 1) (deepAt (level - 1) m low j ss) ≤ nodesOf (level - 1) (childrenLeft (level - 1) m lo k ss)
       child-nodes =
-          let t = ap (nodesOf (level - 1)) (deep-whole (level - 1) m lo k ss i low (a .bs) (a .at) h) in
-          let child : List (Item (planeSpace fanout) (suc (level - 1))) = deepAt (level - 1) m low (childAt m k i) ss in
-          let others : List (Item (planeSpace fanout) (suc (level - 1))) = deepRow (level - 1) m (childAt m k i + 1) k (drop (i + 1) (childrenIn (part m k))) ss in
+          let t = ap (nodesOf (level - 1)) (deep-whole (level - 1) m lo k ss size i low (a .bs) (a .at) h j j-is) in
+          let child : List (Item (planeSpace fanout) (suc (level - 1))) = deepAt (level - 1) m low j ss in
+          let others : List (Item (planeSpace fanout) (suc (level - 1))) = deepRow (level - 1) m (j + 1) k (drop (i + 1) (childrenIn (part m k))) ss in
           let x = total-append (nodes (planeSpace fanout) (suc (level - 1))) (a .bs) (child ++ others) in
           let y = total-append (nodes (planeSpace fanout) (suc (level - 1))) child others in
           omega arith
 
-      pub child-room : Room (level - 1) w next (deepAt (level - 1) m low (childAt m k i) ss)
+      pub child-room : Room (level - 1) w next (deepAt (level - 1) m low j ss)
       child-room =
           let f = children-room (level - 1) m lo k ss w₀ next₀ (a .at .walk) node-room in
           let c = child-nodes in
@@ -112,11 +115,8 @@ module _ (level : ℕ) (m : List ℕ) (lo k : ℕ) (ss w₀ : List ℕ) (next₀
           let z = a .room .small in
           record { fits = omega arith; small = omega arith }
 
-      pub count-small : count < 8
-      count-small = let f = a .few in let g = a .at .walk .few in omega arith
-
       -- what the child wrote
-      module _ (w′ : List ℕ) (next′ : ℕ) (e : Emits (level - 1) w next (deepAt (level - 1) m low (childAt m k i) ss) w′ next′) where
+      module _ (w′ : List ℕ) (next′ : ℕ) (e : Emits (level - 1) w next (deepAt (level - 1) m low j ss) w′ next′) where
         moved-small : next′ ≤ 256
         moved-small =
             let r = child-room in
@@ -125,12 +125,12 @@ module _ (level : ℕ) (m : List ℕ) (lo k : ℕ) (ss w₀ : List ℕ) (next₀
             let q = e .next-is in
             omega arith
 
-        pub again-nothing : next′ ≡ next → EmitLoop level m lo k ss w₀ next₀ (i + 1) (childAt m k i + 1) w′ next′ tops count
+        pub again-nothing : next′ ≡ next → EmitLoop level m lo k ss w₀ next₀ size (i + 1) (j + 1) w′ next′ tops count
         again-nothing q = record {
           level-is = a .level-is;
           bs = _;
-          at = deep-next (level - 1) m lo k ss i low (a .bs) (a .at) h;
-          row = row-nothing (level - 1) w₀ next₀ (a .bs) w next tops count (a .row) _ w′ next′ e (deep-one (level - 1) m low (childAt m k i) ss) q;
+          at = deep-next (level - 1) m lo k ss size i low (a .bs) (a .at) h j j-is;
+          row = row-nothing (level - 1) w₀ next₀ (a .bs) w next tops count (a .row) _ w′ next′ e (deep-one (level - 1) m low j ss) q;
           room = a .room;
           long = a .long;
           few = let f = a .few in omega arith;
@@ -138,16 +138,16 @@ module _ (level : ℕ) (m : List ℕ) (lo k : ℕ) (ss w₀ : List ℕ) (next₀
           same-length = e .same-length ∙ a .same-length;
         }
 
-        pub again-one : (next′ ≡ next → ⊥) → EmitLoop level m lo k ss w₀ next₀ (i + 1) (childAt m k i + 1) w′ next′ (set tops count (next′ - 1)) (count + 1)
+        pub again-one : (next′ ≡ next → ⊥) → EmitLoop level m lo k ss w₀ next₀ size (i + 1) (j + 1) w′ next′ (set tops count (next′ - 1)) (count + 1)
         again-one ne =
-            let c = count-small in
+            let c = count-small h in
             let l = a .long in
             let b : count < length tops = omega arith in
             record {
               level-is = a .level-is;
               bs = _;
-              at = deep-next (level - 1) m lo k ss i low (a .bs) (a .at) h;
-              row = row-one (level - 1) w₀ next₀ (a .bs) w next tops count (a .row) _ w′ next′ e (deep-one (level - 1) m low (childAt m k i) ss) ne b;
+              at = deep-next (level - 1) m lo k ss size i low (a .bs) (a .at) h j j-is;
+              row = row-one (level - 1) w₀ next₀ (a .bs) w next tops count (a .row) _ w′ next′ e (deep-one (level - 1) m low j ss) ne b;
               room = a .room;
               long = length-set tops count (next′ - 1) ∙ l;
               few = let f = a .few in omega arith;
@@ -156,9 +156,9 @@ module _ (level : ℕ) (m : List ℕ) (lo k : ℕ) (ss w₀ : List ℕ) (next₀
             }
 
     -- behind the last child
-    module _ (h : countAt m k ≤ i) where
+    module _ (h : size ≤ i) where
       pub all-written : Row (level - 1) w₀ next₀ (childrenLeft (level - 1) m lo k ss) w next tops count
-      all-written = rw (deep-end (level - 1) m lo k ss i low (a .bs) (a .at) h) at (a .row)
+      all-written = rw (deep-end (level - 1) m lo k ss size i low (a .bs) (a .at) h) at (a .row)
 
       pub own-room : 1 ≤ count → PartRoom w next
       own-room c =

@@ -14,8 +14,9 @@ use Rattle.tree.proofs.Counts.{total-append}
 use Rattle.plane.specs.Lines.{CellEntry}
 use Rattle.plane.specs.Plane.{planeSpace}
 use Rattle.plane.specs.Candidates.{rankLine}
-use Rattle.index.specs.Answers.{fanout}
-use Rattle.index.specs.Walks.{Walkable, countAt}
+use Rattle.memory.specs.Layout.{countAt}
+use Rattle.memory.specs.Fanout.{fanout}
+use Rattle.index.specs.Walks.{Walkable}
 use Rattle.sides.specs.Sides.{sideOf, sidesOf}
 use Rattle.emission.specs.declared.tops.Tops.{Tops}
 use Rattle.emission.specs.Emits.{Emits, Room}

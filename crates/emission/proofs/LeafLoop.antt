@@ -4,32 +4,33 @@ use mathlib.Core.Path.{_≡_, refl, sym, ap, _∙_}
 use mathlib.Core.Bool.{Bool, true, false}
 use mathlib.Core.List.{List, [], _∷_, _++_, append-assoc, flatMap}
 use native.Mathlib.Omega.{arith}
-use lib.ListN.{length, take, set, getD, length-append, length-set}
+use lib.ListN.{length, take, set, length-append, length-set}
 use lib.Seq.{take-suc-set}
+use Rattle.geometry.specs.declared.rect.Cell.{Cell}
 use Rattle.tree.specs.Lists.{notEmpty}
 use Rattle.tree.proofs.Lists.{flatMap-append, flatMap-one}
 use Rattle.plane.specs.Lines.{CellEntry}
-use Rattle.memory.specs.Layout.{itemCount, entryIn}
+use Rattle.memory.specs.Layout.{itemCount, entryIn, NodePart}
 use Rattle.memory.specs.Image.{entryNumbers}
-use Rattle.index.specs.Check.{NodePart}
+use Rattle.index.specs.Changes.{entryOf}
 use Rattle.index.proofs.WalkLeaf.{AtEntry, entry-start, entry-miss, entry-hit, entry-end}
 use Rattle.sides.specs.Sides.{onEvery}
 use Rattle.emission.specs.Leaves.{onTest, leafLeft, EntryPut, Gathered, LeafGathered}
 
--- an entry's test, by its numbers
-pub left-is : (ss p : List ℕ) (i : ℕ) (b : Bool) → b ≡ onEvery ss (record { x = getD p (66 + 3 * i) 0; y = getD p (66 + 3 * i + 1) 0 }) → b ≡ onTest ss (entryIn p i)
-unfolding onTest entryIn
-left-is ss p i b e = e
+-- an entry's test, by its cell
+pub left-is : (ss p : List ℕ) (i : ℕ) (c : Cell) (b : Bool) → c ≡ entryIn p i .cell → b ≡ onEvery ss c → b ≡ onTest ss (entryIn p i)
+unfolding onTest
+left-is ss p i c b q e = e ∙ ap (onEvery ss) q
 
 -- an entry was found, or none is left
-module _ (ss p : List ℕ) (i : ℕ) (a : AtEntry (onTest ss) p i []) where
-  pub left-found : (b : Bool) → i < itemCount p → b ≡ onTest ss (entryIn p i) → b ≡ true → true ≡ notEmpty (leafLeft ss p)
+module _ (ss p : List ℕ) (n i : ℕ) (a : AtEntry (onTest ss) p n i []) where
+  pub left-found : (b : Bool) → i < n → b ≡ onTest ss (entryIn p i) → b ≡ true → true ≡ notEmpty (leafLeft ss p)
   unfolding leafLeft
-  left-found b h e f = rw (← (entry-hit (onTest ss) p i [] a h b e f .entries))
+  left-found b h e f = rw (← (entry-hit (onTest ss) p n i [] a h b e f .entries))
 
-  pub left-nothing : itemCount p ≤ i → false ≡ notEmpty (leafLeft ss p)
+  pub left-nothing : n ≤ i → false ≡ notEmpty (leafLeft ss p)
   unfolding leafLeft
-  left-nothing h = rw (← (entry-end (onTest ss) p i [] a h))
+  left-nothing h = rw (← (entry-end (onTest ss) p n i [] a h))
 
 -- three numbers stored one after another
 pub entry-put : (l : List ℕ) (at : ℕ) (e : CellEntry) → 3 * (at + 1) ≤ length l
@@ -57,47 +58,45 @@ entry-put l at e h =
       same-length = simp length-set;
     }
 
--- the numbers of the i-th entry stored
-pub entry-copied : (l p : List ℕ) (i at : ℕ) (l′ : List ℕ)
-    → EntryPut l at (record { cell = record { x = getD p (66 + 3 * i) 0; y = getD p (66 + 3 * i + 1) 0 }; tag = getD p (66 + 3 * i + 2) 0 }) l′
+-- the i-th entry stored, by its cell and its tag
+pub entry-copied : (l p : List ℕ) (i at : ℕ) (c : Cell) (t : ℕ) (l′ : List ℕ) → c ≡ entryIn p i .cell → t ≡ entryIn p i .tag → EntryPut l at (entryOf c t) l′
     → EntryPut l at (entryIn p i) l′
-unfolding entryIn
-entry-copied l p i at l′ x = x
+entry-copied l p i at c t l′ q r x = rw (q, r) at x
 
--- Before the i-th entry of a leaf: the first count places of l hold those passed that are left.
-pub record GatherLoop (ss p l₀ : List ℕ) (i : ℕ) (l : List ℕ) (count : ℕ) : Type 0 where
+-- Before the i-th of a leaf's n entries: the first count places of l hold those passed that are left.
+pub record GatherLoop (ss p l₀ : List ℕ) (n i : ℕ) (l : List ℕ) (count : ℕ) : Type 0 where
   pub es : List CellEntry
-  pub at : AtEntry (onTest ss) p i es
+  pub at : AtEntry (onTest ss) p n i es
   pub so-far : Gathered es l count
   pub few : count ≤ i
   pub long : 24 ≤ length l
   pub same-length : length l ≡ length l₀
 
-module _ (ss p l₀ : List ℕ) where
-  pub gather-start : NodePart p → 24 ≤ length l₀ → GatherLoop ss p l₀ 0 l₀ 0
+module _ (ss p l₀ : List ℕ) (n : ℕ) where
+  pub gather-start : NodePart p → 24 ≤ length l₀ → n ≡ itemCount p → GatherLoop ss p l₀ n 0 l₀ 0
   unfolding flatMap
-  gather-start v h = record {
+  gather-start v h q = record {
     es = [];
-    at = entry-start (onTest ss) p v;
+    at = entry-start (onTest ss) p n v q;
     so-far = record { count-is = refl; numbers = refl };
     few = omega arith;
     long = h;
     same-length = refl;
   }
 
-  module _ (i : ℕ) (l : List ℕ) (count : ℕ) (a : GatherLoop ss p l₀ i l count) where
-    pub gather-end : itemCount p ≤ i → LeafGathered ss p l count
+  module _ (i : ℕ) (l : List ℕ) (count : ℕ) (a : GatherLoop ss p l₀ n i l count) where
+    pub gather-end : n ≤ i → LeafGathered ss p l count
     unfolding leafLeft
     gather-end h = record {
-      gathered = rw (← (entry-end (onTest ss) p i (a .es) (a .at) h)) (a .so-far);
-      few = let f = a .few in let g = a .at .i-le in let k = a .at .leaf .few-items in omega arith;
+      gathered = rw (← (entry-end (onTest ss) p n i (a .es) (a .at) h)) (a .so-far);
+      few = let f = a .few in let g = a .at .i-le in let q = a .at .count in let k = a .at .leaf .few-items in omega arith;
     }
 
-    module _ (h : i < itemCount p) (b : Bool) (e : b ≡ onTest ss (entryIn p i)) where
-      pub gather-miss : (l′ : List ℕ) (count′ : ℕ) → b ≡ false → l′ ≡ l → count′ ≡ count → GatherLoop ss p l₀ (i + 1) l′ count′
+    module _ (h : i < n) (b : Bool) (e : b ≡ onTest ss (entryIn p i)) where
+      pub gather-miss : (l′ : List ℕ) (count′ : ℕ) → b ≡ false → l′ ≡ l → count′ ≡ count → GatherLoop ss p l₀ n (i + 1) l′ count′
       gather-miss l′ count′ f q r = rw (q, r) (record {
         es = a .es;
-        at = entry-miss (onTest ss) p i (a .es) (a .at) h b e f;
+        at = entry-miss (onTest ss) p n i (a .es) (a .at) h b e f;
         so-far = a .so-far;
         few = let g = a .few in omega arith;
         long = a .long;
@@ -105,13 +104,13 @@ module _ (ss p l₀ : List ℕ) where
       })
 
       pub gather-hit : (l″ l′ : List ℕ) (count′ : ℕ) → b ≡ true → EntryPut l count (entryIn p i) l″ → l′ ≡ l″ → count′ ≡ count + 1
-          → GatherLoop ss p l₀ (i + 1) l′ count′
+          → GatherLoop ss p l₀ n (i + 1) l′ count′
       gather-hit l″ l′ count′ f x q r =
           let c = a .so-far .count-is in
           let s = x .same-length in
           rw (q, r) (record {
             es = a .es ++ (entryIn p i ∷ []);
-            at = entry-hit (onTest ss) p i (a .es) (a .at) h b e f;
+            at = entry-hit (onTest ss) p n i (a .es) (a .at) h b e f;
             so-far = record {
               count-is = rw length-append (omega arith);
               numbers =

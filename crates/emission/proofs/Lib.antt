@@ -10,8 +10,7 @@ pub mod EmitLoop
 pub mod FrontLaws
 pub mod HalfLaws
 pub mod LeafLoop
-pub mod NodeStore
-pub mod PartCopies
+pub mod LeftNode
 pub mod PathCount
 pub mod PathLaws
 pub mod PathLeaf

@@ -14,12 +14,13 @@ use Rattle.tree.specs.Plan.{branchUnder}
 use Rattle.plane.specs.Lines.{CellEntry}
 use Rattle.plane.specs.Plane.{planeSpace}
 use Rattle.plane.specs.Candidates.{rankLine}
-use Rattle.index.specs.Answers.{fanout}
-use Rattle.index.specs.Walks.{Walkable, childAt, countAt}
+use Rattle.memory.specs.Layout.{part, childAt, countAt}
+use Rattle.memory.specs.Fanout.{fanout}
+use Rattle.index.specs.Walks.{Walkable}
 use Rattle.sides.specs.Sides.{sideOf, sidesOf}
 use Rattle.emission.specs.Emits.{counted, deepAt}
 use Rattle.emission.specs.Leaves.{Gathered}
-use Rattle.emission.specs.Path.{lineOn, polygonOn, halfUnder, cutUnder, PathNode, PathFrom}
+use Rattle.emission.specs.Path.{partOn, placeOn, lineOn, polygonOn, halfUnder, cutUnder, PathNode, PathFrom}
 use Rattle.emission.specs.Rows.{kept, topParts, rangeUnder, beforeOn, behindOn}
 use Rattle.emission.proofs.CountLaws.{none-counted, counted-few, counted-none, counted-more}
 use Rattle.emission.proofs.CutLaws.{front-is, cut-whole, cut-split}
@@ -50,19 +51,26 @@ module _ (n : ℕ) (m : List ℕ) (k from to : ℕ) (ss : List ℕ) (start : ℕ
         let s = rw (e, range-none n m k to ss) at (x .so-far) in
         omega arith
 
-    module _ (h : i < to) where
-      pub range-walk : Walkable n m 0 (childAt m k i)
-      range-walk = branch-at n m k (x .walk) i (let l = x .to-le in omega arith) .walk
+    module _ (h : i < to) (j : ℕ) (j-is : j ≡ childAt m k i) where
+      pub range-walk : Walkable n m 0 j
+      range-walk = branch-at n m k (x .walk) i j (let l = x .to-le in omega arith) j-is .walk
 
-      pub range-again : (r nodes₁ : ℕ) → r ≡ counted n (deepAt n m 0 (childAt m k i) ss) → nodes₁ ≡ min 257 (nodes + r)
+      pub range-again : (r nodes₁ : ℕ) → r ≡ counted n (deepAt n m 0 j ss) → nodes₁ ≡ min 257 (nodes + r)
           → RangeLoop n m k from to ss start (i + 1) nodes₁
       range-again r nodes₁ e q =
-          let bs = deepAt n m 0 (childAt m k i) ss in
+          let bs = deepAt n m 0 j ss in
           let cs = rangeUnder n m k (i + 1) to ss in
           let c : counted n (rangeUnder n m k i to ss) ≡ min 257 (counted n bs + counted n cs) =
-          ap (counted n) (range-cons n m k (x .walk) ss i to h (x .to-le)) ∙ sym (counted-more n bs cs) in
+          ap (counted n) (range-cons n m k (x .walk) ss i to j h (x .to-le) j-is) ∙ sym (counted-more n bs cs) in
           let s = x .so-far in
           record { walk = x .walk; i-le = omega arith; to-le = x .to-le; so-far = omega arith; few = omega arith }
+
+-- the branches before the place of the path, and those behind it
+pub beside-count : (level : ℕ) (path m ss : List ℕ) (to before r : ℕ) → to ≡ countAt m (partOn path level)
+    → before ≡ min 257 (0 + counted (level - 1) (beforeOn level path m ss))
+    → r ≡ min 257 (before + counted (level - 1) (rangeUnder (level - 1) m (partOn path level) (placeOn path level + 1) to ss))
+    → r ≡ min 257 (counted (level - 1) (beforeOn level path m ss) + counted (level - 1) (behindOn level path m ss))
+beside-count level path m ss to before r q a b = let c = rw q at b in omega arith
 
 -- a count of some branches is at most the limit
 pub count-few : (n : ℕ) (bs : List (Item (planeSpace fanout) (suc n))) (r : ℕ) → r ≡ counted n bs → r ≤ 257
@@ -102,13 +110,13 @@ unfolding topParts
 top-no-count ss nodes b o f h = let k : kept ss nodes ≡ false = sym o ∙ f in rw k (omega arith)
 
 -- the leaf on the path
-module _ (path m : List ℕ) (e : CellEntry) (ss : List ℕ) (v : PathNode 0 path m) (l : List ℕ) (count : ℕ) (g : Gathered (entriesOn path m e ss) l count)
-    (b : Bool) (o : b ≡ kept ss count) where
+module _ (path m : List ℕ) (e : CellEntry) (ss : List ℕ) (v : PathNode 0 path m) (p : List ℕ) (p-is : p ≡ part m (partOn path 0)) (l : List ℕ) (count : ℕ)
+    (g : Gathered (entriesOn p e ss) l count) (b : Bool) (o : b ≡ kept ss count) where
   leaf-count : counted 0 (halfUnder 0 path m e (sidesOf ss)) ≡ min 257 (topParts ss count)
   unfolding counted
   leaf-count =
       let n : total (nodes (planeSpace fanout) 1) (halfUnder 0 path m e (sidesOf ss)) ≡ topParts ss count =
-      ap (total (nodes (planeSpace fanout) 1)) (leaf-half path m e ss v) ∙ leaf-nodes-under ss (polygonOn path 0) (entriesOn path m e ss) ∙ ap (topParts ss) (sym (g .count-is)) in
+      ap (total (nodes (planeSpace fanout) 1)) (leaf-half path m e ss v p p-is) ∙ leaf-nodes-under ss (polygonOn path 0) (entriesOn p e ss) ∙ ap (topParts ss) (sym (g .count-is)) in
       ap (min 257) n
 
   pub leaf-counted : b ≡ true → 1 ≡ counted 0 (halfUnder 0 path m e (sidesOf ss))

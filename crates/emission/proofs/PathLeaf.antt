@@ -15,14 +15,13 @@ use Rattle.tree.proofs.Lists.{keep-append, flatMap-append, flatMap-one}
 use Rattle.tree.proofs.Counts.{length-keep}
 use Rattle.plane.specs.Lines.{CellEntry}
 use Rattle.plane.specs.Plane.{planeSpace}
-use Rattle.memory.specs.Layout.{itemCount, entriesIn}
+use Rattle.memory.specs.Layout.{part, itemCount, entriesIn, NodePart}
 use Rattle.memory.specs.Image.{entryNumbers}
 use Rattle.memory.proofs.ReadingLaws.{entries-length}
-use Rattle.index.specs.Answers.{fanout}
-use Rattle.index.specs.Check.{NodePart}
+use Rattle.memory.specs.Fanout.{fanout}
 use Rattle.index.specs.Changes.{entryOf}
-use Rattle.index.specs.Walks.{leafEntries, partAt}
-use Rattle.index.proofs.WalkRows.{part-is, leaf-part}
+use Rattle.index.specs.Walks.{leafEntries}
+use Rattle.index.proofs.WalkRows.{node-part}
 use Rattle.sides.specs.Sides.{sidesOf, onEvery}
 use Rattle.emission.specs.Emits.{Emits, Room}
 use Rattle.emission.specs.Leaves.{onTest, leafLeft, EntryPut, Gathered, LeafGathered}
@@ -59,32 +58,31 @@ module _ (ss p : List ℕ) (c : Cell) (tag : ℕ) (l : List ℕ) (count : ℕ) (
               ∙ sym (flatMap-append entryNumbers es (entryOf c tag ∷ []) ∙ ap (λ (z : List ℕ). flatMap entryNumbers es ++ z) (flatMap-one entryNumbers (entryOf c tag)));
         })
 
--- the node on the path at level 0
-module _ (path m : List ℕ) (e : CellEntry) (ss : List ℕ) where
-  -- its entries under sides, by the numbers in place
-  abbrev pub entriesOn : List CellEntry
-  entriesOn = keep (onTest ss) (entriesIn (partAt m (partOn path 0)) (itemCount (partAt m (partOn path 0))) ++ (e ∷ []))
+-- the entries of a leaf's part and the new one, under sides
+abbrev pub entriesOn : List ℕ → CellEntry → List ℕ → List CellEntry
+entriesOn p e ss = keep (onTest ss) (entriesIn p (itemCount p) ++ (e ∷ []))
 
-  module _ (v : PathNode 0 path m) where
-    leaf-row : rowUnder 0 path m e (sidesOf ss) ≡ entriesOn
+-- the node on the path at level 0, whose part is p
+module _ (path m : List ℕ) where
+  pub leaf-in : PathNode 0 path m → (p : List ℕ) → p ≡ part m (partOn path 0) → NodePart p
+  leaf-in v p p-is = node-part 0 m 0 (partOn path 0) (v .walk) p p-is
+
+  module _ (e : CellEntry) (ss : List ℕ) (v : PathNode 0 path m) (p : List ℕ) (p-is : p ≡ part m (partOn path 0)) where
+    leaf-row : rowUnder 0 path m e (sidesOf ss) ≡ entriesOn p e ss
     unfolding rowUnder wayAt
-    leaf-row = rw (part-is 0 m 0 (partOn path 0) (v .walk)) (entries-left ss _)
+    leaf-row = rw p-is (entries-left ss _)
 
-    pub leaf-half : halfUnder 0 path m e (sidesOf ss) ≡ branchUnder (planeSpace fanout) (sidesOf ss) (polygonOn path 0) entriesOn
+    pub leaf-half : halfUnder 0 path m e (sidesOf ss) ≡ branchUnder (planeSpace fanout) (sidesOf ss) (polygonOn path 0) (entriesOn p e ss)
     unfolding halfUnder
     leaf-half = rw leaf-row
 
-    pub leaf-in : NodePart (partAt m (partOn path 0))
-    leaf-in = leaf-part 0 m 0 (partOn path 0) (v .walk)
-
-    module _ (l : List ℕ) (count : ℕ) (g : Gathered entriesOn l count) where
+    module _ (l : List ℕ) (count : ℕ) (g : Gathered (entriesOn p e ss) l count) where
       pub leaf-few : count ≤ 9
       leaf-few =
-          let p = partAt m (partOn path 0) in
           let a = length-keep (onTest ss) (entriesIn p (itemCount p) ++ (e ∷ [])) in
           let b = entries-length p (itemCount p) in
           let d = length-append (entriesIn p (itemCount p)) (e ∷ []) in
-          let f = leaf-in .few-items in
+          let f = leaf-in v p p-is .few-items in
           let h = g .count-is in
           omega arith
 
@@ -93,10 +91,10 @@ module _ (path m : List ℕ) (e : CellEntry) (ss : List ℕ) where
         leaf-top-room r =
             let f = leaf-few in
             let n : total (nodes (planeSpace fanout) 1) (halfUnder 0 path m e (sidesOf ss)) ≡ topParts ss count =
-            ap (total (nodes (planeSpace fanout) 1)) leaf-half ∙ leaf-nodes-under ss (polygonOn path 0) entriesOn ∙ ap (topParts ss) (sym (g .count-is)) in
+            ap (total (nodes (planeSpace fanout) 1)) leaf-half ∙ leaf-nodes-under ss (polygonOn path 0) (entriesOn p e ss) ∙ ap (topParts ss) (sym (g .count-is)) in
             let h = r .fits in
             record { fits = omega arith; small = r .small; few = simp length-take (omega arith); few-items = omega arith }
 
-        pub leaf-emits : (p : Polygon) (w₁ : List ℕ) (r : ℕ) → PolygonOf (polygonOn path 0) p → TopWritten (rectsOf p) ss count (take (3 * count) l) w next w₁ r
+        pub leaf-emits : (q : Polygon) (w₁ : List ℕ) (r : ℕ) → PolygonOf (polygonOn path 0) q → TopWritten (rectsOf q) ss count (take (3 * count) l) w next w₁ r
             → Emits 0 w next (halfUnder 0 path m e (sidesOf ss)) w₁ r
-        leaf-emits p w₁ r o x = rw leaf-half (top-leaf (polygonOn path 0) ss entriesOn l count w next w₁ r g (rw (o .list) at x))
+        leaf-emits q w₁ r o x = rw leaf-half (top-leaf (polygonOn path 0) ss (entriesOn p e ss) l count w next w₁ r g (rw (o .list) at x))

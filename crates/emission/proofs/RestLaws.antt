@@ -1,19 +1,16 @@
 -- The branches before and behind the place of the path, and the node on top of them: what their writing needs and leaves.
-use Prim.Native.Nat.{ℕ, suc, _+_, _-_, _≤_}
+use Prim.Native.Nat.{ℕ, _+_, _-_, _≤_}
 use mathlib.Core.Path.{_≡_}
 use mathlib.Core.List.{List}
 use native.Mathlib.Omega.{arith}
 use lib.ListN.{length, take, length-take}
 use Rattle.geometry.specs.declared.polygon.Polygon.{Polygon}
 use Rattle.geometry.specs.Numbers.{rectsOf, PolygonOf}
-use Rattle.tree.specs.Nodes.{Item}
-use Rattle.plane.specs.Plane.{planeSpace}
-use Rattle.index.specs.Answers.{fanout}
-use Rattle.index.specs.Walks.{countAt}
+use Rattle.memory.specs.Layout.{countAt}
 use Rattle.emission.specs.declared.tops.Tops.{Tops}
 use Rattle.emission.specs.Emits.{Room}
 use Rattle.emission.specs.Path.{partOn, placeOn, polygonOn}
-use Rattle.emission.specs.Rows.{PathStep, TopRoom, TopWritten, noTops, Grows, beforeOn, behindOn, RestWritten, RestRoom}
+use Rattle.emission.specs.Rows.{PathStep, TopRoom, TopWritten, noTops, Grows, rangeUnder, beforeOn, behindOn, RestWritten, RestRoom}
 use Rattle.emission.proofs.HalfLaws.{range-few}
 
 module _ (level : ℕ) (path m : List ℕ) (x : PathStep level path m) where
@@ -28,17 +25,20 @@ module _ (level : ℕ) (path m : List ℕ) (x : PathStep level path m) where
     pub before-done : (w₁ : List ℕ) (t₁ : Tops) → Grows (level - 1) w t (beforeOn level path m ss) w₁ t₁ → Grows (level - 1) w (noTops next) (beforeOn level path m ss) w₁ t₁
     before-done w₁ t₁ g = rw q at g
 
-  -- those behind it
-  module _ (t : Tops) (c : t .count ≤ placeOn path level + 2) where
-    pub behind-few : t .count + countAt m (partOn path level) ≤ 9 + (placeOn path level + 1)
+  -- those behind it, up to the last of all
+  module _ (to : ℕ) (to-is : to ≡ countAt m (partOn path level)) (t : Tops) (c : t .count ≤ placeOn path level + 2) where
+    pub behind-few : t .count + to ≤ 9 + (placeOn path level + 1)
     behind-few = let f = x .walk .few in omega arith
 
-    module _ (ss w : List ℕ) (w₁ : List ℕ) (all : Tops) (g : Grows (level - 1) w t (behindOn level path m ss) w₁ all) where
+    module _ (ss w : List ℕ) (w₁ : List ℕ) (all : Tops) (g : Grows (level - 1) w t (rangeUnder (level - 1) m (partOn path level) (placeOn path level + 1) to ss) w₁ all) where
+      behind : Grows (level - 1) w t (behindOn level path m ss) w₁ all
+      behind = rw to-is at g
+
       pub all-few : all .count ≤ 9
       all-few =
           let f = x .walk .few in
           let p = x .place in
-          let r = range-few (level - 1) m (partOn path level) (placeOn path level + 1) (countAt m (partOn path level)) ss in
+          let r = range-few (level - 1) m (partOn path level) (placeOn path level + 1) to ss in
           let d = g .count-is in
           omega arith
 
@@ -48,9 +48,9 @@ module _ (level : ℕ) (path m : List ℕ) (x : PathStep level path m) where
       pub rest-top-room : RestRoom (level - 1) ss (behindOn level path m ss) w t → TopRoom ss (all .count) (take (all .count) (all .parts)) w₁ (all .next)
       rest-top-room r =
           let a = all-few in
-          let d = g .count-is in
-          let e = g .emits .next-is in
-          let l = g .emits .same-length in
+          let d = behind .count-is in
+          let e = behind .emits .next-is in
+          let l = behind .emits .same-length in
           let f = r .fits in
           let s = r .small in
           record { fits = rw d (omega arith); small = omega arith; few = simp length-take (omega arith); few-items = omega arith }
@@ -58,7 +58,8 @@ module _ (level : ℕ) (path m : List ℕ) (x : PathStep level path m) where
       pub rest-written : (p : Polygon) (w₂ : List ℕ) (r : ℕ) → PolygonOf (polygonOn path level) p
           → TopWritten (rectsOf p) ss (all .count) (take (all .count) (all .parts)) w₁ (all .next) w₂ r
           → RestWritten (level - 1) (polygonOn path level) ss (behindOn level path m ss) w t w₂ r
-      rest-written p w₂ r o y = record { mid = w₁; all = all; branches = g; top = rw (o .list) at y }
+      rest-written p w₂ r o y = record { mid = w₁; all = all; branches = behind; top = rw (o .list) at y }
 
-pub behind-fits : (n : ℕ) (ss : List ℕ) (bs : List (Item (planeSpace fanout) (suc n))) (w : List ℕ) (t : Tops) → RestRoom n ss bs w t → Room n w (t .next) bs
-behind-fits n ss bs w t r = let f = r .fits in record { fits = omega arith; small = r .small }
+pub behind-fits : (level : ℕ) (path m ss w : List ℕ) (to : ℕ) (t : Tops) → to ≡ countAt m (partOn path level) → RestRoom (level - 1) ss (behindOn level path m ss) w t
+    → Room (level - 1) w (t .next) (rangeUnder (level - 1) m (partOn path level) (placeOn path level + 1) to ss)
+behind-fits level path m ss w to t q r = let f = r .fits in rw q (record { fits = omega arith; small = r .small })

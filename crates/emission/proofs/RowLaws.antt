@@ -14,13 +14,13 @@ use Rattle.tree.specs.Lists.{total}
 use Rattle.tree.specs.Nodes.{Item, nodes}
 use Rattle.tree.proofs.Counts.{total-append}
 use Rattle.plane.specs.Plane.{planeSpace}
-use Rattle.memory.specs.Layout.{part, itemCount, childrenIn}
+use Rattle.memory.specs.Layout.{part, itemCount, childrenIn, childAt, countAt}
 use Rattle.memory.specs.Image.{emitRow, emitNode}
 use Rattle.memory.specs.Reading.{readNode}
 use Rattle.memory.proofs.NodeImage.{length-node}
 use Rattle.memory.proofs.ReadingLaws.{lowAt, row-at, row-length, node-parts, node-lower, node-below, children-length}
-use Rattle.index.specs.Answers.{fanout}
-use Rattle.index.specs.Walks.{Walkable, childAt, countAt}
+use Rattle.memory.specs.Fanout.{fanout}
+use Rattle.index.specs.Walks.{Walkable}
 use Rattle.index.proofs.WalkParts.{part-at}
 use Rattle.index.proofs.WalkRows.{walkable}
 use Rattle.emission.specs.declared.tops.Tops.{Tops}
@@ -30,11 +30,11 @@ use Rattle.emission.specs.Rows.{topped, Grows, rangeUnder}
 use Rattle.emission.proofs.DeepRows.{deep-one}
 use Rattle.emission.proofs.EmitLaws.{partsFrom, topsFrom, row-tops-append, length-parts, emits-none, emits-more}
 
--- The i-th branch of the node at part k, as it reads from the first part on, and the branches from it on.
-pub record BranchAt (n : ℕ) (m : List ℕ) (k i : ℕ) : Type 0 where
+-- The i-th branch of the node at part k, which is at part j, as it reads from the first part on, and the branches from it on.
+pub record BranchAt (n : ℕ) (m : List ℕ) (k i j : ℕ) : Type 0 where
   pub branch : Item (planeSpace fanout) (suc n)
-  pub reads : readNode fanout n m 0 (childAt m k i) ≡ some branch
-  pub walk : Walkable n m 0 (childAt m k i)
+  pub reads : readNode fanout n m 0 j ≡ some branch
+  pub walk : Walkable n m 0 j
   pub next : drop i (rowAt n m k) ≡ branch ∷ drop (i + 1) (rowAt n m k)
 
 module _ (n : ℕ) (m : List ℕ) (k : ℕ) (v : Walkable (suc n) m 0 k) where
@@ -62,8 +62,8 @@ module _ (n : ℕ) (m : List ℕ) (k : ℕ) (v : Walkable (suc n) m 0 k) where
       getD-take (itemCount (part m k)) (drop 66 (part m k)) i 0 (omega arith) ∙ getD-drop 66 (part m k) i 0 ∙ part-at m k (66 + i) (omega arith)
       ∙ ap (λ j. getD m j 0) (let q : 64 + 128 * k + (66 + i) ≡ 64 + 128 * k + 66 + i = omega arith in q)
 
-  pub branch-at : (i : ℕ) → i < countAt m k → BranchAt n m k i
-  branch-at i h =
+  pub branch-at : (i j : ℕ) → i < countAt m k → j ≡ childAt m k i → BranchAt n m k i j
+  branch-at i j h q =
       let p = node-parts fanout n m 0 k (v .node) (v .reads) in
       let ks : List ℕ = childrenIn (part m k) in
       let d : Item (planeSpace fanout) (suc n) = record { poly = []; child = [] } in
@@ -71,20 +71,20 @@ module _ (n : ℕ) (m : List ℕ) (k : ℕ) (v : Walkable (suc n) m 0 k) where
       let s : i < length ks = rw children-count h in
       let l : i < length (v .node .child) = rw (← row-is, row-count) h in
       let low = node-lower fanout n m (lowAt 0 ks i) 0 (getD ks i 0) b (omega arith) (row-at (readNode fanout n m) 0 k ks i (v .node .child) d (p .row) s) in
-      let r : readNode fanout n m 0 (childAt m k i) ≡ some b = rw (child-is i h) at low in
+      let r : readNode fanout n m 0 j ≡ some b = rw (child-is i h, ← q) at low in
       record {
         branch = b;
         reads = r;
-        walk = walkable n m 0 (childAt m k i) b (v .right) (omega arith) r;
+        walk = walkable n m 0 j b (v .right) (omega arith) r;
         next = rw (row-is, add-one) (drop-cons (v .node .child) i d l);
       }
 
   module _ (ss : List ℕ) where
     -- a range of branches taken apart: its first and the others
-    pub range-cons : (i to : ℕ) → i < to → to ≤ countAt m k → rangeUnder n m k i to ss ≡ deepAt n m 0 (childAt m k i) ss ++ rangeUnder n m k (i + 1) to ss
+    pub range-cons : (i to j : ℕ) → i < to → to ≤ countAt m k → j ≡ childAt m k i → rangeUnder n m k i to ss ≡ deepAt n m 0 j ss ++ rangeUnder n m k (i + 1) to ss
     unfolding rangeUnder deepAt deepOf flatMap
-    range-cons i to h l =
-        let b = branch-at i (omega arith) in
+    range-cons i to j h l q =
+        let b = branch-at i j (omega arith) q in
         let e : to - i ≡ suc (to - (i + 1)) = omega arith in
         rw (e, b .next, b .reads)
 
@@ -205,28 +205,28 @@ module _ (n : ℕ) (m : List ℕ) (k from to : ℕ) (ss w₀ : List ℕ) (t₀ :
         let q : x .bs ++ [] ≡ rangeUnder n m k from to ss = ap (λ l. x .bs ++ l) (sym (range-none n m k to ss)) ∙ (rw e at (x .whole)) in
         rw (← q, append-nil (x .bs)) (x .grows)
 
-    module _ (h : i < to) where
+    module _ (h : i < to) (j : ℕ) (j-is : j ≡ childAt m k i) where
       abbrev first : List (Item (planeSpace fanout) (suc n))
-      first = deepAt n m 0 (childAt m k i) ss
+      first = deepAt n m 0 j ss
 
       abbrev others : List (Item (planeSpace fanout) (suc n))
       others = rangeUnder n m k (i + 1) to ss
 
       apart : rangeUnder n m k i to ss ≡ first ++ others
-      apart = range-cons n m k (x .walk) ss i to h (x .to-le)
+      apart = range-cons n m k (x .walk) ss i to j h (x .to-le) j-is
 
-      pub branch-walk : Walkable n m 0 (childAt m k i)
-      branch-walk = branch-at n m k (x .walk) i (let l = x .to-le in omega arith) .walk
+      pub branch-walk : Walkable n m 0 j
+      branch-walk = branch-at n m k (x .walk) i j (let l = x .to-le in omega arith) j-is .walk
 
-      pub branch-room : Room n w (t .next) (deepAt n m 0 (childAt m k i) ss)
+      pub branch-room : Room n w (t .next) (deepAt n m 0 j ss)
       branch-room = room-first n w (t .next) first others (rw apart at (x .room))
 
-      pub branch-again : (w₁ : List ℕ) (after : ℕ) (t₁ : Tops) → Emits n w (t .next) (deepAt n m 0 (childAt m k i) ss) w₁ after → t₁ ≡ topped t after
+      pub branch-again : (w₁ : List ℕ) (after : ℕ) (t₁ : Tops) → Emits n w (t .next) (deepAt n m 0 j ss) w₁ after → t₁ ≡ topped t after
           → BranchLoop n m k from to ss w₀ t₀ (i + 1) w₁ t₁
       branch-again w₁ after t₁ e q =
           let f = x .few in
           let l = x .long in
-          let o = deep-one n m 0 (childAt m k i) ss in
+          let o = deep-one n m 0 j ss in
           let g : Grows n w t first w₁ t₁ = rw q (grows-one n w t w₁ after (omega arith) first o e) in
           let c = g .count-is in
           record {

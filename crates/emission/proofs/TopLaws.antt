@@ -16,12 +16,12 @@ use Rattle.tree.specs.Plan.{clips, branchUnder}
 use Rattle.plane.specs.Lines.{CellEntry}
 use Rattle.plane.specs.Plane.{planeSpace}
 use Rattle.memory.specs.Image.{nodePart, entryNumbers, emitRow}
-use Rattle.index.specs.Answers.{fanout}
+use Rattle.memory.specs.Fanout.{fanout}
+use Rattle.layout.specs.Parts.{PartPut, PartRoom}
 use Rattle.sides.specs.Sides.{sidesOf}
 use Rattle.emission.specs.declared.tops.Tops.{Tops}
 use Rattle.emission.specs.Emits.{Emits}
 use Rattle.emission.specs.Leaves.{Gathered}
-use Rattle.emission.specs.Parts.{PartPut, PartRoom}
 use Rattle.emission.specs.Rows.{kept, topParts, topNumbers, TopWritten, TopRoom, noTops, Grows, RestWritten}
 use Rattle.emission.proofs.CountLaws.{leaf-nodes}
 use Rattle.emission.proofs.EmitLaws.{topsFrom, emits-leaf, emits-node}

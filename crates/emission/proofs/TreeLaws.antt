@@ -16,7 +16,7 @@ use Rattle.plane.specs.Lines.{CellEntry}
 use Rattle.plane.specs.Plane.{planeSpace}
 use Rattle.plane.specs.Candidates.{rankLine}
 use Rattle.memory.specs.Image.{emitRow, emitNode}
-use Rattle.index.specs.Answers.{fanout}
+use Rattle.memory.specs.Fanout.{fanout}
 use Rattle.sides.specs.Sides.{sideOf, sidesOf}
 use Rattle.emission.specs.declared.tops.Tops.{Tops}
 use Rattle.emission.specs.declared.whole.Emitted.{Emitted}

@@ -1,6 +1,6 @@
 -- Writing nodes into a work area, append-only: a part for each node, children before their node, in the form of the memory's image.
-use Prim.Native.Nat.{ℕ, zero, suc, _+_, _*_, _≤_, min}
-use mathlib.Core.List.{List, [], _∷_, _++_, flatMap}
+use Prim.Native.Nat.{ℕ, suc, _+_, _*_, _≤_, min}
+use mathlib.Core.List.{List, [], _++_, flatMap}
 use mathlib.Core.Option.{Option, none, some}
 use mathlib.Core.Path.{_≡_}
 use lib.ListN.{length, take}
@@ -10,7 +10,7 @@ use Rattle.tree.specs.Pass.{deep}
 use Rattle.plane.specs.Plane.{planeSpace}
 use Rattle.memory.specs.Image.{emitRow, emitNode}
 use Rattle.memory.specs.Reading.{readNode}
-use Rattle.index.specs.Answers.{fanout}
+use Rattle.memory.specs.Fanout.{fanout}
 use Rattle.sides.specs.Sides.{sidesOf}
 
 -- The nodes of some branches were written to w from part next on, which gives w'; next' is the next free part.

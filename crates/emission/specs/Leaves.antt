@@ -10,7 +10,7 @@ use Rattle.plane.specs.Lines.{CellEntry}
 use Rattle.plane.specs.Plane.{planeSpace}
 use Rattle.memory.specs.Layout.{polygonIn}
 use Rattle.memory.specs.Image.{entryNumbers}
-use Rattle.index.specs.Answers.{fanout}
+use Rattle.memory.specs.Fanout.{fanout}
 use Rattle.index.specs.Walks.{leafEntries}
 use Rattle.sides.specs.Sides.{sidesOf, onEvery}
 

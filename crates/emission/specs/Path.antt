@@ -3,10 +3,9 @@
 -- branches, number 2 the line that splits the node (0 where it is not split), number 3 the count of its polygon's rectangles, as grown in
 -- this insertion, and from number 4 on stand the rectangles.
 use Prim.Native.Nat.{ℕ, zero, suc, _+_, _*_, _≤_, _<_}
-use mathlib.Core.Bool.{Bool, cond}
+use mathlib.Core.Bool.{cond}
 use mathlib.Core.List.{List, [], _∷_, _++_, flatMap}
 use mathlib.Core.Option.{Option, none, some}
-use mathlib.Core.Path.{_≡_}
 use lib.Dec.{eqb}
 use lib.ListN.{length, take, drop, getD}
 use Rattle.geometry.specs.declared.rect.Rect.{Rect}
@@ -20,11 +19,10 @@ use Rattle.geometry.specs.declared.rect.Line.{Line}
 use Rattle.plane.specs.Lines.{CellEntry}
 use Rattle.plane.specs.Plane.{planeSpace}
 use Rattle.plane.specs.Candidates.{rankLine}
-use Rattle.memory.specs.Layout.{part, itemCount, entriesIn, childrenIn}
+use Rattle.memory.specs.Layout.{part, itemCount, entriesIn, childrenIn, countAt}
 use Rattle.memory.specs.Reading.{readRow, readNode}
-use Rattle.index.specs.Answers.{fanout}
-use Rattle.index.specs.Walks.{Walkable, countAt}
-use Rattle.sides.specs.Sides.{sidesOf}
+use Rattle.memory.specs.Fanout.{fanout}
+use Rattle.index.specs.Walks.{Walkable}
 
 -- the numbers of a level of the path
 abbrev pub partOn : List ℕ → ℕ → ℕ

@@ -3,11 +3,11 @@ use Prim.Native.Nat.{ℕ, suc, _+_, _*_, _≤_}
 use mathlib.Core.List.{List, _++_, flatMap}
 use mathlib.Core.Option.{some}
 use mathlib.Core.Path.{_≡_}
-use lib.ListN.{length, take, drop}
+use lib.ListN.{length, take}
 use Rattle.tree.specs.Tree.{Tree, top, nodeCount}
 use Rattle.plane.specs.Plane.{planeSpace}
 use Rattle.memory.specs.Image.{emitNode}
-use Rattle.index.specs.Answers.{fanout}
+use Rattle.memory.specs.Fanout.{fanout}
 use Rattle.emission.specs.declared.whole.Emitted.{Emitted}
 
 -- The nodes of a tree fit into the work area.

@@ -2,18 +2,17 @@
 ghost use Prim.Native.Nat.{_≤_};
 ghost use mathlib.Core.List.{[]};
 ghost use lib.ListN.{length};
-ghost use Rattle.index.specs.Check.{NodePart};
+ghost use Rattle.memory.specs.Layout.{NodePart};
 ghost use Rattle.index.specs.Walks.{Walkable};
 ghost use Rattle.emission.specs.Emits.{Emits, Room, deepAt};
 ghost use Rattle.emission.specs.Leaves.{leafUnder};
-use crate::copies::copy_node;
-use crate::copies::copy_part;
 use crate::leaf::gather;
 use crate::node::put_left;
-use memory::HEAD;
-use memory::ITEM_COUNT;
-use memory::ITEMS;
-use memory::PART;
+use layout::child_at;
+use layout::copy_node;
+use layout::copy_part;
+use layout::count_at;
+use layout::part_at;
 
 // Copies the subtree at part k, whose parts are those from lo on, into the parts of the work area from next on; answers the next free part.
 // Only the numbers of a node's children change: they are the parts that the children were copied to.
@@ -21,25 +20,23 @@ pub fn copy_below(m: &[u32], level: u32, lo: u32, k: u32, work: &mut [u32], next
     requires { ⌜ Walkable level (now m) lo k × Room level (now work) next (deepAt level (now m) lo k []) ⌝ }
     ensures { λ r. ⌜ Emits level (now (work .entry)) next (deepAt level (now (m .entry)) lo k []) (now (work .exit)) r ⌝ }
 {
-    let a = HEAD + PART * (k as usize);
-    let e = a + PART;
     if level == 0 {
-        copy_part(&m[a..e], work, next);
+        copy_part(part_at(m, k), work, next);
         return next + 1;
     }
-    let n = m[a + ITEM_COUNT] as usize;
+    let n = count_at(m, k) as usize;
     let mut tops = [0u32; 8];
     let mut free = next;
     let mut low = lo;
     let mut i = 0;
     while i < n {
-        let j = m[a + ITEMS + i];
+        let j = child_at(m, k, i);
         free = copy_below(m, level - 1, low, j, work, free);
         tops[i] = free - 1;
         low = j + 1;
         i += 1;
     }
-    copy_node(&m[a..e], &tops[..n], work, free);
+    copy_node(part_at(m, k), &tops[..n], work, free);
     free + 1
 }
 
@@ -74,19 +71,17 @@ pub fn emit_below(
     if sides.len() == 0 {
         return copy_below(m, level, lo, k, work, next);
     }
-    let a = HEAD + PART * (k as usize);
-    let e = a + PART;
     if level == 0 {
-        return emit_leaf(&m[a..e], sides, work, next);
+        return emit_leaf(part_at(m, k), sides, work, next);
     }
-    let n = m[a + ITEM_COUNT] as usize;
+    let n = count_at(m, k) as usize;
     let mut tops = [0u32; 8];
     let mut count = 0;
     let mut free = next;
     let mut low = lo;
     let mut i = 0;
     while i < n {
-        let j = m[a + ITEMS + i];
+        let j = child_at(m, k, i);
         let after = emit_below(m, level - 1, low, j, sides, work, free);
         if after != free {
             tops[count] = after - 1;
@@ -99,6 +94,7 @@ pub fn emit_below(
     if count == 0 {
         return free;
     }
-    put_left(&m[a..e], sides, count as u32, &tops[..count], work, free);
+    let p = part_at(m, k);
+    put_left(p, sides, count as u32, &tops[..count], work, free);
     free + 1
 }

@@ -1,15 +1,14 @@
 // How many nodes are left of the branches beside the path, counted up to 257.
 ghost use mathlib.Core.Path.{_≡_};
 ghost use Prim.Native.Nat.{suc, _+_, _-_, _≤_, min};
-ghost use Rattle.index.specs.Walks.{Walkable, countAt};
+ghost use Rattle.memory.specs.Layout.{countAt};
+ghost use Rattle.index.specs.Walks.{Walkable};
 ghost use Rattle.emission.specs.Emits.{counted, countLimit};
 ghost use Rattle.emission.specs.Rows.{PathStep, rangeUnder, beforeOn, behindOn};
 use crate::capped::capped_sum;
 use crate::counting::count_below;
-use memory::HEAD;
-use memory::ITEM_COUNT;
-use memory::ITEMS;
-use memory::PART;
+use layout::child_at;
+use layout::count_at;
 
 // How many nodes are left of the branches of the node at part k, from one place up to another, with those counted before; level is that of
 // the branches.
@@ -25,11 +24,10 @@ fn count_branches(
     requires { ⌜ Walkable (suc level) (now m) 0 k × (from ≤ to) × (to ≤ countAt (now m) k) × (start ≤ countLimit) ⌝ }
     ensures { λ r. ⌜ r ≡ min countLimit (start + counted level (rangeUnder level (now (m .entry)) k from to (now (sides .entry)))) ⌝ }
 {
-    let a = HEAD + PART * (k as usize);
     let mut nodes = start;
     let mut i = from;
     while i < to {
-        let j = m[a + ITEMS + i];
+        let j = child_at(m, k, i);
         let below = count_below(m, level, 0, j, sides);
         nodes = capped_sum(nodes, below);
         i += 1;
@@ -45,8 +43,7 @@ pub fn count_beside(m: &[u32], path: &[u32], level: u32, sides: &[u32]) -> u32
     let at = 68 * (level as usize);
     let k = path[at];
     let place = path[at + 1] as usize;
-    let a = HEAD + PART * (k as usize);
-    let to = m[a + ITEM_COUNT] as usize;
+    let to = count_at(m, k) as usize;
     let before = count_branches(m, level - 1, k, 0, place, sides, 0);
     count_branches(m, level - 1, k, place + 1, to, sides, before)
 }

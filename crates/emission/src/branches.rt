@@ -1,13 +1,12 @@
 // Branches off the path, written one after another.
 ghost use Prim.Native.Nat.{suc, _+_, _≤_};
-ghost use Rattle.index.specs.Walks.{Walkable, countAt};
+ghost use Rattle.memory.specs.Layout.{countAt};
+ghost use Rattle.index.specs.Walks.{Walkable};
 ghost use Rattle.emission.specs.Emits.{Room};
 ghost use Rattle.emission.specs.Rows.{Grows, rangeUnder};
 use crate::below::emit_below;
 use crate::tops::Tops;
-use memory::HEAD;
-use memory::ITEMS;
-use memory::PART;
+use layout::child_at;
 
 // Writes what is left under the sides of the branches of the node at part k, from one place up to another; level is that of the branches.
 pub fn emit_branches(
@@ -23,11 +22,10 @@ pub fn emit_branches(
     requires { ⌜ Walkable (suc level) (now m) 0 k × (from ≤ to) × (to ≤ countAt (now m) k) × (tops .count + to ≤ 9 + from) × Room level (now work) (tops .next) (rangeUnder level (now m) k from to (now sides)) ⌝ }
     ensures { λ r. ⌜ Grows level (now (work .entry)) tops (rangeUnder level (now (m .entry)) k from to (now (sides .entry))) (now (work .exit)) r ⌝ }
 {
-    let a = HEAD + PART * (k as usize);
     let mut out = tops;
     let mut i = from;
     while i < to {
-        let j = m[a + ITEMS + i];
+        let j = child_at(m, k, i);
         let next = out.next;
         let after = emit_below(m, level, 0, j, sides, work, next);
         out = out.with_top(after);

@@ -3,7 +3,7 @@ ghost use Prim.Native.Nat.{_≤_};
 ghost use Rattle.geometry.specs.Numbers.{rectsOf, PolygonOf};
 ghost use Rattle.tree.specs.Plan.{clips};
 ghost use Rattle.plane.specs.Plane.{planeSpace};
-ghost use Rattle.index.specs.Answers.{fanout};
+ghost use Rattle.memory.specs.Fanout.{fanout};
 ghost use Rattle.sides.specs.Sides.{sidesOf};
 use geometry::Polygon;
 use sides::side_of;

@@ -5,7 +5,7 @@ ghost use Prim.Native.Nat.{_+_, _≤_, min};
 ghost use lib.ListN.{length};
 ghost use Rattle.tree.specs.Tree.{nodeCount};
 ghost use Rattle.plane.specs.Plane.{planeSpace};
-ghost use Rattle.index.specs.Answers.{fanout};
+ghost use Rattle.memory.specs.Fanout.{fanout};
 ghost use Rattle.index.specs.Changes.{entryOf};
 ghost use Rattle.sides.specs.Sides.{sidesOf};
 ghost use Rattle.emission.specs.Emits.{counted, countLimit};
@@ -17,8 +17,7 @@ use crate::front::put_in_front;
 use crate::path_leaf::gather_with;
 use crate::top::is_kept;
 use geometry::Cell;
-use memory::HEAD;
-use memory::PART;
+use layout::part_at;
 use sides::left_side;
 use sides::right_side;
 
@@ -38,10 +37,8 @@ fn count_path_leaf(m: &[u32], path: &[u32], sides: &[u32], c: Cell, tag: u32) ->
     requires { ⌜ PathNode 0 (now path) (now m) ⌝ }
     ensures { λ r. ⌜ r ≡ counted 0 (halfUnder 0 (now (path .entry)) (now (m .entry)) (entryOf c tag) (sidesOf (now (sides .entry)))) ⌝ }
 {
-    let a = HEAD + PART * (path[0] as usize);
-    let e = a + PART;
     let mut items = [0u32; 27];
-    let n = gather_with(&m[a..e], sides, c, tag, &mut items);
+    let n = gather_with(part_at(m, path[0]), sides, c, tag, &mut items);
     if is_kept(sides, n) {
         return 1;
     }

@@ -1,16 +1,15 @@
 // How many nodes the tree after has, counted up to 257: no memory has more than 256.
 ghost use mathlib.Core.Path.{_≡_};
 ghost use Prim.Native.Nat.{_+_, _*_};
-ghost use Rattle.index.specs.Check.{NodePart};
+ghost use Rattle.memory.specs.Layout.{NodePart};
 ghost use Rattle.index.specs.Walks.{Walkable};
 ghost use Rattle.emission.specs.Emits.{counted, deepAt};
 ghost use Rattle.emission.specs.Leaves.{leafUnder};
 use crate::capped::capped_sum;
 use crate::leaf::any_left;
-use memory::HEAD;
-use memory::ITEM_COUNT;
-use memory::ITEMS;
-use memory::PART;
+use layout::child_at;
+use layout::count_at;
+use layout::part_at;
 
 // How many nodes are left of a leaf under the sides: one, or none where it is dropped.
 fn count_leaf(p: &[u32], sides: &[u32]) -> u32
@@ -31,17 +30,15 @@ pub fn count_below(m: &[u32], level: u32, lo: u32, k: u32, sides: &[u32]) -> u32
     requires { ⌜ Walkable level (now m) lo k ⌝ }
     ensures { λ r. ⌜ r ≡ counted level (deepAt level (now (m .entry)) lo k (now (sides .entry))) ⌝ }
 {
-    let a = HEAD + PART * (k as usize);
-    let e = a + PART;
     if level == 0 {
-        return count_leaf(&m[a..e], sides);
+        return count_leaf(part_at(m, k), sides);
     }
-    let n = m[a + ITEM_COUNT] as usize;
+    let n = count_at(m, k) as usize;
     let mut nodes: u32 = 0;
     let mut low = lo;
     let mut i = 0;
     while i < n {
-        let j = m[a + ITEMS + i];
+        let j = child_at(m, k, i);
         let below = count_below(m, level - 1, low, j, sides);
         nodes = capped_sum(nodes, below);
         low = j + 1;

@@ -13,9 +13,7 @@ use crate::path_leaf::emit_leaf;
 use crate::top::emit_top;
 use crate::tops::Tops;
 use geometry::Cell;
-use memory::HEAD;
-use memory::ITEM_COUNT;
-use memory::PART;
+use layout::count_at;
 use sides::left_side;
 use sides::right_side;
 
@@ -53,8 +51,7 @@ fn emit_rest(
     let at = 68 * (level as usize);
     let k = path[at];
     let from = (path[at + 1] as usize) + 1;
-    let a = HEAD + PART * (k as usize);
-    let to = m[a + ITEM_COUNT] as usize;
+    let to = count_at(m, k) as usize;
     let all = emit_branches(m, level - 1, k, from, to, sides, work, tops);
     let p = path_polygon(path, level as usize);
     let n = all.count;

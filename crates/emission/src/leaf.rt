@@ -3,14 +3,13 @@ ghost use mathlib.Core.Path.{_≡_};
 ghost use Prim.Native.Nat.{_+_, _*_, _≤_, _<_};
 ghost use lib.ListN.{length};
 ghost use Rattle.tree.specs.Lists.{notEmpty};
-ghost use Rattle.memory.specs.Layout.{entryIn};
-ghost use Rattle.index.specs.Check.{NodePart};
+ghost use Rattle.memory.specs.Layout.{entryIn, NodePart};
 ghost use Rattle.index.specs.Changes.{entryOf};
 ghost use Rattle.emission.specs.Leaves.{onTest, leafLeft, EntryPut, LeafGathered};
 use geometry::Cell;
-use memory::ENTRY;
-use memory::ITEM_COUNT;
-use memory::ITEMS;
+use layout::entry_cell;
+use layout::entry_tag;
+use layout::item_count;
 use sides::on_all;
 
 // Whether the i-th entry of a leaf's part is on every side.
@@ -18,12 +17,7 @@ fn is_left(p: &[u32], i: usize, sides: &[u32]) -> bool
     requires { ⌜ (length (now p) ≡ 128) × (i < 8) ⌝ }
     ensures { λ b. ⌜ b ≡ onTest (now (sides .entry)) (entryIn (now (p .entry)) i) ⌝ }
 {
-    let at = ITEMS + ENTRY * i;
-    let c = Cell {
-        x: p[at],
-        y: p[at + 1],
-    };
-    on_all(sides, c)
+    on_all(sides, entry_cell(p, i))
 }
 
 // Whether an entry of a leaf's part is on every side.
@@ -31,7 +25,7 @@ pub fn any_left(p: &[u32], sides: &[u32]) -> bool
     requires { ⌜ NodePart (now p) ⌝ }
     ensures { λ b. ⌜ b ≡ notEmpty (leafLeft (now (sides .entry)) (now (p .entry))) ⌝ }
 {
-    let n = p[ITEM_COUNT] as usize;
+    let n = item_count(p) as usize;
     let mut i = 0;
     while i < n {
         if is_left(p, i, sides) {
@@ -58,13 +52,7 @@ fn copy_entry(p: &[u32], i: usize, list: &mut [u32], at: usize)
     requires { ⌜ (length (now p) ≡ 128) × (i < 8) × (3 * (at + 1) ≤ length (now list)) ⌝ }
     ensures { λ _. ⌜ EntryPut (now (list .entry)) at (entryIn (now (p .entry)) i) (now (list .exit)) ⌝ }
 {
-    let from = ITEMS + ENTRY * i;
-    let c = Cell {
-        x: p[from],
-        y: p[from + 1],
-    };
-    let tag = p[from + 2];
-    put_entry(list, at, c, tag);
+    put_entry(list, at, entry_cell(p, i), entry_tag(p, i));
 }
 
 // Writes the entries of a leaf's part that are on every side to the start of the list; answers how many they are.
@@ -72,7 +60,7 @@ pub fn gather(p: &[u32], sides: &[u32], list: &mut [u32]) -> usize
     requires { ⌜ NodePart (now p) × (24 ≤ length (now list)) ⌝ }
     ensures { λ r. ⌜ LeafGathered (now (sides .entry)) (now (p .entry)) (now (list .exit)) r ⌝ }
 {
-    let n = p[ITEM_COUNT] as usize;
+    let n = item_count(p) as usize;
     let mut count = 0;
     let mut i = 0;
     while i < n {

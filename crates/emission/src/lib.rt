@@ -4,7 +4,6 @@ mod beside;
 mod branches;
 mod capped;
 mod clipping;
-mod copies;
 mod count_path;
 mod counting;
 mod front;
@@ -18,7 +17,6 @@ mod tops;
 mod whole;
 
 pub use count_path::count_tree;
-pub use node::put_node;
 pub use path::path_polygon;
 pub use whole::Emitted;
 pub use whole::emit_tree;

@@ -1,51 +1,14 @@
-// A node written to its part.
-ghost use mathlib.Core.Path.{_≡_};
+// What is left of a node under sides, written to its part.
 ghost use Prim.Native.Nat.{_≤_};
 ghost use lib.ListN.{length};
-ghost use Rattle.geometry.specs.Numbers.{rectsOf};
-ghost use Rattle.memory.specs.Image.{nodePart};
-ghost use Rattle.index.specs.Check.{NodePart};
-ghost use Rattle.emission.specs.Parts.{RectsStored, PartRoom, PartPut, leftPart};
+ghost use Rattle.memory.specs.Layout.{NodePart};
+ghost use Rattle.layout.specs.Parts.{PartRoom, PartPut};
+ghost use Rattle.emission.specs.Parts.{leftPart};
 use crate::clipping::clipped;
 use geometry::Polygon;
-use geometry::copy;
-use index::fill_zeros;
-use memory::HEAD;
-use memory::ITEM_COUNT;
-use memory::ITEMS;
-use memory::PART;
-use memory::RECTS;
-
-// Writes the rectangles of a polygon, and zeros behind them.
-fn store_rects(list: &mut [u32], p: Polygon)
-    requires { ⌜ (length (now list) ≡ 126) × (p .count ≤ 16) ⌝ }
-    ensures { λ _. ⌜ RectsStored p (now (list .exit)) ⌝ }
-{
-    let end = 4 * p.count;
-    p.store(list);
-    fill_zeros(&mut list[end..]);
-}
-
-// Writes a node's part: its polygon, the count of its items and their numbers; every other number is zero.
-pub fn store_node(part: &mut [u32], p: Polygon, count: u32, items: &[u32])
-    requires { ⌜ (length (now part) ≡ 128) × (p .count ≤ 16) × (length (now items) ≤ 62) ⌝ }
-    ensures { λ _. ⌜ now (part .exit) ≡ nodePart (rectsOf p) count (now (items .entry)) ⌝ }
-{
-    store_rects(&mut part[RECTS..], p);
-    copy(items, items.len(), &mut part[ITEMS..]);
-    part[0] = p.count as u32;
-    part[ITEM_COUNT] = count;
-}
-
-// Writes a node to the part next of the work area.
-pub fn put_node(work: &mut [u32], next: u32, p: Polygon, count: u32, items: &[u32])
-    requires { ⌜ PartRoom (now work) next × (p .count ≤ 16) × (length (now items) ≤ 62) ⌝ }
-    ensures { λ _. ⌜ PartPut (now (work .entry)) next (nodePart (rectsOf p) count (now (items .entry))) (now (work .exit)) ⌝ }
-{
-    let a = HEAD + PART * (next as usize);
-    let e = a + PART;
-    store_node(&mut work[a..e], p, count, items);
-}
+use layout::put_node;
+use layout::rect_count;
+use layout::rects;
 
 // Writes what is left of a part's node under the sides to the part next of the work area: its polygon clipped, and the numbers of the items
 // that are left.
@@ -53,8 +16,7 @@ pub fn put_left(p: &[u32], sides: &[u32], count: u32, items: &[u32], work: &mut 
     requires { ⌜ NodePart (now p) × (length (now items) ≤ 62) × PartRoom (now work) next ⌝ }
     ensures { λ _. ⌜ PartPut (now (work .entry)) next (leftPart (now (sides .entry)) (now (p .entry)) count (now (items .entry))) (now (work .exit)) ⌝ }
 {
-    let n = p[0] as usize;
-    let whole = Polygon::load(&p[RECTS..], n);
+    let whole = Polygon::load(rects(p), rect_count(p) as usize);
     let left = clipped(whole, sides);
     put_node(work, next, left, count, items);
 }

@@ -3,8 +3,7 @@ ghost use mathlib.Core.Path.{_≡_};
 ghost use mathlib.Core.List.{[], _∷_, _++_};
 ghost use lib.ListN.{length};
 ghost use Rattle.tree.specs.Lists.{keep};
-ghost use Rattle.memory.specs.Layout.{entriesIn, itemCount};
-ghost use Rattle.index.specs.Check.{NodePart};
+ghost use Rattle.memory.specs.Layout.{entriesIn, itemCount, NodePart};
 ghost use Rattle.index.specs.Changes.{entryOf};
 ghost use Rattle.sides.specs.Sides.{sidesOf};
 ghost use Rattle.emission.specs.Emits.{Emits, Room};
@@ -15,8 +14,7 @@ use crate::leaf::put_entry;
 use crate::path::path_polygon;
 use crate::top::emit_top;
 use geometry::Cell;
-use memory::HEAD;
-use memory::PART;
+use layout::part_at;
 use sides::on_all;
 
 // Gathers the entries of a leaf's part and a new one behind them, those on every side; answers how many they are.
@@ -45,10 +43,8 @@ pub fn emit_leaf(
     requires { ⌜ PathNode 0 (now path) (now m) × Room 0 (now work) next (halfUnder 0 (now path) (now m) (entryOf c tag) (sidesOf (now sides))) ⌝ }
     ensures { λ r. ⌜ Emits 0 (now (work .entry)) next (halfUnder 0 (now (path .entry)) (now (m .entry)) (entryOf c tag) (sidesOf (now (sides .entry)))) (now (work .exit)) r ⌝ }
 {
-    let a = HEAD + PART * (path[0] as usize);
-    let e = a + PART;
     let mut items = [0u32; 27];
-    let n = gather_with(&m[a..e], sides, c, tag, &mut items);
+    let n = gather_with(part_at(m, path[0]), sides, c, tag, &mut items);
     let p = path_polygon(path, 0);
     emit_top(p, sides, n, &items[..3 * n], work, next)
 }

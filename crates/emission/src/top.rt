@@ -4,8 +4,8 @@ ghost use Prim.Native.Nat.{_≤_};
 ghost use Rattle.geometry.specs.Numbers.{rectsOf};
 ghost use Rattle.emission.specs.Rows.{kept, TopWritten, TopRoom};
 use crate::clipping::clipped;
-use crate::node::put_node;
 use geometry::Polygon;
+use layout::put_node;
 
 // Whether a node with so many items under the sides is written: without items it is dropped, unless there are no sides.
 pub fn is_kept(sides: &[u32], count: usize) -> bool

@@ -21,7 +21,8 @@ use Rattle.plane.specs.Windows.{planeWindow}
 use Rattle.memory.specs.Layout.{partsOf, rightLength}
 use Rattle.memory.specs.Reading.{reading}
 use Rattle.memory.proofs.ReadingLaws.{parts-are, right-length}
-use Rattle.index.specs.Answers.{fanout, PlaneIndex, insertEnd, insertRead, insertAnswer, removeEnd, removeRead, removeAnswer, clearAnswer, pointEnd, pointRead, pointAnswer, matchesIn, windowRead, windowAnswer}
+use Rattle.memory.specs.Fanout.{fanout}
+use Rattle.index.specs.Answers.{PlaneIndex, insertEnd, insertRead, insertAnswer, removeEnd, removeRead, removeAnswer, clearAnswer, pointEnd, pointRead, pointAnswer, matchesIn, windowRead, windowAnswer}
 use Rattle.index.specs.Numbers.{accepts, insertTold, removeTold, clearTold, pointTold, windowTold}
 use Rattle.index.specs.declared.answer.Inserted.the-variants as I
 use Rattle.index.specs.declared.answer.Removed.the-variants as R

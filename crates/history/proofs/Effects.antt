@@ -19,7 +19,8 @@ use Rattle.plane.specs.Windows.{planeWindow}
 use Rattle.memory.specs.Reading.{reading}
 use Rattle.memory.specs.Image.{entryNumbers}
 use Rattle.memory.proofs.ReadingLaws.{right-length, zeros-zero, zeros-read}
-use Rattle.index.specs.Answers.{fanout, PlaneIndex, insertEnd, insertAnswer, removeEnd, removeAnswer, cleared, matchesIn, windowRead, windowAnswer, windowWritten, windowList}
+use Rattle.memory.specs.Fanout.{fanout}
+use Rattle.index.specs.Answers.{PlaneIndex, insertEnd, insertAnswer, removeEnd, removeAnswer, cleared, matchesIn, windowRead, windowAnswer, windowWritten, windowList}
 use Rattle.index.specs.Changes.{insertedIndex, InsertMemory, workAfter, removedIndex, RemoveMemory}
 use Rattle.index.specs.Numbers.{insertTold, removeTold, windowTold}
 use Rattle.index.specs.declared.answer.Inserted.{Inserted}

@@ -16,7 +16,8 @@ use Rattle.plane.proofs.Rects.{plane-space-laws}
 use Rattle.plane.proofs.Roots.{plane-root-laws}
 use Rattle.plane.proofs.Steps.{plane-steps}
 use Rattle.memory.proofs.ReadingLaws.{fresh}
-use Rattle.index.specs.Answers.{fanout, PlaneIndex}
+use Rattle.memory.specs.Fanout.{fanout}
+use Rattle.index.specs.Answers.{PlaneIndex}
 use Rattle.history.specs.Calls.{IndexCall, Made, accepted, fed, freshMemory, Linked, recordFrom}
 use Rattle.history.specs.Contract.{KeptBy, Kept}
 use Rattle.history.specs.Defined.{indexAfter, AsDefined}

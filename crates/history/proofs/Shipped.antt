@@ -14,7 +14,8 @@ use Rattle.geometry.specs.Cells.{onGrid}
 use Rattle.tree.specs.Lists.{All}
 use Rattle.tree.specs.Calls.{insertCall, removeCall, clearCall, pointCall, windowCall}
 use Rattle.memory.specs.Reading.{reading}
-use Rattle.index.specs.Answers.{fanout, PlaneIndex}
+use Rattle.memory.specs.Fanout.{fanout}
+use Rattle.index.specs.Answers.{PlaneIndex}
 use Rattle.index.specs.Changes.{entryOf}
 use Rattle.index.specs.declared.answer.PointFound.{PointFound}
 use Rattle.index.specs.Numbers.{insertTold, removeTold, clearTold, pointTold, windowTold}

@@ -25,7 +25,8 @@ use Rattle.plane.specs.Windows.{planeWindow}
 use Rattle.plane.proofs.Rects.{plane-space-laws}
 use Rattle.plane.proofs.Roots.{plane-root-laws}
 use Rattle.plane.proofs.Steps.{plane-steps}
-use Rattle.index.specs.Answers.{fanout, PlaneIndex}
+use Rattle.memory.specs.Fanout.{fanout}
+use Rattle.index.specs.Answers.{PlaneIndex}
 use Rattle.index.specs.Numbers.{Told, refusal}
 use Rattle.history.specs.Calls.{IndexCall, accepted, isChange, fed}
 use Rattle.history.specs.Defined.{early, toldOf, treeAnswer, treeAfter, toldOn, indexAfter}

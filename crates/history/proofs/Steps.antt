@@ -10,7 +10,8 @@ use Rattle.geometry.specs.declared.rect.Rect.{Rect}
 use Rattle.plane.specs.Lines.{CellEntry}
 use Rattle.memory.specs.Reading.{reading}
 use Rattle.tree.specs.Calls.{insertCall, removeCall, clearCall, pointCall, windowCall, answer, after}
-use Rattle.index.specs.Answers.{fanout, PlaneIndex}
+use Rattle.memory.specs.Fanout.{fanout}
+use Rattle.index.specs.Answers.{PlaneIndex}
 use Rattle.index.specs.Changes.{InsertMemory, RemoveMemory}
 use Rattle.index.specs.Numbers.{Told, insertTold, removeTold, windowTold}
 use Rattle.history.specs.Calls.{IndexCall, Made, accepted, isChange}

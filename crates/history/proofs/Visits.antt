@@ -15,7 +15,8 @@ use Rattle.plane.proofs.Rects.{plane-space-laws}
 use Rattle.memory.specs.Layout.{rightLength}
 use Rattle.memory.specs.Reading.{reading}
 use Rattle.memory.proofs.ReadingLaws.{read-empty, read-sound}
-use Rattle.index.specs.Answers.{fanout, PlaneIndex, pointEnd, pointRead, pointAnswer}
+use Rattle.memory.specs.Fanout.{fanout}
+use Rattle.index.specs.Answers.{PlaneIndex, pointEnd, pointRead, pointAnswer}
 use Rattle.index.specs.Numbers.{pointTold}
 use Rattle.index.specs.declared.answer.PointFound.the-variants as P
 use Rattle.history.specs.Calls.{accepted}

@@ -10,7 +10,7 @@ use Rattle.tree.specs.Record.{recorded, recordOf}
 use Rattle.plane.specs.Lines.{CellEntry}
 use Rattle.plane.specs.Plane.{planeSpace}
 use Rattle.plane.specs.Windows.{planeWindow}
-use Rattle.index.specs.Answers.{fanout}
+use Rattle.memory.specs.Fanout.{fanout}
 use Rattle.index.specs.Numbers.{Told}
 
 -- 'insertions, removals, clears and queries', each 'call's kind, its arguments other than lent lists': any coordinates and windows,

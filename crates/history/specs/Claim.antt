@@ -16,7 +16,8 @@ use Rattle.tree.specs.Claim.{leafHolds, leafCovers}
 use Rattle.plane.specs.Lines.{CellEntry}
 use Rattle.plane.specs.Plane.{planeSpace, planeRoot}
 use Rattle.memory.specs.Reading.{reading}
-use Rattle.index.specs.Answers.{fanout, PlaneIndex}
+use Rattle.memory.specs.Fanout.{fanout}
+use Rattle.index.specs.Answers.{PlaneIndex}
 use Rattle.index.specs.Numbers.{Told}
 use Rattle.history.specs.Calls.{IndexCall, Made, accepted, isChange, fed, recordFrom}
 use Rattle.history.specs.Defined.{AsDefined}

@@ -13,7 +13,8 @@ use Rattle.plane.specs.Plane.{planeSpace, planeRoot}
 use Rattle.plane.specs.Windows.{planeWindow}
 use Rattle.memory.specs.Reading.{reading}
 use Rattle.memory.specs.Image.{entryNumbers}
-use Rattle.index.specs.Answers.{fanout, PlaneIndex, matchesIn}
+use Rattle.memory.specs.Fanout.{fanout}
+use Rattle.index.specs.Answers.{PlaneIndex, matchesIn}
 use Rattle.index.specs.Numbers as numbers
 use Rattle.index.specs.Numbers.{Told, accepts}
 use Rattle.history.specs.Calls.{IndexCall, Made, accepted, isChange}

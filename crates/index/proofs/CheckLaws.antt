@@ -14,12 +14,12 @@ use Rattle.geometry.proofs.NumberLaws.{length-rects}
 use Rattle.tree.specs.Lists.{total}
 use Rattle.tree.specs.Nodes.{Item, nodes}
 use Rattle.plane.specs.Plane.{planeSpace}
-use Rattle.memory.specs.Layout.{part, rectCount, polygonIn, childrenIn, nodeFits}
+use Rattle.memory.specs.Layout.{part, rectCount, polygonIn, childrenIn, nodeFits, PolygonPart}
 use Rattle.memory.specs.SoundTest.{allPass, pairsPass, insideOf, apart, polygonFits, countTest, apartTest, itemTest}
 use Rattle.memory.specs.Reading.{readRow, readNode, branchOf}
 use Rattle.memory.proofs.ReadingLaws.{row-none, row-parts, row-length, FitsAs, fits-as, leaf-parts, node-parts, children-length}
-use Rattle.index.specs.Answers.{fanout}
-use Rattle.index.specs.Check.{nodeTest, checked, checkedAt, partsApart, PolygonPart}
+use Rattle.memory.specs.Fanout.{fanout}
+use Rattle.index.specs.Check.{nodeTest, checked, checkedAt, partsApart}
 
 both-or-none : (a b : Bool) (x : ℕ) → cond (a && b) x 0 ≡ cond a (cond b x 0) 0
 both-or-none true b x = refl

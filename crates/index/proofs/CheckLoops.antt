@@ -7,7 +7,7 @@ use native.Mathlib.Omega.{arith}
 use native.Mathlib.Decide.{decLt}
 use native.Mathlib.Numerals.{add-one}
 use lib.Dec.{leb}
-use lib.ListN.{length, take, drop, getD, drop-of-length-le, length-drop}
+use lib.ListN.{length, drop, getD, drop-of-length-le}
 use lib.Seq.{drop-cons}
 use Rattle.geometry.specs.Cells.{allValid}
 use Rattle.geometry.specs.Numbers.{rectsIn}
@@ -15,63 +15,25 @@ use Rattle.geometry.proofs.Booleans.{both, split-and, all4, not-both}
 use Rattle.tree.specs.Lists.{total}
 use Rattle.tree.specs.Nodes.{Item, nodes}
 use Rattle.plane.specs.Plane.{planeSpace}
-use Rattle.memory.specs.Layout.{partsOf, part, rectCount, itemCount, polygonIn, entriesIn, childrenIn, nodeFits}
+use Rattle.memory.specs.Layout.{PartIn, partsOf, part, rectCount, itemCount, polygonIn, entriesIn, childrenIn, nodeFits, NodePart, PolygonPart}
 use Rattle.memory.specs.SoundTest.{allPass, pairsPass, insideOf, apart, polygonFits, countTest, apartTest, itemTest}
 use Rattle.memory.specs.Reading.{readRow, readNode}
 use Rattle.memory.proofs.ReadingLaws.{fits-as, leaf-parts, node-parts, nodes-range, entries-length, part-length, RightLength, children-length}
-use Rattle.index.specs.Answers.{fanout}
-use Rattle.index.specs.Check.{nodeTest, checked, checkedAt, partsApart, NodePart, PolygonPart, PolygonParts}
-use Rattle.index.proofs.PartLaws.{lent-part}
-use Rattle.index.proofs.LeafLaws.{lent-rects}
+use Rattle.memory.specs.Fanout.{fanout}
+use Rattle.index.specs.Check.{nodeTest, checked, checkedAt, partsApart, PolygonParts}
+use Rattle.layout.proofs.NodeLaws.{lent-polygon}
 use Rattle.index.proofs.PassLoops.{Passing, passing-end, passing-stop, passing-on, Pairing, pairing-start, pairing-end, pairing-stop, pairing-on}
 use Rattle.index.proofs.CheckLaws.{found, rowSum, rowChecked, low-row, high-row, lost-row, found-row, checked-node, node-part, leaf-nodes, fits-polygon, count-fits, later-first, none-or-none}
 
--- part k as it is lent
-abbrev pub lentPart : List ℕ → ℕ → List ℕ
-lentPart m k = take (64 + 128 * k + 128 - (64 + 128 * k)) (drop (64 + 128 * k) m)
+-- tests on the polygons at two parts
+module _ (m : List ℕ) (i j : ℕ) (p l : List ℕ) (r : ℕ) (q s : List ℕ) (t : ℕ) (p-is : p ≡ part m i) (l-is : l ≡ drop 2 p) (r-is : r ≡ rectCount p)
+    (q-is : q ≡ part m j) (s-is : s ≡ drop 2 q) (t-is : t ≡ rectCount q) (b : Bool) where
+  pub inside-is : b ≡ insideOf (rectsIn l r) (rectsIn s t) → b ≡ insideOf (polygonIn (part m i)) (polygonIn (part m j))
+  inside-is e = rw (← (lent-polygon m i p l r p-is l-is r-is), ← (lent-polygon m j q s t q-is s-is t-is)) e
 
--- the numbers of a part's rectangles as they are lent
-abbrev pub lentRects : List ℕ → List ℕ
-lentRects p = take (length p - 2) (drop 2 p)
-
-module _ (m : List ℕ) (k : ℕ) (h : k < partsOf m) where
-  pub lent-length : length (lentPart m k) ≡ 128
-  lent-length = ap length (lent-part m k) ∙ part-length m k h
-
-  -- the polygon of a part as it is lent
-  pub lent-polygon : rectsIn (lentRects (lentPart m k)) (getD (lentPart m k) 0 0) ≡ polygonIn (part m k)
-  lent-polygon =
-      let l = lent-length in
-      ap (λ q. rectsIn q (getD (lentPart m k) 0 0)) (lent-rects (lentPart m k) (omega arith)) ∙ ap polygonIn (lent-part m k)
-
--- tests on the polygons of two parts as they are lent
-module _ (m : List ℕ) (i j : ℕ) (x : PolygonPart m i) (y : PolygonPart m j) (b : Bool) where
-  pub inside-is : b ≡ insideOf (rectsIn (lentRects (lentPart m i)) (getD (lentPart m i) 0 0)) (rectsIn (lentRects (lentPart m j)) (getD (lentPart m j) 0 0))
-      → b ≡ insideOf (polygonIn (part m i)) (polygonIn (part m j))
-  inside-is e = rw (← (lent-polygon m i (x .below)), ← (lent-polygon m j (y .below))) e
-
-  pub apart-is : b ≡ apart (rectsIn (lentRects (lentPart m i)) (getD (lentPart m i) 0 0)) (rectsIn (lentRects (lentPart m j)) (getD (lentPart m j) 0 0))
-      → b ≡ partsApart m i j
+  pub apart-is : b ≡ apart (rectsIn l r) (rectsIn s t) → b ≡ partsApart m i j
   unfolding partsApart
-  apart-is e = rw (← (lent-polygon m i (x .below)), ← (lent-polygon m j (y .below))) e
-
--- the counts of a part as it is lent
-module _ (m : List ℕ) (k : ℕ) where
-  pub lent-few : PolygonPart m k → 4 * getD (lentPart m k) 0 0 ≤ length (lentRects (lentPart m k))
-  lent-few x =
-      let l = lent-length m k (x .below) in
-      let r = lent-rects (lentPart m k) (omega arith) in
-      let c = x .few-rects in
-      let e : getD (lentPart m k) 0 0 ≡ rectCount (part m k) = ap rectCount (lent-part m k) in
-      let d : length (drop 2 (lentPart m k)) ≡ 126 = length-drop 2 (lentPart m k) ∙ omega arith in
-      let g : length (lentRects (lentPart m k)) ≡ 126 = ap length r ∙ d in
-      omega arith
-
-  pub lent-count : PolygonPart m k → getD (lentPart m k) 0 0 ≤ 16
-  lent-count x =
-      let c = x .few-rects in
-      let e : getD (lentPart m k) 0 0 ≡ rectCount (part m k) = ap rectCount (lent-part m k) in
-      omega arith
+  apart-is e = rw (← (lent-polygon m i p l r p-is l-is r-is), ← (lent-polygon m j q s t q-is s-is t-is)) e
 
 -- the polygon of each part is tested against one
 pub record Meeting (m ks : List ℕ) (i j : ℕ) (w : Bool) : Type 0 where
@@ -135,31 +97,28 @@ module _ (m ks : List ℕ) (i : ℕ) (w : Bool) (v : Siblings m ks i w) where
 
 -- a part that fits
 module _ (w : ℕ) (m : List ℕ) (k : ℕ) where
-  pub fitting-below : nodeFits fanout w m k ≡ true → k < partsOf m
+  fitting-below : nodeFits fanout w m k ≡ true → k < partsOf m
   fitting-below e = fits-as fanout w m k e .below
 
-  pub fitting-part : nodeFits fanout w m k ≡ true → NodePart (lentPart m k)
-  fitting-part e =
+  fitting-part : nodeFits fanout w m k ≡ true → (p : List ℕ) → p ≡ part m k → NodePart p
+  fitting-part e p q =
       let f = fits-as fanout w m k e in
-      let a = f .few-rects in
-      let b = f .few-items in
-      let c : getD (lentPart m k) 0 0 ≡ rectCount (part m k) = ap rectCount (lent-part m k) in
-      let d : getD (lentPart m k) 1 0 ≡ itemCount (part m k) = ap itemCount (lent-part m k) in
-      record { length-is = lent-length m k (f .below); few-rects = omega arith; few-items = omega arith }
+      rw q (record { length-is = part-length m k (f .below); few-rects = f .few-rects; few-items = f .few-items })
 
   module _ (b : Bool) (e : b ≡ nodeFits fanout w m k) where
     pub head-stop : b ≡ false → false ≡ nodeFits fanout w m k && allValid (polygonIn (part m k))
     head-stop f = rw (← e, f)
 
-    pub head-below : b ≡ true → k < partsOf m
-    head-below f = fitting-below (sym e ∙ f)
+    module _ (f : b ≡ true) where
+      pub head-in : PartIn m k
+      head-in = let h = fitting-below (sym e ∙ f) in omega arith
 
-    pub head-part : b ≡ true → NodePart (lentPart m k)
-    head-part f = fitting-part (sym e ∙ f)
+      pub head-part : (p : List ℕ) → p ≡ part m k → NodePart p
+      head-part = fitting-part (sym e ∙ f)
 
-    pub head-last : (d : Bool) → b ≡ true → d ≡ allValid (rectsIn (lentRects (lentPart m k)) (getD (lentPart m k) 0 0))
-        → d ≡ nodeFits fanout w m k && allValid (polygonIn (part m k))
-    head-last d f g = rw (← e, f) (g ∙ ap allValid (lent-polygon m k (head-below f)))
+      pub head-last : (p l : List ℕ) (r : ℕ) (d : Bool) → p ≡ part m k → l ≡ drop 2 p → r ≡ rectCount p → d ≡ allValid (rectsIn l r)
+          → d ≡ nodeFits fanout w m k && allValid (polygonIn (part m k))
+      head-last p l r d q x y g = rw (← e, f) (g ∙ ap allValid (lent-polygon m k p l r q x y))
 
   module _ (b : Bool) (e : b ≡ nodeFits fanout w m k && allValid (polygonIn (part m k))) (f : b ≡ true) where
     pub sound-fits : nodeFits fanout w m k ≡ true
@@ -168,21 +127,14 @@ module _ (w : ℕ) (m : List ℕ) (k : ℕ) where
     pub sound-valid : allValid (polygonIn (part m k)) ≡ true
     sound-valid = split-and (nodeFits fanout w m k) _ (sym e ∙ f) .1
 
-    pub sound-below : k < partsOf m
-    sound-below = fitting-below sound-fits
+    pub sound-in : PartIn m k
+    sound-in = let h = fitting-below sound-fits in omega arith
 
-    pub sound-part : NodePart (lentPart m k)
+    pub sound-part : (p : List ℕ) → p ≡ part m k → NodePart p
     sound-part = fitting-part sound-fits
 
--- the lent rectangles of a part are enough
-pub rects-fit : (p : List ℕ) → NodePart p → 4 * getD p 0 0 ≤ length (lentRects p)
-rects-fit p x =
-    let l = x .length-is in
-    let c = x .few-rects in
-    let r = lent-rects p (omega arith) in
-    let d : length (drop 2 p) ≡ 126 = length-drop 2 p ∙ omega arith in
-    let g : length (lentRects p) ≡ 126 = ap length r ∙ d in
-    omega arith
+    pub sound-few : (p : List ℕ) → p ≡ part m k → itemCount p ≤ 62
+    sound-few p q = let n = sound-part p q .few-items in omega arith
 
 -- a polygon that fits has valid rectangles
 sound-polygon : (n : ℕ) (b : Item (planeSpace fanout) (suc n)) → nodeTest n b ≡ true → allValid (b .poly) ≡ true
@@ -231,19 +183,19 @@ checked-leaf m lo k e v =
     ∙ ap (λ x. cond (pairsPass (apartTest fanout 0) es) (cond (allPass (itemTest fanout 0 (polygonIn (part m k))) es) x 0) 0) o)
 
 module _ (m : List ℕ) (lo k : ℕ) (h : Bool) (e : h ≡ nodeFits fanout 3 m k && allValid (polygonIn (part m k))) (f : h ≡ true)
-    (a : Bool) (ea : a ≡ allPass (itemTest fanout 0 (polygonIn (lentPart m k))) (entriesIn (lentPart m k) (itemCount (lentPart m k)))) where
-  leaf-is : (b : Bool) → b ≡ pairsPass (apartTest fanout 0) (entriesIn (lentPart m k) (itemCount (lentPart m k))) → checkedAt 0 m lo k ≡ cond b (cond a 1 0) 0
+    (p : List ℕ) (p-is : p ≡ part m k) (a : Bool) (ea : a ≡ allPass (itemTest fanout 0 (polygonIn p)) (entriesIn p (itemCount p))) where
+  leaf-is : (b : Bool) → b ≡ pairsPass (apartTest fanout 0) (entriesIn p (itemCount p)) → checkedAt 0 m lo k ≡ cond b (cond a 1 0) 0
   leaf-is b eb =
-      let qa = ea ∙ ap (λ p. allPass (itemTest fanout 0 (polygonIn p)) (entriesIn p (itemCount p))) (lent-part m k) in
-      let qb = eb ∙ ap (λ p. pairsPass (apartTest fanout 0) (entriesIn p (itemCount p))) (lent-part m k) in
+      let qa = ea ∙ ap (λ q. allPass (itemTest fanout 0 (polygonIn q)) (entriesIn q (itemCount q))) p-is in
+      let qb = eb ∙ ap (λ q. pairsPass (apartTest fanout 0) (entriesIn q (itemCount q))) p-is in
       checked-leaf m lo k (sound-fits 3 m k h e f) (sound-valid 3 m k h e f) ∙ rw (← qa, ← qb)
 
   pub leaf-outside : a ≡ false → 0 ≡ checkedAt 0 m lo k
   leaf-outside g =
-      let b = pairsPass (apartTest fanout 0) (entriesIn (lentPart m k) (itemCount (lentPart m k))) in
+      let b = pairsPass (apartTest fanout 0) (entriesIn p (itemCount p)) in
       sym (leaf-is b refl ∙ rw g (none-or-none b))
 
-  module _ (b : Bool) (eb : b ≡ pairsPass (apartTest fanout 0) (entriesIn (lentPart m k) (itemCount (lentPart m k)))) where
+  module _ (b : Bool) (eb : b ≡ pairsPass (apartTest fanout 0) (entriesIn p (itemCount p))) where
     pub leaf-double : b ≡ false → 0 ≡ checkedAt 0 m lo k
     leaf-double g = sym (leaf-is b eb ∙ rw g)
 
@@ -265,15 +217,6 @@ checked-few n m lo k (suc c) h e =
     let q = x .count in
     omega arith
 
--- the row of parts of a routing node as it is lent
-abbrev pub lentRow : List ℕ → List ℕ
-lentRow p = take (66 + getD p 1 0 - 66) (drop 66 p)
-
-lent-row : (m : List ℕ) (k : ℕ) → lentRow (lentPart m k) ≡ childrenIn (part m k)
-lent-row m k =
-    let e : 66 + getD (lentPart m k) 1 0 - 66 ≡ itemCount (lentPart m k) = omega arith in
-    ap (λ n. take n (drop 66 (lentPart m k))) e ∙ ap childrenIn (lent-part m k)
-
 -- The branches before the i-th of a routing node at part k are sound, and they and the node have sum nodes; the others' parts are those
 -- from low on.
 pub record Rowing (l : ℕ) (m : List ℕ) (lo k : ℕ) (ks : List ℕ) (low sum i : ℕ) : Type 0 where
@@ -286,14 +229,15 @@ pub record Rowing (l : ℕ) (m : List ℕ) (lo k : ℕ) (ks : List ℕ) (low sum
   pub parts : (j : ℕ) → j < i → PolygonPart m (getD ks j 0)
   pub whole : checkedAt l m lo k ≡ cond (pairsPass (partsApart m) ks) (rowChecked (l - 1) m (polygonIn (part m k)) sum low k (drop i ks)) 0
 
-pub rowing-start : (l : ℕ) (m : List ℕ) (lo k : ℕ) (b : Bool) → (l ≡ 0 → ⊥) → lo ≤ k → RightLength m
-    → b ≡ nodeFits fanout 1 m k && allValid (polygonIn (part m k)) → b ≡ true → Rowing l m lo k (lentRow (lentPart m k)) lo 1 0
-rowing-start l m lo k b z h r e f =
+pub rowing-start : (l : ℕ) (m : List ℕ) (lo k : ℕ) (b : Bool) (p ks : List ℕ) → (l ≡ 0 → ⊥) → lo ≤ k → RightLength m
+    → b ≡ nodeFits fanout 1 m k && allValid (polygonIn (part m k)) → b ≡ true → p ≡ part m k → ks ≡ childrenIn p → Rowing l m lo k ks lo 1 0
+rowing-start l m lo k b p ks z h r e f p-is ks-is =
     let fits = fits-as fanout 1 m k (sound-fits 1 m k b e f) in
     let q : l ≡ suc (l - 1) = omega arith in
     let n = fits .few-items in
     let s = children-length fanout m k (fits .below) (omega arith) in
-    let u = ap length (lent-row m k) in
+    let x : ks ≡ childrenIn (part m k) = ks-is ∙ ap childrenIn p-is in
+    let u = ap length x in
     record {
       i-le = omega arith;
       few-ks = omega arith;
@@ -302,7 +246,7 @@ rowing-start l m lo k b z h r e f =
       right = r;
       node = record { below = fits .below; few-rects = fits .few-rects };
       parts = λ j p. absurd (omega arith);
-      whole = rw (lent-row m k) (ap (λ n. checkedAt n m lo k) q ∙ checked-node (l - 1) m lo k (sound-fits 1 m k b e f) (sound-valid 1 m k b e f));
+      whole = rw x (ap (λ n. checkedAt n m lo k) q ∙ checked-node (l - 1) m lo k (sound-fits 1 m k b e f) (sound-valid 1 m k b e f));
     }
 
 module _ (l : ℕ) (m : List ℕ) (lo k : ℕ) (ks : List ℕ) (low sum i : ℕ) (v : Rowing l m lo k ks low sum i) where

@@ -17,12 +17,12 @@ use Rattle.tree.proofs.Lists.{flatMap-same}
 use Rattle.tree.proofs.InsertEntries.{held-zero}
 use Rattle.plane.specs.Lines.{CellEntry}
 use Rattle.plane.specs.Plane.{planeSpace}
-use Rattle.memory.specs.Layout.{part, itemCount}
+use Rattle.memory.specs.Layout.{part, itemCount, childAt, countAt}
 use Rattle.memory.specs.Reading.{readNode}
 use Rattle.memory.proofs.ReadingLaws.{leaf-parts, entries-length, read-as}
-use Rattle.index.specs.Answers.{fanout}
+use Rattle.memory.specs.Fanout.{fanout}
 use Rattle.index.specs.Open.{TreeIn}
-use Rattle.index.specs.Walks.{entriesFrom, entriesBelow, Walkable, childAt, countAt}
+use Rattle.index.specs.Walks.{entriesFrom, entriesBelow, Walkable}
 use Rattle.index.specs.Count.{entriesOf, entriesAt}
 use Rattle.index.proofs.WalkParts.{part-at}
 use Rattle.index.proofs.WalkRows.{entries-few}
@@ -60,50 +60,50 @@ pub held-few : (n : ℕ) (m : List ℕ) (lo k : ℕ) → Walkable n m lo k → l
 held-few n m lo k v = rw (← (entries-at n m lo k)) (entries-few anyPolygon anyEntry n m lo k v)
 
 -- a leaf holds as many entries as its part says
-pub held-leaf : (level : ℕ) (m : List ℕ) (lo k : ℕ) → level ≡ 0 → Walkable level m lo k → countAt m k ≡ length (entriesAt level m lo k)
+pub held-leaf : (level : ℕ) (m : List ℕ) (lo k n : ℕ) → level ≡ 0 → Walkable level m lo k → n ≡ countAt m k → n ≡ length (entriesAt level m lo k)
 unfolding entriesAt entriesOf
-held-leaf level m lo k z v =
+held-leaf level m lo k n z v c =
     let w : Walkable 0 m lo k = rw z at v in
     let p = leaf-parts fanout m lo k (w .node) (w .reads) in
     let e : length (flatMap (held (planeSpace fanout) 0) (w .node .child)) ≡ countAt m k =
     ap length (held-zero (planeSpace fanout) (w .node .child) ∙ p .entries) ∙ entries-length (part m k) (itemCount (part m k)) ∙ part-at m k 1 (omega arith) in
-    rw (z, w .reads) (sym e)
+    c ∙ rw (z, w .reads) (sym e)
 
 -- Before the i-th child: the count so far.
-pub record CountHeld (level : ℕ) (m : List ℕ) (lo k i low sum : ℕ) : Type 0 where
+pub record CountHeld (level : ℕ) (m : List ℕ) (lo k n i low sum : ℕ) : Type 0 where
   pub vs : ℕ
   pub es : List CellEntry
-  pub at : AtChild anyPolygon anyEntry level m lo k i low vs es
+  pub at : AtChild anyPolygon anyEntry level m lo k n i low vs es
   pub so-far : sum ≡ length es
 
-module _ (level : ℕ) (m : List ℕ) (lo k : ℕ) where
-  pub held-start : (level ≡ 0 → ⊥) → Walkable level m lo k → CountHeld level m lo k 0 lo 0
-  held-start ne v = record { vs = 1; es = []; at = child-start anyPolygon anyEntry level m lo k ne v; so-far = refl }
+module _ (level : ℕ) (m : List ℕ) (lo k n : ℕ) where
+  pub held-start : (level ≡ 0 → ⊥) → Walkable level m lo k → n ≡ countAt m k → CountHeld level m lo k n 0 lo 0
+  held-start ne v c = record { vs = 1; es = []; at = child-start anyPolygon anyEntry level m lo k n ne v c; so-far = refl }
 
-  module _ (i low sum : ℕ) (x : CountHeld level m lo k i low sum) where
-    pub held-end : countAt m k ≤ i → sum ≡ length (entriesAt level m lo k)
+  module _ (i low sum : ℕ) (x : CountHeld level m lo k n i low sum) where
+    pub held-end : n ≤ i → sum ≡ length (entriesAt level m lo k)
     held-end h =
-        x .so-far ∙ ap length (end-entries anyPolygon anyEntry level m lo k i low (x .vs) (x .es) (x .at) h ∙ entries-at level m lo k)
+        x .so-far ∙ ap length (end-entries anyPolygon anyEntry level m lo k n i low (x .vs) (x .es) (x .at) h ∙ entries-at level m lo k)
 
-    module _ (h : i < countAt m k) (d : ℕ) (g : d ≡ length (entriesAt (level - 1) m low (childAt m k i))) where
-      pub held-next : CountHeld level m lo k (i + 1) (childAt m k i + 1) (sum + d)
+    module _ (h : i < n) (j : ℕ) (q : j ≡ childAt m k i) (d : ℕ) (g : d ≡ length (entriesAt (level - 1) m low j)) where
+      pub held-next : CountHeld level m lo k n (i + 1) (j + 1) (sum + d)
       unfolding anyPolygon
       held-next =
           let s = x .so-far in
-          let e = ap length (entries-at (level - 1) m low (childAt m k i)) in
+          let e = ap length (entries-at (level - 1) m low (j)) in
           record {
             vs = _;
             es = _;
-            at = child-hit anyPolygon anyEntry level m lo k i low (x .vs) (x .es) (x .at) h true refl refl;
+            at = child-hit anyPolygon anyEntry level m lo k n i low (x .vs) (x .es) (x .at) h j q true refl refl;
             so-far = rw length-append (omega arith);
           }
 
       pub held-fits : Fits w32 (sum + d)
       held-fits =
-          let n = held-next in
-          let s = n .so-far in
-          let q = entries-few anyPolygon anyEntry level m lo k (x .at .walkable) in
-          let l : length (n .es) ≤ length (entriesBelow anyPolygon anyEntry level m lo k) = rw (← (n .at .entries), length-append) (omega arith) in
+          let y = held-next in
+          let s = y .so-far in
+          let f = entries-few anyPolygon anyEntry level m lo k (x .at .walkable) in
+          let l : length (y .es) ≤ length (entriesBelow anyPolygon anyEntry level m lo k) = rw (← (y .at .entries), length-append) (omega arith) in
           omega arith
 
 -- below the root are the entries of the tree that the memory reads as

@@ -14,8 +14,8 @@ use Rattle.plane.specs.Lines.{CellEntry}
 use Rattle.plane.specs.Plane.{planeSpace}
 use Rattle.memory.specs.Layout.{part, polygonIn}
 use Rattle.memory.specs.Reading.{reading}
+use Rattle.memory.specs.Fanout.{fanout}
 use Rattle.index.specs.declared.walk.Found.{Found}
-use Rattle.index.specs.Answers.{fanout}
 use Rattle.index.specs.Open.{TreeIn}
 use Rattle.index.specs.Walks.{hasTest, visitsBelow, heldBelow, found, foundOf}
 use Rattle.index.proofs.TreeWalk.{tree-entry}

@@ -7,8 +7,8 @@ use native.Mathlib.Omega.{arith}
 use native.Mathlib.Decide.{decLt}
 use native.Mathlib.Numerals.{add-one}
 use borrow.Author.Tests.{eq-eqb, ne-eqb}
-use lib.ListN.{length, take, drop, getD, drop-of-length-le, length-drop, List·getD-append}
-use lib.Seq.{drop-cons, getD-at, take-all}
+use lib.ListN.{length, drop, getD, drop-of-length-le, List·getD-append}
+use lib.Seq.{drop-cons, getD-at}
 use Rattle.geometry.specs.declared.rect.Cell.{Cell}
 use Rattle.geometry.specs.declared.rect.Rect.{Rect}
 use Rattle.geometry.specs.Cells.{hasCell, anyHas}
@@ -16,11 +16,10 @@ use Rattle.geometry.specs.Numbers.{rectAt, rectsIn}
 use Rattle.geometry.specs.Refine.{anyOf}
 use Rattle.geometry.proofs.ScanLoops.{Scan, scan-all, scan-hit, scan-miss}
 use Rattle.plane.specs.Lines.{CellEntry}
-use Rattle.memory.specs.Layout.{itemCount, polygonIn, entryIn, entriesIn}
+use Rattle.memory.specs.Layout.{rectCount, itemCount, polygonIn, entryIn, entriesIn, NodePart}
 use Rattle.memory.specs.SoundTest.{allPass, pairsPass, apartTest, itemTest}
 use Rattle.memory.proofs.ReadingLaws.{entries-length}
-use Rattle.index.specs.Answers.{fanout}
-use Rattle.index.specs.Check.{NodePart}
+use Rattle.memory.specs.Fanout.{fanout}
 use Rattle.index.proofs.PassLoops.{Passing, passing-start, passing-end, passing-stop, passing-on, Pairing, pairing-start, pairing-end, pairing-stop, pairing-on}
 
 -- a rectangle has the cell, the cell first
@@ -73,42 +72,35 @@ entries-end p n i h =
     let k : length (entriesIn p n) ≤ i = omega arith in
     drop-of-length-le (entriesIn p n) k
 
--- the polygon's numbers as they are lent
-pub lent-rects : (p : List ℕ) → 2 ≤ length p → take (length p - 2) (drop 2 p) ≡ drop 2 p
-lent-rects p h =
-    let l = length-drop 2 p in
-    let k : length (drop 2 p) ≤ length p - 2 = omega arith in
-    take-all (length p - 2) (drop 2 p) k
-
--- whether the polygon contains the entries, entry by entry
-pub record Holding (p : List ℕ) (i : ℕ) (w : Bool) : Type 0 where
-  pub i-le : i ≤ itemCount p
+-- whether the polygon contains the n entries, entry by entry
+pub record Holding (p : List ℕ) (n i : ℕ) (w : Bool) : Type 0 where
+  pub count : n ≡ itemCount p
+  pub i-le : i ≤ n
   pub fits : NodePart p
-  pub passing : Passing (itemTest fanout 0 (polygonIn p)) (entriesIn p (itemCount p)) i w
+  pub passing : Passing (itemTest fanout 0 (polygonIn p)) (entriesIn p n) i w
 
-pub hold-start : (p : List ℕ) → NodePart p → Holding p 0 (allPass (itemTest fanout 0 (polygonIn p)) (entriesIn p (itemCount p)))
-hold-start p h = record { i-le = omega arith; fits = h; passing = passing-start (itemTest fanout 0 (polygonIn p)) (entriesIn p (itemCount p)) }
+pub hold-start : (p : List ℕ) (n : ℕ) → NodePart p → n ≡ itemCount p → Holding p n 0 (allPass (itemTest fanout 0 (polygonIn p)) (entriesIn p (itemCount p)))
+hold-start p n h c = record { count = c; i-le = omega arith; fits = h; passing = rw c (passing-start (itemTest fanout 0 (polygonIn p)) (entriesIn p (itemCount p))) }
 
-module _ (p : List ℕ) (i : ℕ) (w : Bool) (v : Holding p i w) where
-  pub hold-end : itemCount p ≤ i → true ≡ w
-  hold-end h = passing-end (itemTest fanout 0 (polygonIn p)) (entriesIn p (itemCount p)) i w (v .passing) (entries-end p (itemCount p) i h)
+module _ (p : List ℕ) (n i : ℕ) (w : Bool) (v : Holding p n i w) where
+  pub hold-end : n ≤ i → true ≡ w
+  hold-end h = passing-end (itemTest fanout 0 (polygonIn p)) (entriesIn p n) i w (v .passing) (entries-end p n i h)
 
-  module _ (h : i < itemCount p) (b : Bool)
-      (f : b ≡ anyHas (rectsIn (take (length p - 2) (drop 2 p)) (getD p 0 0)) (record { x = getD p (66 + 3 * i) 0; y = getD p (66 + 3 * i + 1) 0 })) where
+  module _ (h : i < n) (l : List ℕ) (l-is : l ≡ drop 2 p) (r : ℕ) (r-is : r ≡ rectCount p) (c : Cell) (c-is : c ≡ entryIn p i .cell)
+      (b : Bool) (f : b ≡ anyHas (rectsIn l r) c) where
     hold-is : itemTest fanout 0 (polygonIn p) (entryIn p i) ≡ b
-    unfolding itemTest entryIn
-    hold-is =
-        let l = v .fits .length-is in
-        sym (f ∙ ap (λ q. anyHas (rectsIn q (getD p 0 0)) (record { x = getD p (66 + 3 * i) 0; y = getD p (66 + 3 * i + 1) 0 })) (lent-rects p (omega arith)))
+    unfolding itemTest
+    hold-is = sym (f ∙ rw (l-is, r-is, c-is))
 
     pub hold-stop : b ≡ false → false ≡ w
-    hold-stop g = passing-stop (itemTest fanout 0 (polygonIn p)) (entriesIn p (itemCount p)) i w (v .passing) (entryIn p i) (entries-next p (itemCount p) i h) (hold-is ∙ g)
+    hold-stop g = passing-stop (itemTest fanout 0 (polygonIn p)) (entriesIn p n) i w (v .passing) (entryIn p i) (entries-next p n i h) (hold-is ∙ g)
 
-    pub hold-on : b ≡ true → Holding p (i + 1) w
+    pub hold-on : b ≡ true → Holding p n (i + 1) w
     hold-on g = record {
+      count = v .count;
       i-le = omega arith;
       fits = v .fits;
-      passing = passing-on (itemTest fanout 0 (polygonIn p)) (entriesIn p (itemCount p)) i w (v .passing) (entryIn p i) (entries-next p (itemCount p) i h) (hold-is ∙ g);
+      passing = passing-on (itemTest fanout 0 (polygonIn p)) (entriesIn p n) i w (v .passing) (entryIn p i) (entries-next p n i h) (hold-is ∙ g);
     }
 
 -- whether the entries from the j-th on have other cells than the i-th; j may have passed the last one
@@ -147,45 +139,47 @@ module _ (p : List ℕ) (n i j : ℕ) (w : Bool) (v : Unlike p n i j w) where
           passing = passing-on (apartTest fanout 0 (entryIn p i)) (entriesIn p n) j w (v .passing) (entryIn p j) (entries-next p n j h) f;
         }
 
-    pub unlike-x : (getD p (66 + 3 * j) 0 ≡ getD p (66 + 3 * i) 0 → ⊥) → Unlike p n i (j + 1) w
-    unfolding apartTest entryIn
-    unlike-x f = unlike-on (rw (ne-eqb (getD p (66 + 3 * i) 0) (getD p (66 + 3 * j) 0) (λ e. f (sym e))))
+    module _ (c d : Cell) (c-is : c ≡ entryIn p i .cell) (d-is : d ≡ entryIn p j .cell) where
+      pub unlike-x : (d .x ≡ c .x → ⊥) → Unlike p n i (j + 1) w
+      unfolding apartTest
+      unlike-x f = unlike-on (rw (← c-is, ← d-is, ne-eqb (c .x) (d .x) (λ e. f (sym e))))
 
-    module _ (x : getD p (66 + 3 * j) 0 ≡ getD p (66 + 3 * i) 0) where
-      pub unlike-y : (getD p (66 + 3 * j + 1) 0 ≡ getD p (66 + 3 * i + 1) 0 → ⊥) → Unlike p n i (j + 1) w
-      unfolding apartTest entryIn
-      unlike-y f =
-          unlike-on (rw (eq-eqb (getD p (66 + 3 * i) 0) (getD p (66 + 3 * j) 0) (sym x), ne-eqb (getD p (66 + 3 * i + 1) 0) (getD p (66 + 3 * j + 1) 0) (λ e. f (sym e))))
+      module _ (x : d .x ≡ c .x) where
+        pub unlike-y : (d .y ≡ c .y → ⊥) → Unlike p n i (j + 1) w
+        unfolding apartTest
+        unlike-y f = unlike-on (rw (← c-is, ← d-is, eq-eqb (c .x) (d .x) (sym x), ne-eqb (c .y) (d .y) (λ e. f (sym e))))
 
-      pub unlike-stop : j < n → getD p (66 + 3 * j + 1) 0 ≡ getD p (66 + 3 * i + 1) 0 → false ≡ w
-      unfolding apartTest entryIn
-      unlike-stop h f =
-          passing-stop (apartTest fanout 0 (entryIn p i)) (entriesIn p n) j w (v .passing) (entryIn p j) (entries-next p n j h)
-          (rw (eq-eqb (getD p (66 + 3 * i) 0) (getD p (66 + 3 * j) 0) (sym x), eq-eqb (getD p (66 + 3 * i + 1) 0) (getD p (66 + 3 * j + 1) 0) (sym f)))
+        pub unlike-stop : j < n → d .y ≡ c .y → false ≡ w
+        unfolding apartTest
+        unlike-stop h f =
+            passing-stop (apartTest fanout 0 (entryIn p i)) (entriesIn p n) j w (v .passing) (entryIn p j) (entries-next p n j h)
+            (rw (← c-is, ← d-is, eq-eqb (c .x) (d .x) (sym x), eq-eqb (c .y) (d .y) (sym f)))
 
--- whether no two entries have one cell
-pub record Differing (p : List ℕ) (i : ℕ) (w : Bool) : Type 0 where
-  pub i-le : i ≤ itemCount p
+-- whether no two of the n entries have one cell
+pub record Differing (p : List ℕ) (n i : ℕ) (w : Bool) : Type 0 where
+  pub count : n ≡ itemCount p
+  pub i-le : i ≤ n
   pub fits : NodePart p
-  pub pairing : Pairing (apartTest fanout 0) (entriesIn p (itemCount p)) i w
+  pub pairing : Pairing (apartTest fanout 0) (entriesIn p n) i w
 
-pub differ-start : (p : List ℕ) → NodePart p → Differing p 0 (pairsPass (apartTest fanout 0) (entriesIn p (itemCount p)))
-differ-start p h = record { i-le = omega arith; fits = h; pairing = pairing-start (apartTest fanout 0) (entriesIn p (itemCount p)) }
+pub differ-start : (p : List ℕ) (n : ℕ) → NodePart p → n ≡ itemCount p → Differing p n 0 (pairsPass (apartTest fanout 0) (entriesIn p (itemCount p)))
+differ-start p n h c = record { count = c; i-le = omega arith; fits = h; pairing = rw c (pairing-start (apartTest fanout 0) (entriesIn p (itemCount p))) }
 
-module _ (p : List ℕ) (i : ℕ) (w : Bool) (v : Differing p i w) where
-  pub differ-end : itemCount p ≤ i → true ≡ w
-  differ-end h = pairing-end (apartTest fanout 0) (entriesIn p (itemCount p)) i w (v .pairing) (entries-end p (itemCount p) i h)
+module _ (p : List ℕ) (n i : ℕ) (w : Bool) (v : Differing p n i w) where
+  pub differ-end : n ≤ i → true ≡ w
+  differ-end h = pairing-end (apartTest fanout 0) (entriesIn p n) i w (v .pairing) (entries-end p n i h)
 
   pub differ-all : 8 ≤ i → true ≡ w
-  differ-all h = let k = v .fits .few-items in differ-end (omega arith)
+  differ-all h = let k = v .fits .few-items in let c = v .count in differ-end (omega arith)
 
-  module _ (h : i < itemCount p) (b : Bool) (f : b ≡ allPass (apartTest fanout 0 (entryIn p i)) (drop (i + 1) (entriesIn p (itemCount p)))) where
+  module _ (h : i < n) (b : Bool) (f : b ≡ allPass (apartTest fanout 0 (entryIn p i)) (drop (i + 1) (entriesIn p n))) where
     pub differ-stop : b ≡ false → false ≡ w
-    differ-stop g = pairing-stop (apartTest fanout 0) (entriesIn p (itemCount p)) i w (v .pairing) (entryIn p i) (entries-next p (itemCount p) i h) (sym f ∙ g)
+    differ-stop g = pairing-stop (apartTest fanout 0) (entriesIn p n) i w (v .pairing) (entryIn p i) (entries-next p n i h) (sym f ∙ g)
 
-    pub differ-on : b ≡ true → Differing p (i + 1) w
+    pub differ-on : b ≡ true → Differing p n (i + 1) w
     differ-on g = record {
+      count = v .count;
       i-le = omega arith;
       fits = v .fits;
-      pairing = pairing-on (apartTest fanout 0) (entriesIn p (itemCount p)) i w (v .pairing) (entryIn p i) (entries-next p (itemCount p) i h) (sym f ∙ g);
+      pairing = pairing-on (apartTest fanout 0) (entriesIn p n) i w (v .pairing) (entryIn p i) (entries-next p n i h) (sym f ∙ g);
     }

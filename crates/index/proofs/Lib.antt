@@ -1,5 +1,3 @@
-pub mod BitLaws
-pub mod PartLaws
 pub mod PassLoops
 pub mod CoverLaws
 pub mod LeafLaws

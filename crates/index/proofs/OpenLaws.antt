@@ -16,78 +16,25 @@ use Rattle.geometry.proofs.NumberLaws.{length-rects}
 use Rattle.tree.specs.Nodes.{Item, nodes}
 use Rattle.tree.specs.Tree.{Tree, top}
 use Rattle.plane.specs.Plane.{planeSpace}
-use Rattle.memory.specs.Layout.{partsOf, rightLength, part, inUse, bitsSet, heightIn, rootIn, allZero, rectCount, othersZero}
+use Rattle.memory.specs.Layout.{PartIn, partsOf, rightLength, part, bitsSet, heightIn, rootIn, allZero, rectCount, othersZero}
 use Rattle.memory.specs.SoundTest.{allPass, pairsPass, polygonFits, countTest, apartTest, itemTest, soundTest}
 use Rattle.memory.specs.Reading.{readNode, treeOf, reading}
-use Rattle.memory.proofs.ReadingLaws.{RightLength, ReadAs, read-as, read-empty, make-reading, zeros-read, zero-at, unused-zero, level-range}
-use Rattle.index.specs.Answers.{fanout}
+use Rattle.memory.proofs.ReadingLaws.{length-right, ReadAs, read-as, read-empty, make-reading, zeros-read, zero-at, unused-zero, level-range}
+use Rattle.memory.specs.Fanout.{fanout}
 use Rattle.index.specs.Check.{nodeTest, checked, checkedAt}
 use Rattle.index.specs.Open.{TreeIn}
-use Rattle.index.proofs.PartLaws.{lent-part}
 use Rattle.index.proofs.CheckLaws.{found, node-polygon, node-part}
 
 -- a length that was tested is right
 pub right-is : (m : List ℕ) (b : Bool) → b ≡ rightLength m → b ≡ true → rightLength m ≡ true
 right-is m b e f = sym e ∙ f
 
--- the length is that of an index
-module _ (m : List ℕ) where
-  pub length-stop-1 : length m < 64 → false ≡ rightLength m
-  unfolding rightLength
-  length-stop-1 h =
-      let e : eqb (length m) (64 + 128 * partsOf m) ≡ false = ne-eqb (length m) (64 + 128 * partsOf m) (λ q. omega arith) in
-      rw e
+-- its head can be read
+pub right-head : (m : List ℕ) → rightLength m ≡ true → 64 ≤ length m
+right-head m e = let r = length-right m e in omega arith
 
-  pub length-stop-2 : 64 ≤ length m → (length m ≡ 64 + 128 * partsOf m → ⊥) → false ≡ rightLength m
-  unfolding rightLength
-  length-stop-2 h n = rw (ne-eqb (length m) (64 + 128 * partsOf m) n)
-
-  module _ (e : length m ≡ 64 + 128 * partsOf m) where
-    pub length-stop-3 : partsOf m < 1 → false ≡ rightLength m
-    unfolding rightLength
-    length-stop-3 h = rw (eq-eqb (length m) (64 + 128 * partsOf m) e, lt-leb 1 (partsOf m) h)
-
-    pub length-last : 1 ≤ partsOf m → leb (partsOf m) 256 ≡ rightLength m
-    unfolding rightLength
-    length-last h = rw (eq-eqb (length m) (64 + 128 * partsOf m) e, le-leb 1 (partsOf m) h)
-
--- part k is in use or all zero
-module _ (m : List ℕ) (k : ℕ) (a : Bool) (e : a ≡ inUse m k) where
-  pub used-one : a ≡ true → true ≡ inUse m k || allZero (part m k)
-  used-one f = rw (← e, f)
-
-  pub zero-one : (b : Bool) → a ≡ false → b ≡ allZero (take (64 + 128 * k + 128 - (64 + 128 * k)) (drop (64 + 128 * k) m)) → b ≡ inUse m k || allZero (part m k)
-  zero-one b f g = rw (← e, f) (g ∙ ap allZero (lent-part m k))
-
--- the first k parts are in use or all zero
-pub record Unused (m : List ℕ) (k : ℕ) : Type 0 where
-  pub k-le : k ≤ partsOf m
-  pub right : RightLength m
-  pub zero-parts : othersZero m k ≡ true
-
-pub unused-start : (m : List ℕ) → RightLength m → Unused m 0
-unfolding othersZero
-unused-start m r = record { k-le = omega arith; right = r; zero-parts = refl }
-
-others-some : (m : List ℕ) (n k : ℕ) → k < n → inUse m k || allZero (part m k) ≡ false → othersZero m n ≡ true → ⊥
-others-some m n k h f e =
-    let q = neither (inUse m k) (allZero (part m k)) f in
-    not-both _ (unused-zero m n k e h (q .0)) (q .1)
-
-module _ (m : List ℕ) (k : ℕ) (v : Unused m k) where
-  pub unused-end : partsOf m ≤ k → true ≡ othersZero m (partsOf m)
-  unused-end h =
-      let l = v .k-le in
-      let e : k ≡ partsOf m = omega arith in
-      sym (ap (othersZero m) (sym e) ∙ v .zero-parts)
-
-  module _ (h : k < partsOf m) (b : Bool) (e : b ≡ inUse m k || allZero (part m k)) where
-    pub unused-stop : b ≡ false → false ≡ othersZero m (partsOf m)
-    unused-stop f = sym (is-false _ (others-some m (partsOf m) k h (sym e ∙ f)))
-
-    pub unused-on : b ≡ true → Unused m (k + 1)
-    unfolding othersZero
-    unused-on f = record { k-le = omega arith; right = v .right; zero-parts = rw add-one (both _ _ (v .zero-parts) (sym e ∙ f)) }
+pub right-bits : (m : List ℕ) → rightLength m ≡ true → 8 ≤ length m
+right-bits m e = let r = right-head m e in omega arith
 
 -- a tree passes where its root is sound in itself and has one rectangle
 sound-root : (n : ℕ) (b : Item (planeSpace fanout) (suc n)) → nodeTest n b ≡ true → length (b .poly) ≡ 1 → soundTest fanout (treeOf fanout n b) ≡ true
@@ -115,31 +62,14 @@ root-sound t e =
       sound = both _ _ (both _ _ (both _ _ (both _ _ (both _ _ (le-leb 1 (length (t .root)) (omega arith)) (le-leb (length (t .root)) 16 (omega arith))) (d .1)) (c .1)) (b .1)) (a .1);
     }
 
--- the numbers of the head behind the root's part, as they are lent
-head-rest : (m : List ℕ) → take (64 - 10) (drop 10 m) ≡ drop 10 (take 64 m)
-head-rest m =
-    let a : length (take 54 (drop 10 m)) ≡ min 54 (length m - 10) = simp (length-take, length-drop) in
-    let b : length (drop 10 (take 64 m)) ≡ min 64 (length m) - 10 = simp (length-take, length-drop) in
-    let e : length (take 54 (drop 10 m)) ≡ length (drop 10 (take 64 m)) = omega arith in
-    ext-getD 0 (take 54 (drop 10 m)) (drop 10 (take 64 m)) e λ i h.
-    let g : i < 54 = omega arith in
-    let k : 10 + i < 64 = omega arith in
-    getD-take 54 (drop 10 m) i 0 g ∙ getD-drop 10 m i 0 ∙ sym (getD-drop 10 (take 64 m) i 0 ∙ getD-take 64 m (10 + i) 0 k)
-
--- the first number of a part, in the memory
-part-first : (m : List ℕ) (k : ℕ) → getD (part m k) 0 0 ≡ getD m (64 + 128 * k) 0
-unfolding part
-part-first m k =
-    getD-take 128 (drop (64 + 128 * k) m) 0 0 (omega arith) ∙ getD-drop (64 + 128 * k) m 0 0 ∙ ap (λ (i : ℕ). getD m i 0) (omega arith)
-
 -- a memory of height 0
-module _ (m : List ℕ) (r : rightLength m ≡ true) (h : heightIn m ≡ 0) (a : Bool) (e : a ≡ allZero m) where
+module _ (m : List ℕ) (r : rightLength m ≡ true) (g : ℕ) (g-is : g ≡ heightIn m) (z : g ≡ 0) (a : Bool) (e : a ≡ allZero m) where
   pub open-empty : a ≡ true → reading fanout m ≡ some none
   open-empty f = zeros-read fanout m r (sym e ∙ f)
 
   pub open-zero : a ≡ false → reading fanout m ≡ none
   unfolding reading
-  open-zero f = rw (r, h, ← e, f)
+  open-zero f = rw (r, ← g-is, z, ← e, f)
 
 -- a memory that reads as no tree and is not empty
 no-tree : (m : List ℕ) → (heightIn m ≡ 0 → ⊥) → ((t : Tree (planeSpace fanout)) → ReadAs fanout m t → ⊥) → reading fanout m ≡ none
@@ -164,60 +94,72 @@ unfolding nodes
 node-some n b e = omega arith
 
 -- the root of a tree that was read has one rectangle
-tree-one : (m : List ℕ) (t : Tree (planeSpace fanout)) → ReadAs fanout m t → getD m (64 + 128 * rootIn m) 0 ≡ 1
+tree-one : (m : List ℕ) (t : Tree (planeSpace fanout)) → ReadAs fanout m t → rectCount (part m (rootIn m)) ≡ 1
 tree-one m t x =
     let p = node-polygon (t .level) m 0 (rootIn m) (top (planeSpace fanout) t) (x .root-node) in
-    sym (part-first m (rootIn m)) ∙ sym (length-rects (drop 2 (part m (rootIn m))) (rectCount (part m (rootIn m)))) ∙ sym (ap length p) ∙ root-sound t (x .tested) .one
+    sym (length-rects (drop 2 (part m (rootIn m))) (rectCount (part m (rootIn m)))) ∙ sym (ap length p) ∙ root-sound t (x .tested) .one
 
--- a memory of a height that is not 0
-module _ (m : List ℕ) (n : heightIn m ≡ 0 → ⊥) where
-  pub open-deep : rootIn m < heightIn m - 1 → reading fanout m ≡ none
-  open-deep h = no-tree m n λ t x.
+-- a memory of a height g that is not 0, its root at part k
+module _ (m : List ℕ) (g : ℕ) (g-is : g ≡ heightIn m) (z : g ≡ 0 → ⊥) (k : ℕ) (k-is : k ≡ rootIn m) where
+  not-empty : heightIn m ≡ 0 → ⊥
+  not-empty e = z (g-is ∙ e)
+
+  pub open-deep : k < g - 1 → reading fanout m ≡ none
+  open-deep h = no-tree m not-empty λ t x.
       let a = level-range fanout m (t .level) 0 (rootIn m) (top (planeSpace fanout) t) (omega arith) (x .root-node) in
       let b = x .height-is in
       omega arith
 
-  pub open-head : (a : Bool) → a ≡ allZero (take (64 - 10) (drop 10 m)) → a ≡ false → reading fanout m ≡ none
-  open-head a e f = no-tree m n λ t x. not-both a (e ∙ ap allZero (head-rest m) ∙ x .head-zero) f
+  pub open-head : (a : Bool) → a ≡ allZero (drop 10 (take 64 m)) → a ≡ false → reading fanout m ≡ none
+  open-head a e f = no-tree m not-empty λ t x. not-both a (e ∙ x .head-zero) f
 
-  pub open-wide : (getD m (64 + 128 * rootIn m) 0 ≡ 1 → ⊥) → reading fanout m ≡ none
-  open-wide f = no-tree m n λ t x. f (tree-one m t x)
+  pub open-wide : (p : List ℕ) (r : ℕ) → p ≡ part m k → r ≡ rectCount p → (r ≡ 1 → ⊥) → reading fanout m ≡ none
+  open-wide p r p-is r-is f = no-tree m not-empty λ t x. f (r-is ∙ ap rectCount (p-is ∙ ap (part m) k-is) ∙ tree-one m t x)
 
   pub open-unused : (d : Bool) → d ≡ othersZero m (partsOf m) → d ≡ false → reading fanout m ≡ none
-  open-unused d q f = no-tree m n λ t x. not-both d (q ∙ x .others-zero) f
+  open-unused d q f = no-tree m not-empty λ t x. not-both d (q ∙ x .others-zero) f
 
-  module _ (c : ℕ) (e : c ≡ checkedAt (heightIn m - 1) m 0 (rootIn m)) where
+  module _ (c : ℕ) (e : c ≡ checkedAt (g - 1) m 0 k) where
+    count-is : c ≡ checkedAt (heightIn m - 1) m 0 (rootIn m)
+    count-is = rw (g-is, k-is) at e
+
     pub open-unsound : c ≡ 0 → reading fanout m ≡ none
-    open-unsound f = no-tree m n λ t x. node-some (t .level) (top (planeSpace fanout) t) (sym (tree-counted m t x) ∙ sym e ∙ f)
+    open-unsound f = no-tree m not-empty λ t x. node-some (t .level) (top (planeSpace fanout) t) (sym (tree-counted m t x) ∙ sym count-is ∙ f)
 
     pub open-bits : (b : ℕ) → b ≡ bitsSet m → (c ≡ b → ⊥) → reading fanout m ≡ none
-    open-bits b q f = no-tree m n λ t x. f (e ∙ tree-counted m t x ∙ x .bits ∙ sym q)
+    open-bits b q f = no-tree m not-empty λ t x. f (count-is ∙ tree-counted m t x ∙ x .bits ∙ sym q)
 
     module _ (s : c ≡ 0 → ⊥) where
-      pub open-below : rootIn m < partsOf m
+      pub open-in : PartIn m k
       unfolding checkedAt
-      open-below =
-          let x = found (heightIn m - 1) (readNode fanout (heightIn m - 1) m 0 (rootIn m)) c e s in
-          node-part (heightIn m - 1) m 0 (rootIn m) (x .node) (x .read) .below
+      open-in =
+          let x = found (g - 1) (readNode fanout (g - 1) m 0 k) c e s in
+          let b = node-part (g - 1) m 0 k (x .node) (x .read) .below in
+          omega arith
 
-      pub open-tree : (a : Bool) (b : ℕ) (d : Bool) → rightLength m ≡ true → a ≡ allZero (take (64 - 10) (drop 10 m)) → a ≡ true → b ≡ bitsSet m → c ≡ b
-          → getD m (64 + 128 * rootIn m) 0 ≡ 1 → d ≡ othersZero m (partsOf m) → d ≡ true → TreeIn m (heightIn m - 1) (rootIn m)
+      open-root : (a : Bool) (b : ℕ) (p : List ℕ) (r : ℕ) (d : Bool) → rightLength m ≡ true → a ≡ allZero (drop 10 (take 64 m)) → a ≡ true → b ≡ bitsSet m → c ≡ b
+          → p ≡ part m k → r ≡ rectCount p → r ≡ 1 → d ≡ othersZero m (partsOf m) → d ≡ true → TreeIn m (heightIn m - 1) (rootIn m)
       unfolding checkedAt
-      open-tree a b d r ea fa eb fb one ed fd =
-          let x = found (heightIn m - 1) (readNode fanout (heightIn m - 1) m 0 (rootIn m)) c e s in
-          let p = node-polygon (heightIn m - 1) m 0 (rootIn m) (x .node) (x .read) in
-          let l : length (x .node .poly) ≡ 1 = ap length p ∙ length-rects (drop 2 (part m (rootIn m))) (rectCount (part m (rootIn m))) ∙ part-first m (rootIn m) ∙ one in
+      open-root a b p r d l ea fa eb fb p-is r-is one ed fd =
+          let x = found (heightIn m - 1) (readNode fanout (heightIn m - 1) m 0 (rootIn m)) c count-is s in
+          let q = node-polygon (heightIn m - 1) m 0 (rootIn m) (x .node) (x .read) in
+          let o : rectCount (part m (rootIn m)) ≡ 1 = sym (r-is ∙ ap rectCount (p-is ∙ ap (part m) k-is)) ∙ one in
+          let w : length (x .node .poly) ≡ 1 = ap length q ∙ length-rects (drop 2 (part m (rootIn m))) (rectCount (part m (rootIn m))) ∙ o in
           record {
             tree = treeOf fanout (heightIn m - 1) (x .node);
             reads = make-reading fanout m (treeOf fanout (heightIn m - 1) (x .node)) (record {
-              right = r;
-              height-is = omega arith;
+              right = l;
+              height-is = (let n = not-empty in omega arith);
               root-node = x .read;
               bits = sym (x .count) ∙ fb ∙ eb;
-              head-zero = ap allZero (sym (head-rest m)) ∙ sym ea ∙ fa;
+              head-zero = sym ea ∙ fa;
               others-zero = sym ed ∙ fd;
-              tested = sound-root (heightIn m - 1) (x .node) (x .sound) l;
+              tested = sound-root (heightIn m - 1) (x .node) (x .sound) w;
             });
             level-is = refl;
             root-is = refl;
           }
+
+      pub open-tree : (a : Bool) (b : ℕ) (p : List ℕ) (r : ℕ) (d : Bool) → rightLength m ≡ true → a ≡ allZero (drop 10 (take 64 m)) → a ≡ true → b ≡ bitsSet m → c ≡ b
+          → p ≡ part m k → r ≡ rectCount p → r ≡ 1 → d ≡ othersZero m (partsOf m) → d ≡ true → TreeIn m (g - 1) k
+      open-tree a b p r d l ea fa eb fb p-is r-is one ed fd = rw (g-is, k-is) (open-root a b p r d l ea fa eb fb p-is r-is one ed fd)

@@ -6,25 +6,24 @@ use mathlib.Core.List.{List, [], _∷_, _++_}
 use native.Mathlib.Omega.{arith}
 use borrow.Author.Tests.{eq-eqb, ne-eqb}
 use lib.Dec.{eqb}
-use lib.ListN.{getD}
 use Rattle.geometry.specs.declared.rect.Cell.{Cell}
 use Rattle.plane.specs.Lines.{CellEntry}
-use Rattle.memory.specs.Layout.{part, itemCount, entryIn, polygonIn}
+use Rattle.memory.specs.Layout.{part, itemCount, entryIn, polygonIn, childAt, countAt}
 use Rattle.index.specs.declared.walk.Found.{Found}
-use Rattle.index.specs.Walks.{hasTest, cellTest, visitsBelow, leafEntries, Walkable, found, foundOf, joined, childAt, countAt, heldBelow, partAt}
+use Rattle.index.specs.Walks.{hasTest, cellTest, visitsBelow, leafEntries, Walkable, found, foundOf, joined, heldBelow}
 use Rattle.index.proofs.WalkLeaf.{AtEntry, entry-hit}
-use Rattle.index.proofs.WalkRows.{leaf-visits, leaf-entries, part-is}
+use Rattle.index.proofs.WalkRows.{leaf-visits, leaf-entries}
 use Rattle.index.proofs.WalkLoop.{AtChild, child-start, child-miss, child-hit, end-visits, end-entries, so-far-few}
 
 -- an entry's test, coordinate by coordinate
-module _ (p : List ℕ) (i : ℕ) (c : Cell) where
-  pub other-x : (getD p (66 + 3 * i) 0 ≡ c .x → ⊥) → false ≡ cellTest c (entryIn p i)
-  unfolding cellTest entryIn
-  other-x h = rw (ne-eqb (getD p (66 + 3 * i) 0) (c .x) h)
+module _ (e : CellEntry) (d c : Cell) (q : d ≡ e .cell) where
+  pub other-x : (d .x ≡ c .x → ⊥) → false ≡ cellTest c e
+  unfolding cellTest
+  other-x h = rw (← q, ne-eqb (d .x) (c .x) h)
 
-  pub same-x : getD p (66 + 3 * i) 0 ≡ c .x → eqb (getD p (66 + 3 * i + 1) 0) (c .y) ≡ cellTest c (entryIn p i)
-  unfolding cellTest entryIn
-  same-x h = rw (eq-eqb (getD p (66 + 3 * i) 0) (c .x) h)
+  pub same-x : d .x ≡ c .x → eqb (d .y) (c .y) ≡ cellTest c e
+  unfolding cellTest
+  same-x h = rw (← q, eq-eqb (d .x) (c .x) h)
 
 -- what two walks found, taken apart by whether the first found an entry
 module _ (a b : Found) where
@@ -49,11 +48,11 @@ found-visits [] v = refl
 found-visits (e ∷ es) v = refl
 
 -- the leaf: the first entry that passes, or none
-module _ (c : Cell) (p : List ℕ) (i : ℕ) (a : AtEntry (cellTest c) p i []) where
-  pub leaf-held : (b : Bool) → i < itemCount p → b ≡ cellTest c (entryIn p i) → b ≡ true
-      → record { held = true; tag = getD p (66 + 3 * i + 2) 0; visits = 1 } ≡ found (leafEntries (cellTest c) p) 1
-  unfolding found foundOf entryIn
-  leaf-held b h e f = rw (← (entry-hit (cellTest c) p i [] a h b e f .entries))
+module _ (c : Cell) (p : List ℕ) (n i : ℕ) (a : AtEntry (cellTest c) p n i []) where
+  pub leaf-held : (b : Bool) (t : ℕ) → i < n → b ≡ cellTest c (entryIn p i) → b ≡ true → t ≡ entryIn p i .tag
+      → record { held = true; tag = t; visits = 1 } ≡ found (leafEntries (cellTest c) p) 1
+  unfolding found foundOf
+  leaf-held b t h e f g = rw (g, ← (entry-hit (cellTest c) p n i [] a h b e f .entries))
 
   pub leaf-not-held : [] ≡ leafEntries (cellTest c) p → record { held = false; tag = 0; visits = 1 } ≡ found (leafEntries (cellTest c) p) 1
   unfolding found foundOf
@@ -61,49 +60,49 @@ module _ (c : Cell) (p : List ℕ) (i : ℕ) (a : AtEntry (cellTest c) p i []) w
 
 module _ (c : Cell) (level : ℕ) (m : List ℕ) (lo k : ℕ) where
   -- a node that is a leaf
-  pub point-leaf : (r : Found) → level ≡ 0 → Walkable level m lo k → r ≡ found (leafEntries (cellTest c) (partAt m k)) 1
+  pub point-leaf : (p : List ℕ) (r : Found) → level ≡ 0 → Walkable level m lo k → p ≡ part m k → r ≡ found (leafEntries (cellTest c) p) 1
       → r ≡ found (heldBelow c level m lo k) (visitsBelow (hasTest c) level m lo k)
-  point-leaf r z v e =
+  point-leaf p r z v q e =
       let v′ : Walkable 0 m lo k = rw z at v in
-      rw (z, leaf-entries (hasTest c) (cellTest c) m lo k v′, leaf-visits (hasTest c) (cellTest c) m lo k v′, ← (part-is 0 m lo k v′)) e
+      rw (z, leaf-entries (hasTest c) (cellTest c) m lo k v′, leaf-visits (hasTest c) (cellTest c) m lo k v′, ← q) e
 
 -- Before the i-th child: the walk so far found what stands in a.
-pub record PointLoop (c : Cell) (level : ℕ) (m : List ℕ) (lo k i low : ℕ) (a : Found) : Type 0 where
+pub record PointLoop (c : Cell) (level : ℕ) (m : List ℕ) (lo k n i low : ℕ) (a : Found) : Type 0 where
   pub es : List CellEntry
-  pub at : AtChild (hasTest c) (cellTest c) level m lo k i low (a .visits) es
+  pub at : AtChild (hasTest c) (cellTest c) level m lo k n i low (a .visits) es
   pub so-far : a ≡ found es (a .visits)
 
-module _ (c : Cell) (level : ℕ) (m : List ℕ) (lo k : ℕ) where
-  pub point-start : (level ≡ 0 → ⊥) → Walkable level m lo k → PointLoop c level m lo k 0 lo (record { held = false; tag = 0; visits = 1 })
+module _ (c : Cell) (level : ℕ) (m : List ℕ) (lo k n : ℕ) where
+  pub point-start : (level ≡ 0 → ⊥) → Walkable level m lo k → n ≡ countAt m k → PointLoop c level m lo k n 0 lo (record { held = false; tag = 0; visits = 1 })
   unfolding found foundOf
-  point-start ne v = record { es = []; at = child-start (hasTest c) (cellTest c) level m lo k ne v; so-far = refl }
+  point-start ne v q = record { es = []; at = child-start (hasTest c) (cellTest c) level m lo k n ne v q; so-far = refl }
 
-  module _ (i low : ℕ) (a : Found) (x : PointLoop c level m lo k i low a) where
-    pub point-end : countAt m k ≤ i → a ≡ found (heldBelow c level m lo k) (visitsBelow (hasTest c) level m lo k)
+  module _ (i low : ℕ) (a : Found) (x : PointLoop c level m lo k n i low a) where
+    pub point-end : n ≤ i → a ≡ found (heldBelow c level m lo k) (visitsBelow (hasTest c) level m lo k)
     point-end h =
-        x .so-far ∙ ap (λ l. found l (a .visits)) (end-entries (hasTest c) (cellTest c) level m lo k i low (a .visits) (x .es) (x .at) h)
-        ∙ ap (found (heldBelow c level m lo k)) (end-visits (hasTest c) (cellTest c) level m lo k i low (a .visits) (x .es) (x .at) h)
+        x .so-far ∙ ap (λ l. found l (a .visits)) (end-entries (hasTest c) (cellTest c) level m lo k n i low (a .visits) (x .es) (x .at) h)
+        ∙ ap (found (heldBelow c level m lo k)) (end-visits (hasTest c) (cellTest c) level m lo k n i low (a .visits) (x .es) (x .at) h)
 
-    module _ (h : i < countAt m k) (b : Bool) (e : b ≡ hasTest c (polygonIn (part m (childAt m k i)))) where
-      pub point-miss : (a′ : Found) → b ≡ false → a′ ≡ a → PointLoop c level m lo k (i + 1) (childAt m k i + 1) a′
-      point-miss a′ f q = rw q (record { es = x .es; at = child-miss (hasTest c) (cellTest c) level m lo k i low (a .visits) (x .es) (x .at) h b e f; so-far = x .so-far })
+    module _ (h : i < n) (j : ℕ) (j-is : j ≡ childAt m k i) (b : Bool) (e : b ≡ hasTest c (polygonIn (part m j))) where
+      pub point-miss : (a′ : Found) → b ≡ false → a′ ≡ a → PointLoop c level m lo k n (i + 1) (j + 1) a′
+      point-miss a′ f q = rw q (record { es = x .es; at = child-miss (hasTest c) (cellTest c) level m lo k n i low (a .visits) (x .es) (x .at) h j j-is b e f; so-far = x .so-far })
 
-      module _ (f : b ≡ true) (d : Found) (g : d ≡ found (heldBelow c (level - 1) m low (childAt m k i)) (visitsBelow (hasTest c) (level - 1) m low (childAt m k i))) where
-        next-at : AtChild (hasTest c) (cellTest c) level m lo k (i + 1) (childAt m k i + 1) (a .visits + d .visits)
-            (x .es ++ heldBelow c (level - 1) m low (childAt m k i))
+      module _ (f : b ≡ true) (d : Found) (g : d ≡ found (heldBelow c (level - 1) m low (j)) (visitsBelow (hasTest c) (level - 1) m low (j))) where
+        next-at : AtChild (hasTest c) (cellTest c) level m lo k n (i + 1) (j + 1) (a .visits + d .visits)
+            (x .es ++ heldBelow c (level - 1) m low (j))
         next-at =
-            let q : d .visits ≡ visitsBelow (hasTest c) (level - 1) m low (childAt m k i) = ap (λ r. r .visits) g ∙ found-visits _ _ in
-            rw q (child-hit (hasTest c) (cellTest c) level m lo k i low (a .visits) (x .es) (x .at) h b e f)
+            let q : d .visits ≡ visitsBelow (hasTest c) (level - 1) m low (j) = ap (λ r. r .visits) g ∙ found-visits _ _ in
+            rw q (child-hit (hasTest c) (cellTest c) level m lo k n i low (a .visits) (x .es) (x .at) h j j-is b e f)
 
         pub point-room : a .visits + d .visits ≤ 4294967295
-        point-room = let q = so-far-few (hasTest c) (cellTest c) level m lo k _ _ _ _ next-at in omega arith
+        point-room = let q = so-far-few (hasTest c) (cellTest c) level m lo k _ _ _ _ _ next-at in omega arith
 
-        pub point-hit : (r a′ : Found) → r ≡ joined a d → a′ ≡ r → PointLoop c level m lo k (i + 1) (childAt m k i + 1) a′
+        pub point-hit : (r a′ : Found) → r ≡ joined a d → a′ ≡ r → PointLoop c level m lo k n (i + 1) (j + 1) a′
         point-hit r a′ y z =
-            let j = z ∙ y in
-            let q : d .visits ≡ visitsBelow (hasTest c) (level - 1) m low (childAt m k i) = ap (λ r. r .visits) g ∙ found-visits _ _ in
-            let p : a′ ≡ found (x .es ++ heldBelow c (level - 1) m low (childAt m k i)) (a .visits + d .visits) =
-            j ∙ ap (λ r. joined r d) (x .so-far) ∙ ap (joined (found (x .es) (a .visits))) g ∙ found-append (x .es) (heldBelow c (level - 1) m low (childAt m k i)) (a .visits) _
-            ∙ ap (λ w. found (x .es ++ heldBelow c (level - 1) m low (childAt m k i)) (a .visits + w)) (sym q) in
+            let r-is = z ∙ y in
+            let q : d .visits ≡ visitsBelow (hasTest c) (level - 1) m low (j) = ap (λ r. r .visits) g ∙ found-visits _ _ in
+            let p : a′ ≡ found (x .es ++ heldBelow c (level - 1) m low (j)) (a .visits + d .visits) =
+            r-is ∙ ap (λ r. joined r d) (x .so-far) ∙ ap (joined (found (x .es) (a .visits))) g ∙ found-append (x .es) (heldBelow c (level - 1) m low (j)) (a .visits) _
+            ∙ ap (λ w. found (x .es ++ heldBelow c (level - 1) m low (j)) (a .visits + w)) (sym q) in
             let w : a′ .visits ≡ a .visits + d .visits = ap (λ r. r .visits) p ∙ found-visits _ _ in
-            record { es = x .es ++ heldBelow c (level - 1) m low (childAt m k i); at = rw w next-at; so-far = p ∙ ap (found _) (sym w) }
+            record { es = x .es ++ heldBelow c (level - 1) m low (j); at = rw w next-at; so-far = p ∙ ap (found _) (sym w) }

@@ -11,10 +11,11 @@ use Rattle.tree.specs.Lists.{keep}
 use Rattle.plane.specs.Lines.{CellEntry}
 use Rattle.memory.specs.Layout.{rightLength, part, polygonIn}
 use Rattle.memory.specs.Reading.{reading}
+use Rattle.memory.specs.Fanout.{fanout}
 use Rattle.index.specs.declared.answer.PointFound.{PointFound}
 use Rattle.index.specs.declared.answer.PointFound.the-variants.{Held, NotHeld, WrongLength, OffGrid, NoTree}
 use Rattle.index.specs.declared.walk.Found.{Found}
-use Rattle.index.specs.Answers.{fanout, pointEnd, pointRead, pointAnswer}
+use Rattle.index.specs.Answers.{pointEnd, pointRead, pointAnswer}
 use Rattle.index.specs.declared.opening.Opened.{Opened}
 use Rattle.index.specs.declared.opening.Opened.the-variants as O
 use Rattle.index.specs.Open.{OpenedAs, TreeIn}

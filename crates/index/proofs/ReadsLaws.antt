@@ -1,6 +1,6 @@
 -- A memory that reads as an index: what it is opened as, and the calls that keep it so.
 use Prim.Native.Nat.{ℕ, _-_, _≤_}
-use mathlib.Core.Path.{_≡_, refl, ap, _∙_}
+use mathlib.Core.Path.{_≡_, refl, sym, ap, _∙_}
 use mathlib.Core.Bool.{true}
 use mathlib.Core.List.{List}
 use mathlib.Core.Option.{none, some}
@@ -13,13 +13,14 @@ use Rattle.plane.specs.Plane.{planeSpace, planeRoot}
 use Rattle.memory.specs.Layout.{partsOf, rightLength, heightIn, rootIn}
 use Rattle.memory.specs.Reading.{reading}
 use Rattle.memory.proofs.ReadingLaws.{right-length, length-right, zeros-zero, zeros-read, zero-at, read-empty, read-as}
+use Rattle.memory.specs.Fanout.{fanout}
 use Rattle.index.specs.declared.answer.Inserted.{Inserted}
 use Rattle.index.specs.declared.answer.Inserted.the-variants as I
 use Rattle.index.specs.declared.answer.Removed.{Removed}
 use Rattle.index.specs.declared.answer.Removed.the-variants as R
 use Rattle.index.specs.declared.opening.Opened.{Opened}
 use Rattle.index.specs.declared.opening.Opened.the-variants as O
-use Rattle.index.specs.Answers.{fanout, PlaneIndex, cleared}
+use Rattle.index.specs.Answers.{PlaneIndex, cleared}
 use Rattle.index.specs.Open.{TreeIn, OpenedAs, Reads}
 use Rattle.index.specs.Changes.{insertedIndex, InsertMemory, InsertCall, removedIndex, RemoveMemory, RemoveCall}
 
@@ -41,21 +42,21 @@ reads-opened m O.Empty p n = record { index = none; reads = p }
 reads-opened m (O.Tree level root) p n = record { index = some (p .tree); reads = p .reads }
 
 -- its height tells the empty index from a tree
-pub reopen-empty : (m : List ℕ) → Reads m → heightIn m ≡ 0 → reading fanout m ≡ some none
-reopen-empty m v h = go (v .index) (v .reads)
+pub reopen-empty : (m : List ℕ) (g : ℕ) → Reads m → g ≡ heightIn m → g ≡ 0 → reading fanout m ≡ some none
+reopen-empty m g v g-is h = go (v .index) (v .reads)
   where
     go : (i : PlaneIndex) → reading fanout m ≡ some i → reading fanout m ≡ some none
     go none e = e
     go (some t) e = let x = read-as fanout m t e .height-is in absurd (omega arith)
 
-pub reopen-tree : (m : List ℕ) → Reads m → (heightIn m ≡ 0 → ⊥) → TreeIn m (heightIn m - 1) (rootIn m)
-reopen-tree m v n = go (v .index) (v .reads)
+pub reopen-tree : (m : List ℕ) (g k : ℕ) → Reads m → g ≡ heightIn m → (g ≡ 0 → ⊥) → k ≡ rootIn m → TreeIn m (g - 1) k
+reopen-tree m g k v g-is n k-is = go (v .index) (v .reads)
   where
-    go : (i : PlaneIndex) → reading fanout m ≡ some i → TreeIn m (heightIn m - 1) (rootIn m)
-    go none e = absurd (n (zero-at m 8 (read-empty fanout m e .1)))
+    go : (i : PlaneIndex) → reading fanout m ≡ some i → TreeIn m (g - 1) k
+    go none e = absurd (n (g-is ∙ zero-at m 8 (read-empty fanout m e .1)))
     go (some t) e =
         let x = read-as fanout m t e .height-is in
-        record { tree = t; reads = e; level-is = omega arith; root-is = refl }
+        record { tree = t; reads = e; level-is = omega arith; root-is = sym k-is }
 
 -- clearing leaves the empty index
 pub cleared-reads : (m : List ℕ) → rightLength m ≡ true → Reads (cleared m)

@@ -16,11 +16,11 @@ use Rattle.plane.specs.Plane.{planeSpace, planeRoot}
 use Rattle.plane.specs.Windows.{planeWindow}
 use Rattle.plane.proofs.Rects.{plane-space-laws}
 use Rattle.plane.proofs.Windows.{plane-window-laws}
-use Rattle.memory.specs.Layout.{rootIn, part, polygonIn}
+use Rattle.memory.specs.Layout.{rootIn, part, polygonIn, PolygonPart}
 use Rattle.memory.proofs.ReadingLaws.{read-as, read-sound}
-use Rattle.index.specs.Answers.{fanout, matchesIn}
+use Rattle.memory.specs.Fanout.{fanout}
+use Rattle.index.specs.Answers.{matchesIn}
 use Rattle.index.specs.Open.{TreeIn}
-use Rattle.index.specs.Check.{PolygonPart}
 use Rattle.index.specs.Walks.{hasTest, cellTest, meetsTest, insideTest, visitsFrom, visitsBelow, entriesFrom, entriesBelow, Walkable, heldBelow, matchesBelow}
 use Rattle.index.proofs.WalkRows.{walkable, walk-polygon, polygon-is}
 

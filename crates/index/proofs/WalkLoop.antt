@@ -11,11 +11,10 @@ use lib.ListN.{length, drop, getD, drop-of-length-le}
 use lib.Seq.{drop-cons, getD-take, getD-drop}
 use Rattle.geometry.specs.declared.rect.Rect.{Rect}
 use Rattle.plane.specs.Lines.{CellEntry}
-use Rattle.memory.specs.Layout.{part, itemCount, polygonIn, childrenIn}
+use Rattle.memory.specs.Layout.{part, itemCount, polygonIn, childrenIn, childAt, countAt, PolygonPart}
 use Rattle.memory.proofs.ReadingLaws.{node-below, children-length}
-use Rattle.index.specs.Answers.{fanout}
-use Rattle.index.specs.Check.{PolygonPart}
-use Rattle.index.specs.Walks.{visitsBelow, entriesBelow, Walkable, childAt, countAt}
+use Rattle.memory.specs.Fanout.{fanout}
+use Rattle.index.specs.Walks.{visitsBelow, entriesBelow, Walkable}
 use Rattle.index.proofs.WalkParts.{part-at}
 use Rattle.index.proofs.WalkRows.{RowWalkable, visitsRow, entriesRow, RowStep, row-step, row-no-visits, row-no-entries, node-row, node-visits, node-entries, walk-polygon, visits-few}
 
@@ -40,72 +39,79 @@ module _ (n : ℕ) (m : List ℕ) (lo k : ℕ) (v : Walkable n m lo k) where
       ∙ ap (λ j. getD m j 0) (let q : 64 + 128 * k + (66 + i) ≡ 64 + 128 * k + 66 + i = omega arith in q) in
       drop-cons (childrenIn (part m k)) i 0 s ∙ rw (at, add-one)
 
--- Before the i-th child of the node at part k: the walk so far made vs visits and found es, and low is the child's lower end.
-pub record AtChild (t : List Rect → Bool) (u : CellEntry → Bool) (level : ℕ) (m : List ℕ) (lo k i low vs : ℕ) (es : List CellEntry) : Type 0 where
-  pub i-le : i ≤ countAt m k
+-- Before the i-th of the n children of the node at part k: the walk so far made vs visits and found es, and low is the child's lower end.
+pub record AtChild (t : List Rect → Bool) (u : CellEntry → Bool) (level : ℕ) (m : List ℕ) (lo k n i low vs : ℕ) (es : List CellEntry) : Type 0 where
+  pub count : n ≡ countAt m k
+  pub i-le : i ≤ n
   pub walkable : Walkable level m lo k
   pub row : RowWalkable (level - 1) m low k (drop i (childrenIn (part m k)))
   pub visits : vs + visitsRow t (level - 1) m low k (drop i (childrenIn (part m k))) ≡ visitsBelow t level m lo k
   pub entries : es ++ entriesRow t u (level - 1) m low k (drop i (childrenIn (part m k))) ≡ entriesBelow t u level m lo k
 
 module _ (t : List Rect → Bool) (u : CellEntry → Bool) where
-  pub child-start : (level : ℕ) (m : List ℕ) (lo k : ℕ) → (level ≡ 0 → ⊥) → Walkable level m lo k → AtChild t u level m lo k 0 lo 1 []
-  child-start zero m lo k ne v = absurd (ne refl)
-  child-start (suc n) m lo k ne v =
-      let e : suc n - 1 ≡ n = omega arith in
+  pub child-start : (level : ℕ) (m : List ℕ) (lo k n : ℕ) → (level ≡ 0 → ⊥) → Walkable level m lo k → n ≡ countAt m k → AtChild t u level m lo k n 0 lo 1 []
+  child-start zero m lo k n ne v c = absurd (ne refl)
+  child-start (suc l) m lo k n ne v c =
+      let e : suc l - 1 ≡ l = omega arith in
       record {
+        count = c;
         i-le = omega arith;
         walkable = v;
-        row = rw e (node-row t u n m lo k v);
-        visits = rw e (sym (node-visits t u n m lo k v));
-        entries = rw e (sym (node-entries t u n m lo k v));
+        row = rw e (node-row t u l m lo k v);
+        visits = rw e (sym (node-visits t u l m lo k v));
+        entries = rw e (sym (node-entries t u l m lo k v));
       }
 
-  module _ (level : ℕ) (m : List ℕ) (lo k i low vs : ℕ) (es : List CellEntry) (a : AtChild t u level m lo k i low vs es) where
-    nothing-left : countAt m k ≤ i → drop i (childrenIn (part m k)) ≡ []
+  module _ (level : ℕ) (m : List ℕ) (lo k n i low vs : ℕ) (es : List CellEntry) (a : AtChild t u level m lo k n i low vs es) where
+    nothing-left : n ≤ i → drop i (childrenIn (part m k)) ≡ []
     nothing-left h =
         let c = children-count level m lo k (a .walkable) in
+        let d = a .count in
         let s : length (childrenIn (part m k)) ≤ i = omega arith in
         drop-of-length-le (childrenIn (part m k)) s
 
-    pub end-visits : countAt m k ≤ i → vs ≡ visitsBelow t level m lo k
+    pub end-visits : n ≤ i → vs ≡ visitsBelow t level m lo k
     end-visits h =
         let e = rw (nothing-left h, row-no-visits t u (level - 1) m low k) at (a .visits) in
         omega arith
 
-    pub end-entries : countAt m k ≤ i → es ≡ entriesBelow t u level m lo k
+    pub end-entries : n ≤ i → es ≡ entriesBelow t u level m lo k
     end-entries h = sym (append-nil es) ∙ (rw (nothing-left h, row-no-entries t u (level - 1) m low k) at (a .entries))
 
-    module _ (h : i < countAt m k) where
-      step : RowStep t u (level - 1) m low k (childAt m k i) (drop (i + 1) (childrenIn (part m k)))
-      step = row-step t u (level - 1) m low k _ _ (rw (next-child level m lo k (a .walkable) i h) at (a .row))
+    module _ (h : i < n) (j : ℕ) (g : j ≡ childAt m k i) where
+      next : drop i (childrenIn (part m k)) ≡ j ∷ drop (i + 1) (childrenIn (part m k))
+      next = rw g (next-child level m lo k (a .walkable) i (rw (a .count) at h))
 
-      pub child-walkable : Walkable (level - 1) m low (childAt m k i)
+      step : RowStep t u (level - 1) m low k (j) (drop (i + 1) (childrenIn (part m k)))
+      step = row-step t u (level - 1) m low k _ _ (rw next at (a .row))
+
+      pub child-walkable : Walkable (level - 1) m low (j)
       child-walkable = step .child
 
-      pub child-polygon : PolygonPart m (childAt m k i)
+      pub child-polygon : PolygonPart m (j)
       child-polygon = walk-polygon (level - 1) m low _ child-walkable
 
-      pub child-below : childAt m k i < k
+      pub child-below : j < k
       child-below = step .below
 
-      pub child-fits : Fits w32 (childAt m k i + 1)
+      pub child-fits : Fits w32 (j + 1)
       child-fits = let b = child-below in let v = a .walkable .below in omega arith
 
-      whole-visits : vs + (cond (t (polygonIn (part m (childAt m k i)))) (visitsBelow t (level - 1) m low (childAt m k i)) 0
-          + visitsRow t (level - 1) m (childAt m k i + 1) k (drop (i + 1) (childrenIn (part m k)))) ≡ visitsBelow t level m lo k
-      whole-visits = ap (λ w. vs + w) (sym (step .visits)) ∙ (rw (next-child level m lo k (a .walkable) i h) at (a .visits))
+      whole-visits : vs + (cond (t (polygonIn (part m (j)))) (visitsBelow t (level - 1) m low (j)) 0
+          + visitsRow t (level - 1) m (j + 1) k (drop (i + 1) (childrenIn (part m k)))) ≡ visitsBelow t level m lo k
+      whole-visits = ap (λ w. vs + w) (sym (step .visits)) ∙ (rw next at (a .visits))
 
-      whole-entries : es ++ (cond (t (polygonIn (part m (childAt m k i)))) (entriesBelow t u (level - 1) m low (childAt m k i)) []
-          ++ entriesRow t u (level - 1) m (childAt m k i + 1) k (drop (i + 1) (childrenIn (part m k)))) ≡ entriesBelow t u level m lo k
-      whole-entries = ap (λ w. es ++ w) (sym (step .entries)) ∙ (rw (next-child level m lo k (a .walkable) i h) at (a .entries))
+      whole-entries : es ++ (cond (t (polygonIn (part m (j)))) (entriesBelow t u (level - 1) m low (j)) []
+          ++ entriesRow t u (level - 1) m (j + 1) k (drop (i + 1) (childrenIn (part m k)))) ≡ entriesBelow t u level m lo k
+      whole-entries = ap (λ w. es ++ w) (sym (step .entries)) ∙ (rw next at (a .entries))
 
-      module _ (b : Bool) (e : b ≡ t (polygonIn (part m (childAt m k i)))) where
+      module _ (b : Bool) (e : b ≡ t (polygonIn (part m (j)))) where
         -- a child whose polygon does not pass is passed over
-        pub child-miss : b ≡ false → AtChild t u level m lo k (i + 1) (childAt m k i + 1) vs es
+        pub child-miss : b ≡ false → AtChild t u level m lo k n (i + 1) (j + 1) vs es
         child-miss f =
             let z = rw (← e, f) at whole-visits in
             record {
+              count = a .count;
               i-le = omega arith;
               walkable = a .walkable;
               row = step .others;
@@ -114,11 +120,12 @@ module _ (t : List Rect → Bool) (u : CellEntry → Bool) where
             }
 
         -- a child whose polygon passes is entered
-        pub child-hit : b ≡ true → AtChild t u level m lo k (i + 1) (childAt m k i + 1)
-            (vs + visitsBelow t (level - 1) m low (childAt m k i)) (es ++ entriesBelow t u (level - 1) m low (childAt m k i))
+        pub child-hit : b ≡ true → AtChild t u level m lo k n (i + 1) (j + 1)
+            (vs + visitsBelow t (level - 1) m low (j)) (es ++ entriesBelow t u (level - 1) m low (j))
         child-hit f =
             let z = rw (← e, f) at whole-visits in
             record {
+              count = a .count;
               i-le = omega arith;
               walkable = a .walkable;
               row = step .others;

@@ -5,8 +5,6 @@ use mathlib.Core.Bool.{Bool, true, false, cond}
 use mathlib.Core.List.{List, [], _∷_, _++_, flatMap}
 use mathlib.Core.Option.{Option, none, some}
 use native.Mathlib.Omega.{arith}
-use mir.Syntax.{w64}
-use mir.Val.{Fits}
 use lib.ListN.{length, length-append}
 use Rattle.geometry.specs.declared.rect.Rect.{Rect}
 use Rattle.tree.specs.Lists.{keep, total}
@@ -15,12 +13,11 @@ use Rattle.tree.specs.Walk.{nodeWalkVisits, nodeWalkEntries}
 use Rattle.tree.proofs.Counts.{length-keep}
 use Rattle.plane.specs.Lines.{CellEntry}
 use Rattle.plane.specs.Plane.{planeSpace}
-use Rattle.memory.specs.Layout.{rightLength, part, rectCount, itemCount, polygonIn, entriesIn, childrenIn}
+use Rattle.memory.specs.Layout.{rightLength, part, rectCount, itemCount, polygonIn, entriesIn, childrenIn, countAt, NodePart, PolygonPart}
 use Rattle.memory.specs.Reading.{readRow, readNode}
 use Rattle.memory.proofs.ReadingLaws.{row-parts, fits-as, leaf-parts, node-parts, node-below, entries-length, part-length, length-right}
-use Rattle.index.specs.Answers.{fanout}
-use Rattle.index.specs.Check.{NodePart, PolygonPart}
-use Rattle.index.specs.Walks.{visitsFrom, visitsBelow, entriesFrom, entriesBelow, leafEntries, Walkable, countAt, partAt}
+use Rattle.memory.specs.Fanout.{fanout}
+use Rattle.index.specs.Walks.{visitsFrom, visitsBelow, entriesFrom, entriesBelow, leafEntries, Walkable}
 use Rattle.index.proofs.WalkParts.{part-at}
 
 -- A row of children in a memory of a right length reads.
@@ -63,17 +60,9 @@ module _ (n : ℕ) (m : List ℕ) (lo k : ℕ) (v : Walkable n m lo k) where
   pub walk-polygon : PolygonPart m k
   walk-polygon = record { below = node-below fanout m n lo k (v .node) (v .reads); few-rects = polygon-few n m lo k (v .node) (v .reads) }
 
-  pub items-fit : Fits w64 (countAt m k)
-  items-fit = let f = v .few in omega arith
-
-  -- the numbers in place are the part
-  pub part-is : partAt m k ≡ part m k
-  unfolding part
-  part-is = let e : 64 + 128 * k + 128 - (64 + 128 * k) ≡ 128 = omega arith in rw e
-
-  -- a node whose leaves are itself is a leaf
-  pub leaf-part : NodePart (partAt m k)
-  leaf-part = rw part-is (record {
+  -- its counts fit
+  pub node-part : (p : List ℕ) → p ≡ part m k → NodePart p
+  node-part p e = rw e (record {
     length-is = part-length m k (node-below fanout m n lo k (v .node) (v .reads));
     few-rects = polygon-few n m lo k (v .node) (v .reads);
     few-items = items-few n m lo k (v .node) (v .reads);

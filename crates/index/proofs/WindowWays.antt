@@ -19,10 +19,11 @@ use Rattle.plane.specs.Windows.{planeWindow}
 use Rattle.memory.specs.Layout.{rightLength, part, polygonIn}
 use Rattle.memory.specs.Reading.{reading}
 use Rattle.memory.specs.Image.{entryNumbers}
+use Rattle.memory.specs.Fanout.{fanout}
 use Rattle.index.specs.declared.answer.WindowFound.{WindowFound}
 use Rattle.index.specs.declared.answer.WindowFound.the-variants.{Found, ShortList, WrongLength, BadWindow, NoTree}
 use Rattle.index.specs.declared.window_query.Matched.{Matched}
-use Rattle.index.specs.Answers.{fanout, matchesIn, windowRead, windowWritten, windowAnswer, windowList}
+use Rattle.index.specs.Answers.{matchesIn, windowRead, windowWritten, windowAnswer, windowList}
 use Rattle.index.specs.declared.opening.Opened.{Opened}
 use Rattle.index.specs.declared.opening.Opened.the-variants as O
 use Rattle.index.specs.Open.{OpenedAs, TreeIn}

@@ -4,20 +4,25 @@ use mathlib.Core.Path.{_≡_, refl, sym, ap, _∙_}
 use mathlib.Core.Bool.{Bool, true, false}
 use mathlib.Core.List.{List, [], _∷_, _++_}
 use native.Mathlib.Omega.{arith}
-use mir.Syntax.{w64}
-use mir.Val.{Fits}
-use lib.ListN.{length, getD, length-append, length-set}
+use lib.ListN.{length, set, length-append, length-set}
+use Rattle.geometry.specs.declared.rect.Cell.{Cell}
 use Rattle.geometry.specs.declared.rect.Rect.{Rect}
 use Rattle.plane.specs.Lines.{CellEntry}
-use Rattle.memory.specs.Layout.{part, itemCount, entryIn, polygonIn}
-use Rattle.index.specs.Walks.{meetsTest, insideTest, leafEntries, Walkable, putEntry, putEntries, Listed, LeafRoom, WalkRoom, childAt, countAt, matchesBelow, partAt}
+use Rattle.memory.specs.Layout.{part, itemCount, entryIn, polygonIn, childAt, countAt}
+use Rattle.index.specs.Walks.{meetsTest, insideTest, leafEntries, Walkable, putEntry, putEntries, Listed, LeafRoom, WalkRoom, matchesBelow}
 use Rattle.index.proofs.WalkLeaf.{AtEntry, entry-start, entry-miss, entry-hit, entry-end}
-use Rattle.index.proofs.WalkRows.{leaf-entries, part-is, leaf-part}
+use Rattle.index.proofs.WalkRows.{leaf-entries, node-part}
 use Rattle.index.proofs.WalkLoop.{AtChild, child-start, child-miss, child-hit, end-entries, child-walkable}
 
 pub length-put : (l : List ℕ) (at : ℕ) (e : CellEntry) → length (putEntry l at e) ≡ length l
 unfolding putEntry
 length-put l at e = simp length-set
+
+-- an entry's numbers, written one by one
+pub put-is : (l : List ℕ) (at : ℕ) (e : CellEntry) (c : Cell) (t : ℕ) → c ≡ e .cell → t ≡ e .tag
+    → set (set (set l (3 * at) (c .x)) (3 * at + 1) (c .y)) (3 * at + 2) t ≡ putEntry l at e
+unfolding putEntry
+put-is l at e c t c-is t-is = rw (c-is, t-is)
 
 -- entries put in two goes
 put-append : (l : List ℕ) (at : ℕ) (es fs : List CellEntry) → putEntries l at (es ++ fs) ≡ putEntries (putEntries l at es) (at + length es) fs
@@ -50,41 +55,38 @@ one-more : (l : List ℕ) (next : ℕ) (e : CellEntry) (l′ : List ℕ) → l�
 one-more l next e l′ q = record { next-is = refl; list = q ∙ sym (put-one l next e); same-length = ap length q ∙ length-put l next e }
 
 -- Before the i-th entry of a leaf: those in the window that were passed are written.
-pub record WriteLeaf (w : Rect) (p l₀ : List ℕ) (at₀ i : ℕ) (l : List ℕ) (next : ℕ) : Type 0 where
+pub record WriteLeaf (w : Rect) (p : List ℕ) (n : ℕ) (l₀ : List ℕ) (at₀ i : ℕ) (l : List ℕ) (next : ℕ) : Type 0 where
   pub es : List CellEntry
-  pub at : AtEntry (insideTest w) p i es
+  pub at : AtEntry (insideTest w) p n i es
   pub room : 3 * (at₀ + length (leafEntries (insideTest w) p)) ≤ length l₀
   pub fits : 3 * next ≤ length l
   pub so-far : Listed l₀ at₀ es l next
 
-module _ (w : Rect) (p l₀ : List ℕ) (at₀ : ℕ) where
-  pub leaf-room-fits : LeafRoom p w l₀ at₀ → Fits w64 (getD p 1 0)
-  leaf-room-fits v = let f = v .leaf .few-items in omega arith
+module _ (w : Rect) (p : List ℕ) (n : ℕ) (l₀ : List ℕ) (at₀ : ℕ) where
+  pub write-start : LeafRoom p w l₀ at₀ → n ≡ itemCount p → WriteLeaf w p n l₀ at₀ 0 l₀ at₀
+  write-start v c = record { es = []; at = entry-start (insideTest w) p n (v .leaf) c; room = v .room; fits = (let r = v .room in omega arith); so-far = put-none l₀ at₀ }
 
-  pub write-start : LeafRoom p w l₀ at₀ → WriteLeaf w p l₀ at₀ 0 l₀ at₀
-  write-start v = record { es = []; at = entry-start (insideTest w) p (v .leaf); room = v .room; fits = (let r = v .room in omega arith); so-far = put-none l₀ at₀ }
+  module _ (i : ℕ) (l : List ℕ) (next : ℕ) (x : WriteLeaf w p n l₀ at₀ i l next) where
+    pub write-end : n ≤ i → Listed l₀ at₀ (leafEntries (insideTest w) p) l next
+    write-end h = rw (entry-end (insideTest w) p n i (x .es) (x .at) h) at (x .so-far)
 
-  module _ (i : ℕ) (l : List ℕ) (next : ℕ) (x : WriteLeaf w p l₀ at₀ i l next) where
-    pub write-end : itemCount p ≤ i → Listed l₀ at₀ (leafEntries (insideTest w) p) l next
-    write-end h = rw (entry-end (insideTest w) p i (x .es) (x .at) h) at (x .so-far)
-
-    module _ (h : i < itemCount p) (b : Bool) (e : b ≡ insideTest w (entryIn p i)) where
+    module _ (h : i < n) (b : Bool) (e : b ≡ insideTest w (entryIn p i)) where
       pub write-room : b ≡ true → 3 * next + 3 ≤ length l
       write-room f =
-          let a = entry-hit (insideTest w) p i (x .es) (x .at) h b e f .entries in
+          let a = entry-hit (insideTest w) p n i (x .es) (x .at) h b e f .entries in
           let q = simp length-append at (ap length a) in
           let r = x .room in
           let s = x .so-far .next-is in
           let t = x .so-far .same-length in
           omega arith
 
-      pub write-miss : (l′ : List ℕ) (next′ : ℕ) → b ≡ false → l′ ≡ l → next′ ≡ next → WriteLeaf w p l₀ at₀ (i + 1) l′ next′
-      write-miss l′ next′ f q r = rw (q, r) (record { es = x .es; at = entry-miss (insideTest w) p i (x .es) (x .at) h b e f; room = x .room; fits = x .fits; so-far = x .so-far })
+      pub write-miss : (l′ : List ℕ) (next′ : ℕ) → b ≡ false → l′ ≡ l → next′ ≡ next → WriteLeaf w p n l₀ at₀ (i + 1) l′ next′
+      write-miss l′ next′ f q r = rw (q, r) (record { es = x .es; at = entry-miss (insideTest w) p n i (x .es) (x .at) h b e f; room = x .room; fits = x .fits; so-far = x .so-far })
 
-      pub write-hit : (l″ l′ : List ℕ) (next′ : ℕ) → b ≡ true → l″ ≡ putEntry l next (entryIn p i) → l′ ≡ l″ → next′ ≡ next + 1 → WriteLeaf w p l₀ at₀ (i + 1) l′ next′
+      pub write-hit : (l″ l′ : List ℕ) (next′ : ℕ) → b ≡ true → l″ ≡ putEntry l next (entryIn p i) → l′ ≡ l″ → next′ ≡ next + 1 → WriteLeaf w p n l₀ at₀ (i + 1) l′ next′
       write-hit l″ l′ next′ f q s r = rw (s, r) (record {
         es = x .es ++ (entryIn p i ∷ []);
-        at = entry-hit (insideTest w) p i (x .es) (x .at) h b e f;
+        at = entry-hit (insideTest w) p n i (x .es) (x .at) h b e f;
         room = x .room;
         fits =
             let a : length l″ ≡ length l = ap length q ∙ length-put l next (entryIn p i) in
@@ -94,72 +96,69 @@ module _ (w : Rect) (p l₀ : List ℕ) (at₀ : ℕ) where
       })
 
 module _ (w : Rect) (level : ℕ) (m : List ℕ) (lo k : ℕ) (l : List ℕ) (at : ℕ) where
-  pub room-items-fit : WalkRoom level m lo k w l at → Fits w64 (countAt m k)
-  room-items-fit v = let f = v .walk .few in omega arith
-
   -- a node that is a leaf
-  pub written-leaf-room : level ≡ 0 → WalkRoom level m lo k w l at → LeafRoom (partAt m k) w l at
-  written-leaf-room z v =
+  pub written-leaf-room : (p : List ℕ) → level ≡ 0 → WalkRoom level m lo k w l at → p ≡ part m k → LeafRoom p w l at
+  written-leaf-room p z v q =
       let v′ : Walkable 0 m lo k = rw z at (v .walk) in
       let r : 3 * (at + length (matchesBelow w 0 m lo k)) ≤ length l = rw z at (v .room) in
       record {
-        leaf = leaf-part 0 m lo k v′;
-        room = rw (part-is 0 m lo k v′, ← (leaf-entries (meetsTest w) (insideTest w) m lo k v′)) r;
+        leaf = node-part 0 m lo k v′ p q;
+        room = rw (q, ← (leaf-entries (meetsTest w) (insideTest w) m lo k v′)) r;
       }
 
-  pub written-leaf : (l′ : List ℕ) (next : ℕ) → level ≡ 0 → WalkRoom level m lo k w l at
-      → Listed l at (leafEntries (insideTest w) (partAt m k)) l′ next
+  pub written-leaf : (p l′ : List ℕ) (next : ℕ) → level ≡ 0 → WalkRoom level m lo k w l at → p ≡ part m k
+      → Listed l at (leafEntries (insideTest w) p) l′ next
       → Listed l at (matchesBelow w level m lo k) l′ next
-  written-leaf l′ next z v e =
+  written-leaf p l′ next z v q e =
       let v′ : Walkable 0 m lo k = rw z at (v .walk) in
-      rw (z, leaf-entries (meetsTest w) (insideTest w) m lo k v′, ← (part-is 0 m lo k v′)) e
+      rw (z, leaf-entries (meetsTest w) (insideTest w) m lo k v′, ← q) e
 
 -- Before the i-th child: the matches below the children that were passed are written.
-pub record WriteLoop (w : Rect) (level : ℕ) (m : List ℕ) (lo k : ℕ) (l₀ : List ℕ) (at₀ i low : ℕ) (l : List ℕ) (next : ℕ) : Type 0 where
+pub record WriteLoop (w : Rect) (level : ℕ) (m : List ℕ) (lo k n : ℕ) (l₀ : List ℕ) (at₀ i low : ℕ) (l : List ℕ) (next : ℕ) : Type 0 where
   pub vs : ℕ
   pub es : List CellEntry
-  pub at : AtChild (meetsTest w) (insideTest w) level m lo k i low vs es
+  pub at : AtChild (meetsTest w) (insideTest w) level m lo k n i low vs es
   pub room : 3 * (at₀ + length (matchesBelow w level m lo k)) ≤ length l₀
   pub so-far : Listed l₀ at₀ es l next
 
-module _ (w : Rect) (level : ℕ) (m : List ℕ) (lo k : ℕ) (l₀ : List ℕ) (at₀ : ℕ) where
-  pub writing-start : (level ≡ 0 → ⊥) → WalkRoom level m lo k w l₀ at₀ → WriteLoop w level m lo k l₀ at₀ 0 lo l₀ at₀
-  writing-start ne v = record { vs = 1; es = []; at = child-start (meetsTest w) (insideTest w) level m lo k ne (v .walk); room = v .room; so-far = put-none l₀ at₀ }
+module _ (w : Rect) (level : ℕ) (m : List ℕ) (lo k n : ℕ) (l₀ : List ℕ) (at₀ : ℕ) where
+  pub writing-start : (level ≡ 0 → ⊥) → WalkRoom level m lo k w l₀ at₀ → n ≡ countAt m k → WriteLoop w level m lo k n l₀ at₀ 0 lo l₀ at₀
+  writing-start ne v c = record { vs = 1; es = []; at = child-start (meetsTest w) (insideTest w) level m lo k n ne (v .walk) c; room = v .room; so-far = put-none l₀ at₀ }
 
-  module _ (i low : ℕ) (l : List ℕ) (next : ℕ) (x : WriteLoop w level m lo k l₀ at₀ i low l next) where
-    pub writing-end : countAt m k ≤ i → Listed l₀ at₀ (matchesBelow w level m lo k) l next
-    writing-end h = rw (end-entries (meetsTest w) (insideTest w) level m lo k i low (x .vs) (x .es) (x .at) h) at (x .so-far)
+  module _ (i low : ℕ) (l : List ℕ) (next : ℕ) (x : WriteLoop w level m lo k n l₀ at₀ i low l next) where
+    pub writing-end : n ≤ i → Listed l₀ at₀ (matchesBelow w level m lo k) l next
+    writing-end h = rw (end-entries (meetsTest w) (insideTest w) level m lo k n i low (x .vs) (x .es) (x .at) h) at (x .so-far)
 
-    module _ (h : i < countAt m k) (b : Bool) (e : b ≡ meetsTest w (polygonIn (part m (childAt m k i)))) where
-      pub writing-room : b ≡ true → WalkRoom (level - 1) m low (childAt m k i) w l next
+    module _ (h : i < n) (j : ℕ) (j-is : j ≡ childAt m k i) (b : Bool) (e : b ≡ meetsTest w (polygonIn (part m j))) where
+      pub writing-room : b ≡ true → WalkRoom (level - 1) m low (j) w l next
       writing-room f =
-          let a = child-hit (meetsTest w) (insideTest w) level m lo k i low (x .vs) (x .es) (x .at) h b e f .entries in
+          let a = child-hit (meetsTest w) (insideTest w) level m lo k n i low (x .vs) (x .es) (x .at) h j j-is b e f .entries in
           let q = simp length-append at (ap length a) in
           let r = x .room in
           let s = x .so-far .next-is in
           let t = x .so-far .same-length in
           record {
-            walk = child-walkable (meetsTest w) (insideTest w) level m lo k i low (x .vs) (x .es) (x .at) h;
+            walk = child-walkable (meetsTest w) (insideTest w) level m lo k n i low (x .vs) (x .es) (x .at) h j j-is;
             room = omega arith;
           }
 
       pub writing-miss : (l′ : List ℕ) (next′ : ℕ) → b ≡ false → l′ ≡ l → next′ ≡ next
-          → WriteLoop w level m lo k l₀ at₀ (i + 1) (childAt m k i + 1) l′ next′
+          → WriteLoop w level m lo k n l₀ at₀ (i + 1) (j + 1) l′ next′
       writing-miss l′ next′ f q r = rw (q, r) (record {
         vs = x .vs;
         es = x .es;
-        at = child-miss (meetsTest w) (insideTest w) level m lo k i low (x .vs) (x .es) (x .at) h b e f;
+        at = child-miss (meetsTest w) (insideTest w) level m lo k n i low (x .vs) (x .es) (x .at) h j j-is b e f;
         room = x .room;
         so-far = x .so-far;
       })
 
       pub writing-hit : (l″ l′ : List ℕ) (next′ next″ : ℕ) → b ≡ true
-          → Listed l next (matchesBelow w (level - 1) m low (childAt m k i)) l″ next′ → l′ ≡ l″ → next″ ≡ next′
-          → WriteLoop w level m lo k l₀ at₀ (i + 1) (childAt m k i + 1) l′ next″
+          → Listed l next (matchesBelow w (level - 1) m low (j)) l″ next′ → l′ ≡ l″ → next″ ≡ next′
+          → WriteLoop w level m lo k n l₀ at₀ (i + 1) (j + 1) l′ next″
       writing-hit l″ l′ next′ next″ f q s r = rw (s, r) (record {
         vs = _;
         es = _;
-        at = child-hit (meetsTest w) (insideTest w) level m lo k i low (x .vs) (x .es) (x .at) h b e f;
+        at = child-hit (meetsTest w) (insideTest w) level m lo k n i low (x .vs) (x .es) (x .at) h j j-is b e f;
         room = x .room;
         so-far = more l₀ at₀ (x .es) l next _ l″ next′ (x .so-far) q;
       })

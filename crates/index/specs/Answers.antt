@@ -17,6 +17,7 @@ use Rattle.tree.specs.Calls.{insertion, removal}
 use Rattle.plane.specs.Lines.{CellEntry}
 use Rattle.plane.specs.Plane.{planeSpace, planeRoot}
 use Rattle.plane.specs.Windows.{planeWindow}
+use Rattle.memory.specs.Fanout.{fanout}
 use Rattle.memory.specs.Layout.{partsOf, rightLength}
 use Rattle.memory.specs.Reading.{reading}
 use Rattle.memory.specs.Image.{entryNumbers}
@@ -30,10 +31,6 @@ use Rattle.index.specs.declared.answer.PointFound.{PointFound}
 use Rattle.index.specs.declared.answer.PointFound.the-variants as P
 use Rattle.index.specs.declared.answer.WindowFound.{WindowFound}
 use Rattle.index.specs.declared.answer.WindowFound.the-variants as W
-
--- 'A leaf holds 1 to 8 entries', 'A routing node holds 1 to 8 branches'
-abbrev pub fanout : ℕ
-fanout = 8
 
 -- an index of document 01's trees
 abbrev pub PlaneIndex : Type 0

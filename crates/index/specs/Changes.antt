@@ -11,11 +11,12 @@ use Rattle.plane.specs.Lines.{CellEntry}
 use Rattle.plane.specs.Plane.{planeSpace, planeRoot}
 use Rattle.memory.specs.Layout.{partsOf}
 use Rattle.memory.specs.Reading.{reading}
+use Rattle.memory.specs.Fanout.{fanout}
 use Rattle.index.specs.declared.answer.Inserted.{Inserted}
 use Rattle.index.specs.declared.answer.Inserted.the-variants as I
 use Rattle.index.specs.declared.answer.Removed.{Removed}
 use Rattle.index.specs.declared.answer.Removed.the-variants as R
-use Rattle.index.specs.Answers.{fanout, PlaneIndex, insertAnswer, removeAnswer}
+use Rattle.index.specs.Answers.{PlaneIndex, insertAnswer, removeAnswer}
 
 -- an entry by its cell and tag
 abbrev pub entryOf : Cell → ℕ → CellEntry

@@ -1,4 +1,4 @@
--- The soundness test as the code takes it: a node with all below it, and what the functions on its part may rely on.
+-- The soundness test as the code takes it: a node with all below it.
 use Prim.Native.Nat.{ℕ, suc, _≤_, _<_}
 use mathlib.Core.Bool.{Bool, _&&_, cond}
 use mathlib.Core.List.{List}
@@ -9,16 +9,10 @@ use Rattle.geometry.specs.declared.rect.Rect.{Rect}
 use Rattle.geometry.specs.Numbers.{rectsIn}
 use Rattle.tree.specs.Nodes.{Item, nodes}
 use Rattle.plane.specs.Plane.{planeSpace}
-use Rattle.memory.specs.Layout.{partsOf, part, rectCount, itemCount, polygonIn}
+use Rattle.memory.specs.Fanout.{fanout}
+use Rattle.memory.specs.Layout.{PolygonPart, part, polygonIn}
 use Rattle.memory.specs.SoundTest.{allPass, pairsPass, coveredBy, apart, polygonFits, countTest, apartTest, itemTest}
 use Rattle.memory.specs.Reading.{readNode}
-use Rattle.index.specs.Answers.{fanout}
-
--- a part whose counts fit
-pub record NodePart (p : List ℕ) : Type 0 where
-  pub length-is : length p ≡ 128
-  pub few-rects : rectCount p ≤ 16
-  pub few-items : itemCount p ≤ 8
 
 -- a node is sound in itself, all below it included
 unfoldable pub nodeTest : (n : ℕ) → Item (planeSpace fanout) (suc n) → Bool
@@ -39,12 +33,7 @@ checkedAt n m lo k = checked n (readNode fanout n m lo k)
 unfoldable pub partsApart : List ℕ → ℕ → ℕ → Bool
 partsApart m i j = apart (polygonIn (part m i)) (polygonIn (part m j))
 
--- part k is one of the memory's, and its polygon has at most 16 rectangles
-pub record PolygonPart (m : List ℕ) (k : ℕ) : Type 0 where
-  pub below : k < partsOf m
-  pub few-rects : rectCount (part m k) ≤ 16
-
--- so is each of some parts
+-- each of some parts is one of the memory's, and its polygon has at most 16 rectangles
 pub record PolygonParts (m : List ℕ) (ks : List ℕ) : Type 0 where
   pub each : (i : ℕ) → i < length ks → PolygonPart m (getD ks i 0)
 

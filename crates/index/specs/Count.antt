@@ -5,8 +5,8 @@ use mathlib.Core.Option.{Option, none, some}
 use Rattle.tree.specs.Nodes.{Item, held}
 use Rattle.plane.specs.Lines.{CellEntry}
 use Rattle.plane.specs.Plane.{planeSpace}
+use Rattle.memory.specs.Fanout.{fanout}
 use Rattle.memory.specs.Reading.{readNode}
-use Rattle.index.specs.Answers.{fanout}
 
 -- the entries below a node that was read, in depth-first order; none where it does not read
 unfoldable pub entriesOf : (n : ℕ) → Option (Item (planeSpace fanout) (suc n)) → List CellEntry

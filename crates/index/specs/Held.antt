@@ -4,7 +4,8 @@ use mathlib.Core.Option.{Option, none, some}
 use Rattle.geometry.specs.declared.rect.Cell.{Cell}
 use Rattle.tree.specs.Query.{holds}
 use Rattle.plane.specs.Plane.{planeSpace}
-use Rattle.index.specs.Answers.{fanout, PlaneIndex}
+use Rattle.memory.specs.Fanout.{fanout}
+use Rattle.index.specs.Answers.{PlaneIndex}
 
 -- whether what a memory reads as holds the cell
 unfoldable pub heldRead : Cell → Option PlaneIndex → Bool

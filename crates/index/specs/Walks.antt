@@ -4,7 +4,7 @@ use mathlib.Core.Bool.{Bool, true, false, _||_, cond}
 use mathlib.Core.List.{List, [], _∷_, head?}
 use mathlib.Core.Option.{Option, none, some}
 use mathlib.Core.Path.{_≡_}
-use lib.ListN.{length, getD, take, drop, set}
+use lib.ListN.{length, set}
 use Rattle.geometry.specs.declared.rect.Cell.{Cell}
 use Rattle.geometry.specs.declared.rect.Rect.{Rect}
 use Rattle.tree.specs.Lists.{keep}
@@ -14,13 +14,13 @@ use Rattle.tree.specs.Walk.{nodeWalkVisits, nodeWalkEntries}
 use Rattle.plane.specs.Lines.{CellEntry}
 use Rattle.plane.specs.Plane.{planeSpace}
 use Rattle.plane.specs.Windows.{planeWindow}
-use Rattle.memory.specs.Layout.{rightLength, itemCount, entriesIn}
+use Rattle.memory.specs.Layout.{rightLength, PartIn, itemCount, entriesIn, countAt, NodePart}
 use Rattle.memory.specs.Reading.{readNode, reading}
+use Rattle.memory.specs.Fanout.{fanout}
 use Rattle.index.specs.declared.walk.Found.{Found}
 use Rattle.index.specs.declared.window_query.Matched.{Matched}
 use Rattle.index.specs.declared.answer.WindowFound.{WindowFound}
-use Rattle.index.specs.Check.{NodePart}
-use Rattle.index.specs.Answers.{fanout, windowRead, windowWritten, windowAnswer, windowList}
+use Rattle.index.specs.Answers.{windowRead, windowWritten, windowAnswer, windowList}
 
 -- the point query's tests: a polygon has the cell, an entry is of the cell
 unfoldable pub hasTest : Cell → List Rect → Bool
@@ -62,19 +62,6 @@ heldBelow c n m lo k = entriesBelow (hasTest c) (cellTest c) n m lo k
 abbrev pub matchesBelow : Rect → ℕ → List ℕ → ℕ → ℕ → List CellEntry
 matchesBelow w n m lo k = entriesBelow (meetsTest w) (insideTest w) n m lo k
 
--- What the code reads in place of the part k: the part itself, its rectangles, the count of its items, the i-th child.
-abbrev pub partAt : List ℕ → ℕ → List ℕ
-partAt m k = take (64 + 128 * k + 128 - (64 + 128 * k)) (drop (64 + 128 * k) m)
-
-abbrev pub rectsAt : List ℕ → ℕ → List ℕ
-rectsAt m k = take (64 + 128 * k + 128 - (64 + 128 * k + 2)) (drop (64 + 128 * k + 2) m)
-
-abbrev pub countAt : List ℕ → ℕ → ℕ
-countAt m k = getD m (64 + 128 * k + 1) 0
-
-abbrev pub childAt : List ℕ → ℕ → ℕ → ℕ
-childAt m k i = getD m (64 + 128 * k + 66 + i) 0
-
 -- the entries of a leaf's part that pass
 unfoldable pub leafEntries : (CellEntry → Bool) → List ℕ → List CellEntry
 leafEntries u p = keep u (entriesIn p (itemCount p))
@@ -85,7 +72,7 @@ pub record Walkable (n : ℕ) (m : List ℕ) (lo k : ℕ) : Type 0 where
   pub right : rightLength m ≡ true
   pub from : lo ≤ k
   pub below : k < 256
-  pub ends : 64 + 128 * k + 128 ≤ length m
+  pub ends : PartIn m k
   pub few : countAt m k ≤ 8
   pub node : Item (planeSpace fanout) (suc n)
   pub reads : readNode fanout n m lo k ≡ some node

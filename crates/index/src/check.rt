@@ -4,46 +4,52 @@ ghost use mathlib.Core.Bool.{_&&_};
 ghost use Prim.Native.Nat.{_+_, _≤_, _<_};
 ghost use lib.ListN.{length, drop, getD};
 ghost use Rattle.geometry.specs.Cells.{allValid};
-ghost use Rattle.memory.specs.Layout.{part, polygonIn, nodeFits};
+ghost use Rattle.memory.specs.Layout.{part, polygonIn, nodeFits, PolygonPart};
 ghost use Rattle.memory.specs.SoundTest.{allPass, pairsPass, insideOf};
 ghost use Rattle.memory.proofs.ReadingLaws.{RightLength};
-ghost use Rattle.index.specs.Answers.{fanout};
-ghost use Rattle.index.specs.Check.{PolygonPart, PolygonParts, partsApart, checkedAt};
+ghost use Rattle.memory.specs.Fanout.{fanout};
+ghost use Rattle.index.specs.Check.{PolygonParts, partsApart, checkedAt};
 use crate::cover::are_apart;
 use crate::cover::inside;
 use crate::leaf::entries_apart;
 use crate::leaf::entries_inside;
-use crate::part::node_fits;
 use geometry::all_valid;
-use memory::ENTRY;
-use memory::HEAD;
-use memory::ITEM_COUNT;
-use memory::ITEMS;
-use memory::PART;
-use memory::RECTS;
+use layout::CHILD;
+use layout::ENTRY;
+use layout::children;
+use layout::node_fits;
+use layout::part_at;
+use layout::rect_count;
+use layout::rects;
 
 // Whether the polygon at part j is inside the one at part k.
-fn child_inside(m: &[u32], k: usize, j: usize) -> bool
+fn child_inside(m: &[u32], k: u32, j: u32) -> bool
     requires { ⌜ PolygonPart (now m) k × PolygonPart (now m) j ⌝ }
     ensures { λ b. ⌜ b ≡ insideOf (polygonIn (part (now (m .entry)) k)) (polygonIn (part (now (m .entry)) j)) ⌝ }
 {
-    let a = HEAD + PART * k;
-    let p = &m[a..a + PART];
-    let b = HEAD + PART * j;
-    let q = &m[b..b + PART];
-    inside(&p[RECTS..], p[0] as usize, &q[RECTS..], q[0] as usize)
+    let p = part_at(m, k);
+    let q = part_at(m, j);
+    inside(
+        rects(p),
+        rect_count(p) as usize,
+        rects(q),
+        rect_count(q) as usize,
+    )
 }
 
 // Whether the polygons at parts i and j share no cell.
-fn parts_apart(m: &[u32], i: usize, j: usize) -> bool
+fn parts_apart(m: &[u32], i: u32, j: u32) -> bool
     requires { ⌜ PolygonPart (now m) i × PolygonPart (now m) j ⌝ }
     ensures { λ b. ⌜ b ≡ partsApart (now (m .entry)) i j ⌝ }
 {
-    let a = HEAD + PART * i;
-    let p = &m[a..a + PART];
-    let b = HEAD + PART * j;
-    let q = &m[b..b + PART];
-    are_apart(&p[RECTS..], p[0] as usize, &q[RECTS..], q[0] as usize)
+    let p = part_at(m, i);
+    let q = part_at(m, j);
+    are_apart(
+        rects(p),
+        rect_count(p) as usize,
+        rects(q),
+        rect_count(q) as usize,
+    )
 }
 
 // Whether the polygon of the i-th of some parts shares no cell with the later ones'.
@@ -51,11 +57,10 @@ fn none_meets(m: &[u32], ks: &[u32], i: usize) -> bool
     requires { ⌜ PolygonParts (now m) (now ks) × (i < length (now ks)) ⌝ }
     ensures { λ b. ⌜ b ≡ allPass (partsApart (now (m .entry)) (getD (now (ks .entry)) i 0)) (drop (i + 1) (now (ks .entry))) ⌝ }
 {
-    let k = ks[i] as usize;
+    let k = ks[i];
     let mut j = i + 1;
     while j < ks.len() {
-        let other = ks[j] as usize;
-        if !parts_apart(m, k, other) {
+        if !parts_apart(m, k, ks[j]) {
             return false;
         }
         j += 1;
@@ -79,28 +84,26 @@ fn siblings_apart(m: &[u32], ks: &[u32]) -> bool
 }
 
 // Whether part k is a node's, whose items take w numbers each, and its rectangles are valid.
-fn head_fits(m: &[u32], k: usize, w: usize) -> bool
+fn head_fits(m: &[u32], k: u32, w: usize) -> bool
     requires { ⌜ RightLength (now m) × (w ≤ 3) ⌝ }
     ensures { λ b. ⌜ b ≡ nodeFits fanout w (now (m .entry)) k && allValid (polygonIn (part (now (m .entry)) k)) ⌝ }
 {
     if !node_fits(m, k, w) {
         return false;
     }
-    let at = HEAD + PART * k;
-    let p = &m[at..at + PART];
-    all_valid(&p[RECTS..], p[0] as usize)
+    let p = part_at(m, k);
+    all_valid(rects(p), rect_count(p) as usize)
 }
 
 // 1 where part k is a sound leaf, 0 otherwise.
-fn check_leaf(m: &[u32], k: usize) -> u32
+fn check_leaf(m: &[u32], k: u32) -> u32
     requires { ⌜ RightLength (now m) ⌝ }
     ensures { λ r. ⌜ r ≡ checkedAt 0 (now (m .entry)) 0 k ⌝ }
 {
     if !head_fits(m, k, ENTRY) {
         return 0;
     }
-    let at = HEAD + PART * k;
-    let p = &m[at..at + PART];
+    let p = part_at(m, k);
     if !entries_inside(p) {
         return 0;
     }
@@ -112,25 +115,22 @@ fn check_leaf(m: &[u32], k: usize) -> u32
 
 // The number of nodes of the subtree at part k, whose leaves lie `level` steps below it and whose parts are those
 // from lo on, where it reads and is sound in itself; 0 otherwise.
-pub fn check_node(m: &[u32], level: u32, lo: usize, k: usize) -> u32
+pub fn check_node(m: &[u32], level: u32, lo: u32, k: u32) -> u32
     requires { ⌜ RightLength (now m) × (lo ≤ k) ⌝ }
     ensures { λ r. ⌜ r ≡ checkedAt level (now (m .entry)) lo k ⌝ }
 {
     if level == 0 {
         return check_leaf(m, k);
     }
-    if !head_fits(m, k, 1) {
+    if !head_fits(m, k, CHILD) {
         return 0;
     }
-    let at = HEAD + PART * k;
-    let p = &m[at..at + PART];
-    let end = ITEMS + p[ITEM_COUNT] as usize;
-    let ks = &p[ITEMS..end];
+    let ks = children(part_at(m, k));
     let mut low = lo;
     let mut sum: u32 = 1;
     let mut i = 0;
     while i < ks.len() {
-        let j = ks[i] as usize;
+        let j = ks[i];
         if j < low {
             return 0;
         }

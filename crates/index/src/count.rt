@@ -3,18 +3,15 @@ ghost use mathlib.Core.Path.{_≡_};
 ghost use lib.ListN.{length};
 ghost use Rattle.index.specs.Count.{entriesAt};
 ghost use Rattle.index.specs.Walks.{Walkable};
-use memory::HEAD;
-use memory::ITEM_COUNT;
-use memory::ITEMS;
-use memory::PART;
+use layout::child_at;
+use layout::count_at;
 
 // Counts the entries below the node at part k, whose subtree has the parts from lo on.
 pub fn entries_below(m: &[u32], level: u32, lo: u32, k: u32) -> u32
     requires { ⌜ Walkable level (now m) lo k ⌝ }
     ensures { λ r. ⌜ r ≡ length (entriesAt level (now (m .entry)) lo k) ⌝ }
 {
-    let a = HEAD + PART * (k as usize);
-    let items = m[a + ITEM_COUNT];
+    let items = count_at(m, k);
     if level == 0 {
         return items;
     }
@@ -23,7 +20,7 @@ pub fn entries_below(m: &[u32], level: u32, lo: u32, k: u32) -> u32
     let mut low = lo;
     let mut i = 0;
     while i < n {
-        let j = m[a + ITEMS + i];
+        let j = child_at(m, k, i);
         sum += entries_below(m, level - 1, low, j);
         low = j + 1;
         i += 1;

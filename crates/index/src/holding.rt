@@ -1,7 +1,7 @@
 // Whether a cell is held: refusals 5 and 6.
 ghost use mathlib.Core.Path.{_≡_};
 ghost use Rattle.memory.specs.Reading.{reading};
-ghost use Rattle.index.specs.Answers.{fanout};
+ghost use Rattle.memory.specs.Fanout.{fanout};
 ghost use Rattle.index.specs.Held.{heldRead};
 ghost use Rattle.index.specs.Open.{TreeIn};
 use crate::point_query::point_below;

@@ -2,35 +2,36 @@
 ghost use mathlib.Core.Path.{_≡_};
 ghost use Prim.Native.Nat.{_<_};
 ghost use lib.ListN.{length};
-ghost use Rattle.memory.specs.Layout.{entryIn};
+ghost use Rattle.memory.specs.Layout.{entryIn, NodePart};
 ghost use Rattle.memory.specs.Reading.{reading};
-ghost use Rattle.index.specs.Answers.{fanout, pointRead, pointAnswer};
-ghost use Rattle.index.specs.Check.{NodePart};
+ghost use Rattle.memory.specs.Fanout.{fanout};
+ghost use Rattle.index.specs.Answers.{pointRead, pointAnswer};
 ghost use Rattle.index.specs.Open.{TreeIn, OpenedAs};
 ghost use Rattle.index.specs.Walks.{hasTest, cellTest, visitsBelow, heldBelow, leafEntries, Walkable, found};
 use crate::answer::PointFound;
 use crate::opening::Opened;
 use crate::opening::open;
-use crate::opening::right_length;
 use crate::walk::Found;
 use crate::walk::polygon_has;
 use geometry::Cell;
-use memory::ENTRY;
-use memory::HEAD;
-use memory::ITEM_COUNT;
-use memory::ITEMS;
-use memory::PART;
+use layout::child_at;
+use layout::count_at;
+use layout::entry_cell;
+use layout::entry_tag;
+use layout::item_count;
+use layout::part_at;
+use layout::right_length;
 
 // Whether the i-th entry of a leaf's part is of the cell.
 pub fn is_of_cell(p: &[u32], i: usize, c: Cell) -> bool
     requires { ⌜ (length (now p) ≡ 128) × (i < 8) ⌝ }
     ensures { λ b. ⌜ b ≡ cellTest c (entryIn (now (p .entry)) i) ⌝ }
 {
-    let at = ITEMS + ENTRY * i;
-    if p[at] != c.x {
+    let held = entry_cell(p, i);
+    if held.x != c.x {
         return false;
     }
-    p[at + 1] == c.y
+    held.y == c.y
 }
 
 // The entry of the cell in a leaf's part.
@@ -38,14 +39,13 @@ fn point_in_leaf(p: &[u32], c: Cell) -> Found
     requires { ⌜ NodePart (now p) ⌝ }
     ensures { λ r. ⌜ r ≡ found (leafEntries (cellTest c) (now (p .entry))) 1 ⌝ }
 {
-    let n = p[ITEM_COUNT] as usize;
+    let n = item_count(p) as usize;
     let mut i = 0;
     while i < n {
         if is_of_cell(p, i, c) {
-            let tag = p[ITEMS + ENTRY * i + 2];
             return Found {
                 held: true,
-                tag,
+                tag: entry_tag(p, i),
                 visits: 1,
             };
         }
@@ -64,12 +64,10 @@ pub fn point_below(m: &[u32], level: u32, lo: u32, k: u32, c: Cell) -> Found
     requires { ⌜ Walkable level (now m) lo k ⌝ }
     ensures { λ r. ⌜ r ≡ found (heldBelow c level (now (m .entry)) lo k) (visitsBelow (hasTest c) level (now (m .entry)) lo k) ⌝ }
 {
-    let a = HEAD + PART * (k as usize);
-    let e = a + PART;
     if level == 0 {
-        return point_in_leaf(&m[a..e], c);
+        return point_in_leaf(part_at(m, k), c);
     }
-    let n = m[a + ITEM_COUNT] as usize;
+    let n = count_at(m, k) as usize;
     let mut so_far = Found {
         held: false,
         tag: 0,
@@ -78,7 +76,7 @@ pub fn point_below(m: &[u32], level: u32, lo: u32, k: u32, c: Cell) -> Found
     let mut low = lo;
     let mut i = 0;
     while i < n {
-        let j = m[a + ITEMS + i];
+        let j = child_at(m, k, i);
         if polygon_has(m, j, c) {
             let below = point_below(m, level - 1, low, j, c);
             so_far = so_far.then(below);

@@ -1,16 +1,15 @@
 // The walks of the queries: what both of them read of a node's part.
 ghost use mathlib.Core.Path.{_≡_};
 ghost use Prim.Native.Nat.{_+_, _≤_};
-ghost use Rattle.memory.specs.Layout.{part, polygonIn};
-ghost use Rattle.index.specs.Check.{PolygonPart};
+ghost use Rattle.memory.specs.Layout.{part, polygonIn, PolygonPart};
 ghost use Rattle.index.specs.Walks.{hasTest, meetsTest, joined};
 use crate::leaf::any_has;
 use geometry::Cell;
 use geometry::Rect;
 use geometry::any_shares;
-use memory::HEAD;
-use memory::PART;
-use memory::RECTS;
+use layout::part_at;
+use layout::rect_count;
+use layout::rects;
 
 // What the walk of a point query found: whether an entry of the cell is held, its tag (0 where none is),
 // and the nodes visited.
@@ -47,11 +46,8 @@ pub fn polygon_has(m: &[u32], k: u32, c: Cell) -> bool
     requires { ⌜ PolygonPart (now m) k ⌝ }
     ensures { λ b. ⌜ b ≡ hasTest c (polygonIn (part (now (m .entry)) k)) ⌝ }
 {
-    let a = HEAD + PART * (k as usize);
-    let n = m[a] as usize;
-    let from = a + RECTS;
-    let to = a + PART;
-    any_has(&m[from..to], n, c)
+    let p = part_at(m, k);
+    any_has(rects(p), rect_count(p) as usize, c)
 }
 
 // Whether the polygon of the node at part k shares a cell with w.
@@ -59,9 +55,6 @@ pub fn polygon_meets(m: &[u32], k: u32, w: Rect) -> bool
     requires { ⌜ PolygonPart (now m) k ⌝ }
     ensures { λ b. ⌜ b ≡ meetsTest w (polygonIn (part (now (m .entry)) k)) ⌝ }
 {
-    let a = HEAD + PART * (k as usize);
-    let n = m[a] as usize;
-    let from = a + RECTS;
-    let to = a + PART;
-    any_shares(&m[from..to], n, w)
+    let p = part_at(m, k);
+    any_shares(rects(p), rect_count(p) as usize, w)
 }

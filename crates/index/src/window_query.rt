@@ -3,22 +3,21 @@
 ghost use mathlib.Core.Path.{_≡_};
 ghost use Prim.Native.Nat.{_+_, _*_, _≤_, _<_};
 ghost use lib.ListN.{length};
-ghost use Rattle.memory.specs.Layout.{entryIn};
-ghost use Rattle.index.specs.Check.{NodePart};
+ghost use Rattle.memory.specs.Layout.{entryIn, NodePart};
 ghost use Rattle.index.specs.Open.{TreeIn, OpenedAs};
 ghost use Rattle.index.specs.Walks.{meetsTest, insideTest, visitsBelow, matchesBelow, leafEntries, Walkable, matched, putEntry, Listed, LeafRoom, WalkRoom, WindowDone, WindowCall};
 use crate::answer::WindowFound;
 use crate::opening::Opened;
 use crate::opening::open;
-use crate::opening::right_length;
 use crate::walk::polygon_meets;
-use geometry::Cell;
 use geometry::Rect;
-use memory::ENTRY;
-use memory::HEAD;
-use memory::ITEM_COUNT;
-use memory::ITEMS;
-use memory::PART;
+use layout::child_at;
+use layout::count_at;
+use layout::entry_cell;
+use layout::entry_tag;
+use layout::item_count;
+use layout::part_at;
+use layout::right_length;
 
 // How many entries match a window, and the nodes visited.
 pub struct Matched {
@@ -31,12 +30,7 @@ fn is_inside(p: &[u32], i: usize, w: Rect) -> bool
     requires { ⌜ (length (now p) ≡ 128) × (i < 8) ⌝ }
     ensures { λ b. ⌜ b ≡ insideTest w (entryIn (now (p .entry)) i) ⌝ }
 {
-    let at = ITEMS + ENTRY * i;
-    let c = Cell {
-        x: p[at],
-        y: p[at + 1],
-    };
-    w.has_cell(c)
+    w.has_cell(entry_cell(p, i))
 }
 
 // How many entries of a leaf's part are in the window.
@@ -44,7 +38,7 @@ fn count_leaf(p: &[u32], w: Rect) -> u32
     requires { ⌜ NodePart (now p) ⌝ }
     ensures { λ r. ⌜ r ≡ length (leafEntries (insideTest w) (now (p .entry))) ⌝ }
 {
-    let n = p[ITEM_COUNT] as usize;
+    let n = item_count(p) as usize;
     let mut matches: u32 = 0;
     let mut i = 0;
     while i < n {
@@ -62,13 +56,11 @@ pub fn count_below(m: &[u32], level: u32, lo: u32, k: u32, w: Rect) -> Matched
     requires { ⌜ Walkable level (now m) lo k ⌝ }
     ensures { λ r. ⌜ r ≡ matched (matchesBelow w level (now (m .entry)) lo k) (visitsBelow (meetsTest w) level (now (m .entry)) lo k) ⌝ }
 {
-    let a = HEAD + PART * (k as usize);
-    let e = a + PART;
     if level == 0 {
-        let matches = count_leaf(&m[a..e], w);
+        let matches = count_leaf(part_at(m, k), w);
         return Matched { matches, visits: 1 };
     }
-    let n = m[a + ITEM_COUNT] as usize;
+    let n = count_at(m, k) as usize;
     let mut so_far = Matched {
         matches: 0,
         visits: 1,
@@ -76,7 +68,7 @@ pub fn count_below(m: &[u32], level: u32, lo: u32, k: u32, w: Rect) -> Matched
     let mut low = lo;
     let mut i = 0;
     while i < n {
-        let j = m[a + ITEMS + i];
+        let j = child_at(m, k, i);
         if polygon_meets(m, j, w) {
             let below = count_below(m, level - 1, low, j, w);
             so_far.matches += below.matches;
@@ -93,11 +85,12 @@ fn put_entry(p: &[u32], i: usize, list: &mut [u32], at: usize)
     requires { ⌜ (length (now p) ≡ 128) × (i < 8) × (3 * at + 3 ≤ length (now list)) ⌝ }
     ensures { λ _. ⌜ now (list .exit) ≡ putEntry (now (list .entry)) at (entryIn (now (p .entry)) i) ⌝ }
 {
-    let from = ITEMS + ENTRY * i;
+    let c = entry_cell(p, i);
+    let tag = entry_tag(p, i);
     let to = 3 * at;
-    list[to] = p[from];
-    list[to + 1] = p[from + 1];
-    list[to + 2] = p[from + 2];
+    list[to] = c.x;
+    list[to + 1] = c.y;
+    list[to + 2] = tag;
 }
 
 // Writes the entries of a leaf's part that are in the window, from the at-th place of the list on;
@@ -106,7 +99,7 @@ fn write_leaf(p: &[u32], w: Rect, list: &mut [u32], at: usize) -> usize
     requires { ⌜ LeafRoom (now p) w (now list) at ⌝ }
     ensures { λ r. ⌜ Listed (now (list .entry)) at (leafEntries (insideTest w) (now (p .entry))) (now (list .exit)) r ⌝ }
 {
-    let n = p[ITEM_COUNT] as usize;
+    let n = item_count(p) as usize;
     let mut next = at;
     let mut i = 0;
     while i < n {
@@ -133,17 +126,15 @@ pub fn write_below(
     requires { ⌜ WalkRoom level (now m) lo k w (now list) at ⌝ }
     ensures { λ r. ⌜ Listed (now (list .entry)) at (matchesBelow w level (now (m .entry)) lo k) (now (list .exit)) r ⌝ }
 {
-    let a = HEAD + PART * (k as usize);
-    let e = a + PART;
     if level == 0 {
-        return write_leaf(&m[a..e], w, list, at);
+        return write_leaf(part_at(m, k), w, list, at);
     }
-    let n = m[a + ITEM_COUNT] as usize;
+    let n = count_at(m, k) as usize;
     let mut next = at;
     let mut low = lo;
     let mut i = 0;
     while i < n {
-        let j = m[a + ITEMS + i];
+        let j = child_at(m, k, i);
         if polygon_meets(m, j, w) {
             next = write_below(m, level - 1, low, j, w, list, next);
         }

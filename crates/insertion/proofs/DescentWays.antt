@@ -1,21 +1,20 @@
 -- The descent as the code takes it, by the number of its level.
-use Prim.Native.Nat.{ℕ, zero, suc, _+_, _*_, _-_, _≤_, _<_}
-use mathlib.Core.Bool.{Bool, true, false}
-use mathlib.Core.Path.{_≡_, refl, sym, ap, _∙_, subst}
+use Prim.Native.Nat.{ℕ, suc, _+_, _*_, _-_, _≤_, _<_}
+use mathlib.Core.Bool.{Bool, false}
+use mathlib.Core.Path.{_≡_, sym, _∙_, subst}
 use mathlib.Core.List.{List}
 use native.Mathlib.Omega.{arith}
-use mir.Syntax.{w32, w64}
+use mir.Syntax.{w32}
 use mir.Val.{Fits}
-use lib.ListN.{length, getD, set, length-set}
+use lib.ListN.{length, set, length-set}
 use Rattle.geometry.specs.declared.rect.Cell.{Cell}
 use Rattle.geometry.specs.declared.rect.Rect.{Rect}
 use Rattle.geometry.specs.declared.polygon.Polygon.{Polygon}
 use Rattle.geometry.specs.Numbers.{rectsOf, PolygonOf}
-use Rattle.index.specs.Walks.{countAt, childAt}
+use Rattle.memory.specs.Layout.{countAt, childAt}
 use Rattle.step2.specs.declared.choosing.Choice.{Choice}
-use Rattle.step2.specs.declared.choosing.Taken.{Taken}
 use Rattle.step2.specs.declared.choosing.Taken.the-variants.{Branch, Over}
-use Rattle.step2.specs.Choose.{Routing, ChosenAt, NoneChosen, ChoiceIs}
+use Rattle.step2.specs.Choose.{Routing, ChosenAt, ChoiceIs}
 use Rattle.step2.proofs.ChoiceCases.{taken-branch, taken-over}
 use Rattle.emission.specs.Path.{partOn, polygonOn}
 use Rattle.insertion.specs.Descent.{LevelPut, Descending, Descended}
@@ -54,18 +53,13 @@ module _ (level : ℕ) (path m : List ℕ) (c : Cell) (d : Descending level path
       pub place-cast : Fits w32 place
       place-cast = let a = descend-place in let b = d .walk .few in omega arith
 
-      pub child-add : Fits w64 (64 + 128 * partOn path level + 66 + place)
-      child-add = let a = descend-place in let b = d .walk .few in let e = d .walk .below in omega arith
+      pub place-few : place < 8
+      place-few = let a = descend-place in let b = d .walk .few in omega arith
 
-      pub child-mul : Fits w64 ((64 + 128 * partOn path level + 66 + place) * 4)
-      child-mul = let a = descend-place in let b = d .walk .few in let e = d .walk .below in omega arith
-
-      pub child-in : 64 + 128 * partOn path level + 66 + place < length m
-      child-in = let a = descend-place in let b = d .walk .few in let e = d .walk .ends in omega arith
-
-      module _ (path₂ : List ℕ) (v₂ : LevelPut (set path (68 * level + 1) place) (level - 1) (childAt m (partOn path level) place) (rectsOf (r .polygon)) path₂) where
+      module _ (path₂ : List ℕ) (child : ℕ) (v₂ : LevelPut (set path (68 * level + 1) place) (level - 1) child (rectsOf (r .polygon)) path₂) (child-is : child ≡ childAt m (partOn path level) place) where
         put : LevelPut (set path (68 * suc (level - 1) + 1) place) (level - 1) (childAt m (partOn path (suc (level - 1))) place) (rectsOf (r .polygon)) path₂
-        put = subst (λ (i : ℕ). LevelPut (set path (68 * i + 1) place) (level - 1) (childAt m (partOn path i) place) (rectsOf (r .polygon)) path₂) (sym up) v₂
+        put = subst (λ (i : ℕ). LevelPut (set path (68 * i + 1) place) (level - 1) (childAt m (partOn path i) place) (rectsOf (r .polygon)) path₂) (sym up)
+            (subst (λ (i : ℕ). LevelPut (set path (68 * level + 1) place) (level - 1) i (rectsOf (r .polygon)) path₂) child-is v₂)
 
         pub descend-child : Descending (level - 1) path₂ m c
         descend-child = child-descending (level - 1) path m c d′ place (r .polygon) chosen (set path (68 * suc (level - 1) + 1) place) path₂ (length-set path (68 * suc (level - 1) + 1) place) put

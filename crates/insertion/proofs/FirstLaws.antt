@@ -33,13 +33,14 @@ use Rattle.memory.specs.Image.{entryNumbers, nodePart, emitNode, memoryOf, imag
 use Rattle.memory.proofs.ReadingLaws.{read-empty, RightLength, length-right}
 use Rattle.memory.proofs.SoundTested.{test-of-sound}
 use Rattle.memory.proofs.ImageLaws.{image-reads, image-length}
+use Rattle.memory.specs.Fanout.{fanout}
 use Rattle.index.specs.declared.answer.Inserted.the-variants as I
-use Rattle.index.specs.Answers.{fanout, insertEnd, insertRead}
+use Rattle.index.specs.Answers.{insertEnd, insertRead}
 use Rattle.index.specs.Changes.{entryOf, insertedIndex, InsertMemory}
-use Rattle.emission.specs.Parts.{PartPut, PartRoom}
-use Rattle.insertion.specs.Writing.{written}
+use Rattle.layout.specs.Parts.{PartPut, PartRoom}
+use Rattle.layout.specs.Writing.{written}
 use Rattle.insertion.specs.Insert.{Built}
-use Rattle.insertion.proofs.WritingLaws.{written-image}
+use Rattle.layout.proofs.WritingLaws.{written-image}
 
 -- the corner of a cell's rectangle fits
 pub x-room : (c : Cell) → onGrid c ≡ true → Fits w32 (c .x + 1)

@@ -1,23 +1,18 @@
 -- An insertion into the tree that a memory reads as: its end, from the path and what was written.
-use Prim.Native.Nat.{ℕ, zero, suc, _+_, _*_, _-_, _/_, _≤_, _<_, min}
-use mathlib.Core.Bool.{Bool, true, false, cond}
+use Prim.Native.Nat.{ℕ, suc, _+_, _*_, _≤_, _<_, min}
+use mathlib.Core.Bool.{Bool, true, false}
 use mathlib.Core.Path.{_≡_, refl, sym, ap, _∙_, subst}
-use mathlib.Core.List.{List, [], _∷_, _++_, flatMap, map}
-use mathlib.Core.Option.{Option, none, some, bind}
+use mathlib.Core.List.{List, [], _∷_}
+use mathlib.Core.Option.{some}
 use native.Mathlib.Omega.{arith}
 use mir.Syntax.{w32}
 use mir.Val.{Fits}
-use native.Mathlib.Nat.{le-refl}
 use borrow.Author.Tests.{le-leb, lt-leb}
-use lib.Dec.{leb, eqb}
-use lib.ListN.{length, getD, take, replicate}
+use lib.ListN.{length}
 use Rattle.geometry.specs.declared.rect.Cell.{Cell}
-use Rattle.geometry.specs.declared.rect.Rect.{Rect}
-use Rattle.geometry.specs.Cells.{onGrid}
-use Rattle.tree.specs.Lists.{countOf}
-use Rattle.tree.specs.Nodes.{Item, held, nodes}
-use Rattle.tree.specs.Tree.{Tree, Index, top, entries, nodeCount, Sound, SoundTree}
-use Rattle.tree.specs.Insert.{Outcome, refused, accepted, limited, insertTree, insert}
+use Rattle.tree.specs.Nodes.{nodes}
+use Rattle.tree.specs.Tree.{Tree, top, entries, nodeCount, SoundTree}
+use Rattle.tree.specs.Insert.{accepted, limited, insertTree}
 use Rattle.tree.specs.Query.{holds}
 use Rattle.tree.specs.Calls.{insertion, outcomeIndex}
 use Rattle.tree.proofs.Counts.{countOf-every}
@@ -27,19 +22,17 @@ use Rattle.plane.specs.Plane.{planeSpace, planeRoot}
 use Rattle.plane.proofs.Rects.{plane-space-laws}
 use Rattle.plane.proofs.Steps.{plane-steps}
 use Rattle.plane.proofs.Roots.{plane-root-laws}
-use Rattle.memory.specs.Layout.{partsOf, rightLength}
-use Rattle.memory.specs.SoundTest.{soundTest}
-use Rattle.memory.specs.Reading.{readNode, reading}
+use Rattle.memory.specs.Layout.{partsOf}
+use Rattle.memory.specs.Reading.{reading}
 use Rattle.memory.specs.Image.{emitNode, memoryOf, image}
-use Rattle.memory.proofs.ReadingLaws.{ReadAs, read-as, ReadSound, read-sound, RightLength, length-right, parts-are}
+use Rattle.memory.proofs.ReadingLaws.{ReadSound, read-sound, RightLength, length-right}
 use Rattle.memory.proofs.SoundTested.{test-of-sound}
 use Rattle.memory.proofs.ImageLaws.{image-reads, image-length}
 use Rattle.memory.proofs.NodeImage.{length-node}
-use Rattle.index.specs.declared.answer.Inserted.{Inserted}
+use Rattle.memory.specs.Fanout.{fanout}
 use Rattle.index.specs.declared.answer.Inserted.the-variants as I
-use Rattle.index.specs.Answers.{fanout, PlaneIndex, insertEnd, insertRead, insertAnswer}
-use Rattle.index.specs.Changes.{entryOf, insertedIndex, InsertMemory, workAfter, InsertCall}
-use Rattle.index.specs.Open.{TreeIn}
+use Rattle.index.specs.Answers.{insertEnd, insertRead}
+use Rattle.index.specs.Changes.{entryOf, insertedIndex}
 use Rattle.index.specs.Walks.{Walkable}
 use Rattle.index.proofs.TreeWalk.{tree-walkable}
 use Rattle.emission.specs.declared.whole.Emitted.{Emitted}
@@ -49,9 +42,9 @@ use Rattle.emission.specs.Whole.{TreeRoom, TreeEmitted}
 use Rattle.index.specs.Count.{entriesAt}
 use Rattle.index.specs.Held.{heldRead}
 use Rattle.index.proofs.CountWalk.{held-few, tree-held}
-use Rattle.insertion.specs.Writing.{written}
-use Rattle.insertion.specs.Insert.{Inserting, PathPlanned, PathRefused, PathFound, Built, InsertDone}
-use Rattle.insertion.proofs.WritingLaws.{written-image}
+use Rattle.layout.specs.Writing.{written}
+use Rattle.insertion.specs.Insert.{Inserting, PathPlanned, PathRefused, PathFound, Built}
+use Rattle.layout.proofs.WritingLaws.{written-image}
 
 module _ (m : List ℕ) (level root : ℕ) (c : Cell) (v : Inserting m level root c) where
   read-tree : ReadSound fanout m (v .tree-in .tree)
@@ -60,8 +53,8 @@ module _ (m : List ℕ) (level root : ℕ) (c : Cell) (v : Inserting m level roo
   pub build-walk : Walkable level m 0 root
   build-walk = tree-walkable m level root (v .tree-in)
 
-  pub build-long : 64 ≤ length m
-  build-long = let i = length-right m (read-tree .right) .length-is in omega arith
+  pub build-right : RightLength m
+  build-right = length-right m (read-tree .right)
 
   pub build-level : level ≤ 255
   build-level = let a = read-tree .levels in let b = read-tree .few-parts in let d = v .tree-in .level-is in omega arith
@@ -218,10 +211,13 @@ module _ (m : List ℕ) (level root : ℕ) (c : Cell) (v : Inserting m level roo
       planned = subst (λ (x : Bool). PathFound m level c path x) n f
 
       module _ (t k : ℕ) (q : k ≡ min countLimit (nodeCount (planeSpace fanout) (some (plannedTree level path m (entryOf c t))))) where
-        pub build-eight : (w : List ℕ) → partsOf m < k → Built m w (entryOf c t) m w I.NodeLimit
-        build-eight w h = built-eight m level root c t v path planned w w k q h refl
+        pub build-eight : (w : List ℕ) (room : ℕ) → room ≡ partsOf m → room < k → Built m w (entryOf c t) m w I.NodeLimit
+        build-eight w room e h = built-eight m level root c t v path planned w w k q (omega arith) refl
 
-        module _ (h : k ≤ partsOf m) (w : List ℕ) (l : length w ≡ length m) where
+        module _ (room : ℕ) (room-is : room ≡ partsOf m) (fits-in : k ≤ room) (w : List ℕ) (l : length w ≡ length m) where
+          h : k ≤ partsOf m
+          h = omega arith
+
           pub emit-room : TreeRoom w (plannedTree level path m (entryOf c t))
           emit-room = tree-room m level root c t v path planned k q h w l
 

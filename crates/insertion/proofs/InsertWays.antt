@@ -13,11 +13,12 @@ use Rattle.plane.specs.Lines.{CellEntry}
 use Rattle.plane.specs.Plane.{planeSpace}
 use Rattle.memory.specs.Layout.{rightLength}
 use Rattle.memory.specs.Reading.{reading}
+use Rattle.memory.specs.Fanout.{fanout}
 use Rattle.index.specs.declared.answer.Inserted.{Inserted}
 use Rattle.index.specs.declared.answer.Inserted.the-variants as I
 use Rattle.index.specs.declared.opening.Opened.{Opened}
 use Rattle.index.specs.declared.opening.Opened.the-variants as O
-use Rattle.index.specs.Answers.{fanout, insertEnd, insertRead, insertAnswer}
+use Rattle.index.specs.Answers.{insertEnd, insertRead, insertAnswer}
 use Rattle.index.specs.Changes.{entryOf, InsertCall}
 use Rattle.index.specs.Open.{TreeIn, OpenedAs}
 use Rattle.index.specs.Held.{heldRead}

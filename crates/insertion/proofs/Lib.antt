@@ -6,7 +6,6 @@ pub mod PathLaws
 pub mod PlanLoop
 pub mod LineLaws
 pub mod DescentWays
-pub mod WritingLaws
 pub mod RootLaws
 pub mod InsertLaws
 pub mod FirstLaws

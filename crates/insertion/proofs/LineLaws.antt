@@ -1,7 +1,7 @@
 -- The line of a node on the path that gets one item too many: what the search for it asks, and that it is the definition's.
-use Prim.Native.Nat.{ℕ, suc, _+_, _-_, _<_}
+use Prim.Native.Nat.{ℕ, suc, _-_, _<_}
 use mathlib.Core.Bool.{true}
-use mathlib.Core.Path.{_≡_, sym, ap, _∙_, subst}
+use mathlib.Core.Path.{_≡_, refl, sym, ap, _∙_, subst}
 use mathlib.Core.List.{List, [], _∷_, _++_, map, flatMap}
 use mathlib.Core.Option.{some}
 use native.Mathlib.Omega.{arith}
@@ -17,10 +17,11 @@ use Rattle.plane.specs.Plane.{planeSpace}
 use Rattle.plane.proofs.Kept.{map-all}
 use Rattle.plane.proofs.Rects.{plane-space-laws}
 use Rattle.plane.proofs.Steps.{plane-steps}
-use Rattle.index.specs.Answers.{fanout}
+use Rattle.memory.specs.Layout.{part, countAt, NodePart}
+use Rattle.memory.specs.Fanout.{fanout}
 use Rattle.index.specs.Changes.{entryOf}
-use Rattle.index.specs.Walks.{Walkable, countAt, partAt}
-use Rattle.index.proofs.WalkRows.{leaf-part, part-is}
+use Rattle.index.specs.Walks.{Walkable}
+use Rattle.index.proofs.WalkRows.{node-part}
 use Rattle.split_line.specs.FullLeaf.{OnGrid, entriesOf, LeafHere, FullLeaf, LeafLineIs}
 use Rattle.split_line.specs.Groups.{NodeHere, NodeLineIs}
 use Rattle.emission.specs.Path.{partOn, placeOn, lineOn, polygonOn, wayAt, PathFrom}
@@ -44,11 +45,11 @@ module _ (level : ℕ) (path m : List ℕ) (c : Cell) (f : Full 0 level path m c
   walk : Walkable 0 m 0 k
   walk = node-at path m 0 (path-below path m level 0 (f .path-is .from) (omega arith)) .walk
 
-  entries-are : (t : ℕ) → wayAt 0 path m (entryOf c t) ≡ entriesOf (partAt m k) ++ (entryOf c t ∷ [])
+  entries-are : (t : ℕ) → wayAt 0 path m (entryOf c t) ≡ entriesOf (part m k) ++ (entryOf c t ∷ [])
   unfolding wayAt
-  entries-are t = rw (part-is 0 m 0 k walk)
+  entries-are t = refl
 
-  full-leaf : (t : ℕ) → FullLeaf (entriesOf (partAt m k) ++ (entryOf c t ∷ []))
+  full-leaf : (t : ℕ) → FullLeaf (entriesOf (part m k) ++ (entryOf c t ∷ []))
   unfolding GoodWay row
   full-leaf t =
       let g = f .path-is .goods 0 (omega arith) t in
@@ -56,14 +57,14 @@ module _ (level : ℕ) (path m : List ℕ) (c : Cell) (f : Full 0 level path m c
       let e = f .eight in
       subst (λ (es : List CellEntry). FullLeaf es) (entries-are t) (record { count = omega arith; grid = g .real; apart = g .apart })
 
-  leaf-here : LeafHere (partAt m k) c
+  leaf-here : LeafHere (part m k) c
   leaf-here = record {
-    leaf = leaf-part 0 m 0 k walk;
-    grid = all-first (λ e. onGrid (e .cell) ≡ true) (entriesOf (partAt m k)) (entryOf c 0 ∷ []) (full-leaf 0 .grid);
+    leaf = node-part 0 m 0 k walk (part m k) refl;
+    grid = all-first (λ e. onGrid (e .cell) ≡ true) (entriesOf (part m k)) (entryOf c 0 ∷ []) (full-leaf 0 .grid);
     cell = f .path-is .grid;
   }
 
-  leaf-level : (r : ℕ) → LeafLineIs (partAt m k) c r → LineOfLevel 0 path m c r
+  leaf-level : (r : ℕ) → LeafLineIs (part m k) c r → LineOfLevel 0 path m c r
   unfolding row
   leaf-level r l t =
       let a = l t (full-leaf t) in
@@ -132,11 +133,17 @@ module _ (n level : ℕ) (path m : List ℕ) (c : Cell) (f : Full (suc n) level 
 
 -- The same for the code, by its level.
 module _ (n level : ℕ) (path m : List ℕ) (c : Cell) (f : Full n level path m c) where
-  pub leaf-ready : n ≡ 0 → LeafHere (partAt m (partOn path n)) c
-  leaf-ready z = subst (λ (i : ℕ). LeafHere (partAt m (partOn path i)) c) (sym z) (leaf-here level path m c (subst (λ (i : ℕ). Full i level path m c) z f))
+  module _ (z : n ≡ 0) (p : List ℕ) (p-is : p ≡ part m (partOn path n)) where
+    leaf-is : p ≡ part m (partOn path 0)
+    leaf-is = p-is ∙ ap (λ (i : ℕ). part m (partOn path i)) z
 
-  pub leaf-found : n ≡ 0 → (r : ℕ) → LeafLineIs (partAt m (partOn path n)) c r → LineOfLevel n path m c r
-  leaf-found z r l = subst (λ (i : ℕ). LineOfLevel i path m c r) (sym z) (leaf-level level path m c (subst (λ (i : ℕ). Full i level path m c) z f) r (subst (λ (i : ℕ). LeafLineIs (partAt m (partOn path i)) c r) z l))
+    pub leaf-ready : LeafHere p c
+    leaf-ready = subst (λ (l : List ℕ). LeafHere l c) (sym leaf-is) (leaf-here level path m c (subst (λ (i : ℕ). Full i level path m c) z f))
+
+    pub leaf-found : (r : ℕ) → LeafLineIs p c r → LineOfLevel n path m c r
+    leaf-found r l =
+        subst (λ (i : ℕ). LineOfLevel i path m c r) (sym z)
+        (leaf-level level path m c (subst (λ (i : ℕ). Full i level path m c) z f) r (subst (λ (q : List ℕ). LeafLineIs q c r) leaf-is l))
 
   pub node-ready : (n ≡ 0 → ⊥) → NodeHere m n 0 (partOn path n) (placeOn path n) (lineOn path (n - 1)) c
   node-ready h =

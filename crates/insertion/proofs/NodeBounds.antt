@@ -1,12 +1,11 @@
 -- The bounds of what the code reads of a node on the path, in the path and in the memory.
-use Prim.Native.Nat.{ℕ, _+_, _*_, _-_, _≤_, _<_}
+use Prim.Native.Nat.{ℕ, _+_, _*_, _-_, _<_}
 use mathlib.Core.Path.{_≡_}
 use mathlib.Core.List.{List}
 use native.Mathlib.Omega.{arith}
-use mir.Syntax.{w64}
-use mir.Val.{Fits}
 use lib.ListN.{length}
 use Rattle.geometry.specs.declared.rect.Cell.{Cell}
+use Rattle.memory.specs.Layout.{PartIn}
 use Rattle.emission.specs.Path.{partOn, PathNode}
 use Rattle.insertion.specs.Planning.{Full}
 use Rattle.insertion.proofs.PathLaws.{path-below, node-at}
@@ -21,32 +20,8 @@ module _ (n : ℕ) (path m : List ℕ) (p : PathNode n path m) where
   pub line-in : 68 * n + 2 < length path
   line-in = let r = p .room in omega arith
 
-  pub part-cast : Fits w64 (partOn path n)
-  part-cast = let b = p .walk .below in omega arith
-
-  pub part-mul : Fits w64 (128 * partOn path n)
-  part-mul = let b = p .walk .below in omega arith
-
-  pub part-start : Fits w64 (64 + 128 * partOn path n)
-  part-start = let b = p .walk .below in omega arith
-
-  pub part-stop : Fits w64 (64 + 128 * partOn path n + 128)
-  part-stop = let b = p .walk .below in omega arith
-
-  pub part-bytes : Fits w64 ((64 + 128 * partOn path n) * 4)
-  part-bytes = let b = p .walk .below in omega arith
-
-  pub part-ends : 64 + 128 * partOn path n + 128 ≤ length m
+  pub part-ends : PartIn m (partOn path n)
   part-ends = p .walk .ends
-
-  pub count-add : Fits w64 (64 + 128 * partOn path n + 1)
-  count-add = let b = p .walk .below in omega arith
-
-  pub count-bytes : Fits w64 ((64 + 128 * partOn path n + 1) * 4)
-  count-bytes = let b = p .walk .below in omega arith
-
-  pub count-in : 64 + 128 * partOn path n + 1 < length m
-  count-in = let e = p .walk .ends in omega arith
 
 module _ (n level : ℕ) (path m : List ℕ) (c : Cell) (f : Full n level path m c) where
   pub full-node : PathNode n path m

@@ -28,11 +28,11 @@ use Rattle.plane.proofs.Rects.{plane-space-laws}
 use Rattle.plane.proofs.Steps.{plane-steps, fits-of-fit}
 use Rattle.plane.proofs.NodeLine.{Fits}
 use Rattle.plane.proofs.Extents.{on-same, count-same, node-same}
-use Rattle.memory.specs.Layout.{part, itemCount, childrenIn}
+use Rattle.memory.specs.Layout.{part, itemCount, childrenIn, countAt}
 use Rattle.memory.specs.Reading.{readNode}
 use Rattle.memory.proofs.ReadingLaws.{node-parts, row-length, children-length, node-below}
-use Rattle.index.specs.Answers.{fanout}
-use Rattle.index.specs.Walks.{Walkable, countAt}
+use Rattle.memory.specs.Fanout.{fanout}
+use Rattle.index.specs.Walks.{Walkable}
 use Rattle.index.proofs.WalkParts.{part-at}
 use Rattle.split_line.specs.Groups.{halvesOf, groupsAt, LineFits}
 use Rattle.emission.specs.Path.{partOn, placeOn, lineOn, polygonOn, rowAt, wayAt}

@@ -14,9 +14,10 @@ use Rattle.geometry.proofs.NumberLaws.{rects-same}
 use Rattle.tree.specs.Plan.{Way, descend}
 use Rattle.plane.specs.Lines.{CellEntry}
 use Rattle.plane.specs.Plane.{planeSpace}
-use Rattle.index.specs.Answers.{fanout}
+use Rattle.memory.specs.Layout.{countAt}
+use Rattle.memory.specs.Fanout.{fanout}
 use Rattle.index.specs.Changes.{entryOf}
-use Rattle.index.specs.Walks.{Walkable, countAt}
+use Rattle.index.specs.Walks.{Walkable}
 use Rattle.emission.specs.Path.{partOn, placeOn, lineOn, polygonOn, wayAt, PathNode, PathFrom}
 use Rattle.tree.proofs.GoodWays.{GoodWay}
 use Rattle.insertion.specs.Descent.{itemsAt}

@@ -1,16 +1,16 @@
 -- The bounds of what the loop of the plan reads and writes.
-use Prim.Native.Nat.{ℕ, _+_, _*_, _-_, _≤_, _<_}
-use mathlib.Core.Path.{_≡_}
+use Prim.Native.Nat.{ℕ, _+_, _*_, _≤_, _<_}
 use mathlib.Core.List.{List}
 use native.Mathlib.Omega.{arith}
-use mir.Syntax.{w32, w64}
+use mir.Syntax.{w32}
 use mir.Val.{Fits}
 use lib.ListN.{length}
 use Rattle.geometry.specs.declared.rect.Cell.{Cell}
+use Rattle.memory.specs.Layout.{PartIn}
 use Rattle.memory.proofs.ReadingLaws.{level-range}
-use Rattle.index.specs.Answers.{fanout}
+use Rattle.memory.specs.Fanout.{fanout}
 use Rattle.emission.specs.Path.{partOn, PathNode}
-use Rattle.insertion.proofs.NodeBounds.{part-in, line-in, part-cast, part-mul, part-start, count-add, count-bytes, count-in}
+use Rattle.insertion.proofs.NodeBounds.{part-in, line-in, part-ends}
 use Rattle.insertion.proofs.PlanLoop.{Planning, plan-node}
 
 module _ (level : ℕ) (path₀ m : List ℕ) (c : Cell) (n : ℕ) (path : List ℕ) (a : Planning level path₀ m c n path) (h : n ≤ level) where
@@ -23,23 +23,8 @@ module _ (level : ℕ) (path₀ m : List ℕ) (c : Cell) (n : ℕ) (path : List 
   pub plan-line : 68 * n + 2 < length path
   plan-line = line-in n path m node
 
-  pub plan-cast : Fits w64 (partOn path n)
-  plan-cast = part-cast n path m node
-
-  pub plan-mul : Fits w64 (128 * partOn path n)
-  plan-mul = part-mul n path m node
-
-  pub plan-from : Fits w64 (64 + 128 * partOn path n)
-  plan-from = part-start n path m node
-
-  pub plan-count : Fits w64 (64 + 128 * partOn path n + 1)
-  plan-count = count-add n path m node
-
-  pub plan-bytes : Fits w64 ((64 + 128 * partOn path n + 1) * 4)
-  plan-bytes = count-bytes n path m node
-
-  pub plan-in : 64 + 128 * partOn path n + 1 < length m
-  plan-in = count-in n path m node
+  pub plan-in : PartIn m (partOn path n)
+  plan-in = part-ends n path m node
 
   pub plan-next : Fits w32 (n + 1)
   plan-next =

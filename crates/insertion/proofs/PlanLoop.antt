@@ -14,11 +14,11 @@ use Rattle.tree.specs.Split.{split}
 use Rattle.tree.specs.Plan.{row, few, lineAt}
 use Rattle.plane.specs.Plane.{planeSpace}
 use Rattle.plane.specs.Candidates.{rankLine}
-use Rattle.memory.specs.Layout.{part, itemCount, entriesIn}
+use Rattle.memory.specs.Layout.{part, itemCount, entriesIn, countAt}
 use Rattle.memory.proofs.ReadingLaws.{entries-length}
-use Rattle.index.specs.Answers.{fanout}
+use Rattle.memory.specs.Fanout.{fanout}
 use Rattle.index.specs.Changes.{entryOf}
-use Rattle.index.specs.Walks.{Walkable, countAt}
+use Rattle.index.specs.Walks.{Walkable}
 use Rattle.index.proofs.WalkParts.{part-at}
 use Rattle.emission.specs.Path.{partOn, lineOn, polygonOn, wayAt, PathNode, PathFrom}
 use Rattle.insertion.specs.Planning.{GoodPath, Plannable, PlannedAt, Planned, SplitBelow, Full, LineOfLevel, PlanMade}
@@ -104,12 +104,12 @@ module _ (level : ℕ) (path₀ m : List ℕ) (c : Cell) (n : ℕ) (path : List 
   pub plan-node : n ≤ level → PathNode n path m
   plan-node h = node-at path m n (path-below path m level n (a .path-is .from) h)
 
-  pub plan-full : n ≤ level → 8 ≤ countAt m (partOn path n) → Full n level path m c
-  plan-full h f =
+  pub plan-full : (size : ℕ) → size ≡ countAt m (partOn path n) → n ≤ level → 8 ≤ size → Full n level path m c
+  plan-full size e h f =
       let w = plan-node h .walk .few in
       record { path-is = a .path-is; below = h; splits = a .splits; eight = omega arith }
 
-  module _ (r : ℕ) (h : n ≤ level) (full : 8 ≤ countAt m (partOn path n)) (l : LineOfLevel n path m c r) where
+  module _ (size : ℕ) (size-is : size ≡ countAt m (partOn path n)) (r : ℕ) (h : n ≤ level) (full : 8 ≤ size) (l : LineOfLevel n path m c r) where
     abbrev path₁ : List ℕ
     path₁ = set path (68 * n + 2) r
 
@@ -171,8 +171,8 @@ module _ (level : ℕ) (path₀ m : List ℕ) (c : Cell) (n : ℕ) (path : List 
   made p = record { path-is = a .path-is; planned = p; same-length = a .same-length; part = a .part; polygon = a .polygon }
 
   -- a node that gets no item too many: the plan is done
-  pub plan-stop : n ≤ level → countAt m (partOn path n) < 8 → PlanMade level path₀ m c path
-  plan-stop h f = made (record { each = λ j i t. each j i (decLt j n) t })
+  pub plan-stop : (size : ℕ) → size ≡ countAt m (partOn path n) → n ≤ level → size < 8 → PlanMade level path₀ m c path
+  plan-stop size size-is h f = made (record { each = λ j i t. each j i (decLt j n) t })
     where
       here : (t : ℕ) → few (planeSpace fanout) n (wayAt n path m (entryOf c t)) ≡ true
       here t =

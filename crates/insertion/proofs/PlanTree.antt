@@ -23,7 +23,7 @@ use Rattle.tree.proofs.Pass.{under-deep}
 use Rattle.plane.specs.Lines.{CellEntry}
 use Rattle.plane.specs.Plane.{planeSpace, planeRoot}
 use Rattle.plane.specs.Candidates.{rankLine}
-use Rattle.index.specs.Answers.{fanout}
+use Rattle.memory.specs.Fanout.{fanout}
 use Rattle.emission.specs.Path.{lineOn, polygonOn, wayAt, rowUnder, cutUnder, plannedTree}
 use Rattle.tree.proofs.GoodWays.{GoodWay}
 use Rattle.insertion.specs.Planning.{PlannedAt}

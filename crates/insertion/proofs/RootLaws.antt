@@ -1,5 +1,5 @@
 -- The start of an insertion at the root, and its path found: the tree after is the planned one.
-use Prim.Native.Nat.{ℕ, zero, suc, _+_, _*_, _-_, _≤_, _<_}
+use Prim.Native.Nat.{ℕ, zero, suc, _+_, _*_, _≤_}
 use mathlib.Core.Bool.{Bool, true, false}
 use mathlib.Core.Path.{_≡_, sym, ap, _∙_, subst}
 use mathlib.Core.List.{List, [], _∷_, flatMap}
@@ -7,8 +7,7 @@ use mathlib.Core.Option.{Option, none, some, bind, Option·some-injective}
 use native.Mathlib.Omega.{arith}
 use native.Mathlib.Nat.{le-refl}
 use native.Mathlib.Decide.{ℕ-discrete}
-use lib.ListN.{length, take, drop, getD, length-take, length-drop}
-use lib.Seq.{getD-drop, getD-take}
+use lib.ListN.{length, drop, length-drop}
 use Rattle.geometry.specs.declared.rect.Cell.{Cell}
 use Rattle.geometry.specs.declared.rect.Rect.{Rect}
 use Rattle.geometry.specs.Cells.{onGrid}
@@ -35,13 +34,12 @@ use Rattle.plane.specs.Plane.{planeSpace, planeRoot}
 use Rattle.plane.proofs.Rects.{plane-space-laws}
 use Rattle.plane.proofs.Steps.{plane-steps}
 use Rattle.plane.proofs.Roots.{plane-root-laws}
-use Rattle.memory.specs.Layout.{part, rectCount, polygonIn, rootIn}
+use Rattle.memory.specs.Layout.{PartIn, part, rectCount, polygonIn, rootIn}
 use Rattle.memory.specs.Reading.{readNode, reading}
 use Rattle.memory.proofs.ReadingLaws.{ReadAs, read-as, read-sound, leaf-parts, node-parts}
-use Rattle.index.specs.Answers.{fanout}
+use Rattle.memory.specs.Fanout.{fanout}
 use Rattle.index.specs.Changes.{entryOf}
 use Rattle.index.specs.Walks.{Walkable}
-use Rattle.index.proofs.WalkParts.{part-at}
 use Rattle.index.proofs.WalkRows.{walkable}
 use Rattle.index.proofs.TreeWalk.{tree-walkable}
 use Rattle.emission.specs.Path.{partOn, polygonOn, wayAt, plannedTree}
@@ -64,18 +62,6 @@ steps = plane-steps fanout (omega arith)
 polygon-reads : (n : ℕ) (m : List ℕ) (lo k : ℕ) (b : Item (planeSpace fanout) (suc n)) → readNode fanout n m lo k ≡ some b → b .poly ≡ polygonIn (part m k)
 polygon-reads zero m lo k b h = leaf-parts fanout m lo k b h .polygon
 polygon-reads (suc n) m lo k b h = node-parts fanout n m lo k b h .polygon
-
--- the first rectangle of a part, read in place
-rect-in-place : (m : List ℕ) (k : ℕ) → 64 + 128 * k + 128 ≤ length m
-    → rectAt (take (length m - (64 + 128 * k + 2)) (drop (64 + 128 * k + 2) m)) 0 ≡ rectAt (drop 2 (part m k)) 0
-unfolding rectAt
-rect-in-place m k h = rw (at 0 (omega arith), at 1 (omega arith), at 2 (omega arith), at 3 (omega arith))
-  where
-    at : (i : ℕ) → i < 4 → getD (take (length m - (64 + 128 * k + 2)) (drop (64 + 128 * k + 2) m)) i 0 ≡ getD (drop 2 (part m k)) i 0
-    at i l =
-        getD-take (length m - (64 + 128 * k + 2)) (drop (64 + 128 * k + 2) m) i 0 (omega arith) ∙ getD-drop (64 + 128 * k + 2) m i 0
-        ∙ ap (λ (j : ℕ). getD m j 0) (let q : 64 + 128 * k + 2 + i ≡ 64 + 128 * k + (2 + i) = omega arith in q)
-        ∙ sym (getD-drop 2 (part m k) i 0 ∙ part-at m k (2 + i) (omega arith))
 
 one-rect : (l : List ℕ) (n : ℕ) → length (rectsIn l n) ≡ 1 → rectsIn l n ≡ rectAt l 0 ∷ []
 unfolding rectsIn
@@ -107,13 +93,12 @@ module _ (m : List ℕ) (c : Cell) (x : Tree (planeSpace fanout)) (reads : readi
   p = planeRoot fanout .growRoot (x .root) c
 
   -- the rectangle that the code grows
-  pub grown-root : (r g : Rect) → r ≡ rectAt (take (length m - (64 + 128 * root + 2)) (drop (64 + 128 * root + 2) m)) 0 → g ≡ grown r c → g ∷ [] ≡ p
+  grown-root : (r g : Rect) → r ≡ rectAt (drop 2 (part m root)) 0 → g ≡ grown r c → g ∷ [] ≡ p
   grown-root r g e f =
       let q = polygon-reads (x .level) m 0 root (top (planeSpace fanout) x) (read-x .root-node) in
       let o : length (rectsIn (drop 2 (part m root)) (rectCount (part m root))) ≡ 1 = ap length (sym q) ∙ sound .one in
       let w : x .root ≡ rectAt (drop 2 (part m root)) 0 ∷ [] = q ∙ one-rect (drop 2 (part m root)) (rectCount (part m root)) o in
-      let i = walk .ends in
-      ap (λ (z : Rect). z ∷ []) (f ∙ ap (λ (z : Rect). grown z c) (e ∙ rect-in-place m root i)) ∙ ap (λ (l : List Rect). planeRoot fanout .growRoot l c) (sym w)
+      ap (λ (z : Rect). z ∷ []) (f ∙ ap (λ (z : Rect). grown z c) e) ∙ ap (λ (l : List Rect). planeRoot fanout .growRoot l c) (sym w)
 
   items-x : itemsAt (x .level) m root ≡ x .items
   items-x = items-are (x .level) m root (top (planeSpace fanout) x) (read-x .root-node)
@@ -196,6 +181,13 @@ module _ (m : List ℕ) (c : Cell) (x : Tree (planeSpace fanout)) (reads : readi
               (ap (λ (l : List (Item (planeSpace fanout) (x .level))). descend (planeSpace fanout) (x .level) (polygonOn path₃ (x .level)) l (entryOf c t)) (sym (ap (itemsAt (x .level) m) (made .part ∙ part-2) ∙ items-x)) ∙ made .path-is .ways (x .level) (le-refl (x .level)) t));
         }
 
+-- the first rectangle of a part
+pub first-in : (p l : List ℕ) → length p ≡ 128 → l ≡ drop 2 p → 4 ≤ length l
+first-in p l n e = rw e (let d = length-drop 2 p in omega arith)
+
+pub first-is : (m : List ℕ) (k : ℕ) (p l : List ℕ) (r : Rect) → p ≡ part m k → l ≡ drop 2 p → r ≡ rectAt l 0 → r ≡ rectAt (drop 2 (part m k)) 0
+first-is m k p l r e f g = g ∙ ap (λ (x : List ℕ). rectAt x 0) (f ∙ ap (drop 2) e)
+
 -- The same for the code: the tree's level and root by their numbers.
 module _ (m : List ℕ) (level root : ℕ) (c : Cell) (v : Inserting m level root c) where
   abbrev tree : Tree (planeSpace fanout)
@@ -211,11 +203,8 @@ module _ (m : List ℕ) (level root : ℕ) (c : Cell) (v : Inserting m level roo
   walk-root : Walkable level m 0 root
   walk-root = tree-walkable m level root (v .tree-in)
 
-  pub root-in : 64 + 128 * root + 2 ≤ length m
-  root-in = let e = walk-root .ends in omega arith
-
-  pub root-rect : 4 ≤ length (take (length m - (64 + 128 * root + 2)) (drop (64 + 128 * root + 2) m))
-  root-rect = let e = walk-root .ends in simp (length-take, length-drop) (omega arith)
+  pub root-in : PartIn m root
+  root-in = walk-root .ends
 
   pub cell-x : c .x ≤ 65535
   cell-x = grid-of c (v .grid) .x-most
@@ -223,11 +212,11 @@ module _ (m : List ℕ) (level root : ℕ) (c : Cell) (v : Inserting m level roo
   pub cell-y : c .y ≤ 65535
   cell-y = grid-of c (v .grid) .y-most
 
-  module _ (path path₁ : List ℕ) (r g : Rect) (h : 68 * level + 68 ≤ length path) (e : r ≡ rectAt (take (length m - (64 + 128 * root + 2)) (drop (64 + 128 * root + 2) m)) 0) (f : g ≡ grown r c)
-      (q : Polygon) (u : PolygonOf (g ∷ []) q) (put : LevelPut path level root (rectsOf q) path₁) where
+  module _ (path path₁ : List ℕ) (h : 68 * level + 68 ≤ length path) (q : Polygon) (put : LevelPut path level root (rectsOf q) path₁) (g : Rect) (u : PolygonOf (g ∷ []) q)
+      (r : Rect) (f : g ≡ grown r c) (e : r ≡ rectAt (drop 2 (part m root)) 0) where
     put-tree : LevelPut path (tree .level) (rootIn m) grownRoot path₁
     put-tree =
-        let a = subst (λ (i : ℕ). r ≡ rectAt (take (length m - (64 + 128 * i + 2)) (drop (64 + 128 * i + 2) m)) 0) (sym (v .tree-in .root-is)) e in
+        let a : r ≡ rectAt (drop 2 (part m (rootIn m))) 0 = e ∙ ap (λ (i : ℕ). rectAt (drop 2 (part m i)) 0) (sym (v .tree-in .root-is)) in
         let b : rectsOf q ≡ grownRoot = u .list ∙ grown-root m c tree (v .tree-in .reads) (v .grid) tree-new r g a f in
         subst (λ (i : ℕ). LevelPut path i (rootIn m) grownRoot path₁) (sym (v .tree-in .level-is))
         (subst (λ (i : ℕ). LevelPut path level i grownRoot path₁) (sym (v .tree-in .root-is)) (subst (λ (l : List Rect). LevelPut path level root l path₁) b put))

@@ -14,7 +14,7 @@ use Rattle.tree.specs.Plan.{descend}
 use Rattle.tree.proofs.InsertAt.{Fresh}
 use Rattle.plane.specs.Plane.{planeSpace}
 use Rattle.memory.specs.Reading.{readNode}
-use Rattle.index.specs.Answers.{fanout}
+use Rattle.memory.specs.Fanout.{fanout}
 use Rattle.index.specs.Changes.{entryOf}
 use Rattle.index.specs.Walks.{Walkable}
 use Rattle.emission.specs.Path.{partOn, lineOn, polygonOn, wayAt, PathFrom}

@@ -13,8 +13,9 @@ use Rattle.plane.specs.Lines.{CellEntry}
 use Rattle.plane.specs.Plane.{planeSpace, planeRoot}
 use Rattle.memory.specs.Layout.{partsOf}
 use Rattle.memory.specs.Reading.{reading}
+use Rattle.memory.specs.Fanout.{fanout}
 use Rattle.index.specs.declared.answer.Inserted.{Inserted}
-use Rattle.index.specs.Answers.{fanout, insertRead}
+use Rattle.index.specs.Answers.{insertRead}
 use Rattle.index.specs.Changes.{entryOf, InsertMemory, workAfter}
 use Rattle.index.specs.Open.{TreeIn}
 use Rattle.emission.specs.Path.{PathFrom, plannedTree}

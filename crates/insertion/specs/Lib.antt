@@ -1,4 +1,3 @@
 pub mod Descent
 pub mod Planning
-pub mod Writing
 pub mod Insert

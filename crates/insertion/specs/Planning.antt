@@ -12,9 +12,9 @@ use Rattle.tree.specs.Plan.{descend, few, lineAt}
 use Rattle.plane.specs.Lines.{CellEntry}
 use Rattle.plane.specs.Plane.{planeSpace}
 use Rattle.plane.specs.Candidates.{rankLine}
-use Rattle.index.specs.Answers.{fanout}
+use Rattle.memory.specs.Layout.{countAt}
+use Rattle.memory.specs.Fanout.{fanout}
 use Rattle.index.specs.Changes.{entryOf}
-use Rattle.index.specs.Walks.{countAt}
 use Rattle.split_line.specs.LineNumber.{LineIs}
 use Rattle.emission.specs.Path.{partOn, lineOn, polygonOn, wayAt, PathFrom}
 use Rattle.tree.proofs.GoodWays.{GoodWay}

@@ -7,9 +7,7 @@ ghost use Rattle.insertion.specs.Descent.{LevelPut, Descending, Descende
 use emission::path_polygon;
 use geometry::Cell;
 use geometry::Polygon;
-use memory::HEAD;
-use memory::ITEMS;
-use memory::PART;
+use layout::child_at;
 use step2::Taken;
 use step2::choose;
 
@@ -45,7 +43,7 @@ pub fn descend(m: &[u32], level: u32, c: Cell, path: &mut [u32]) -> bool
         return false;
     };
     path[at + 1] = place as u32;
-    let child = m[HEAD + PART * (k as usize) + ITEMS + place];
+    let child = child_at(m, k, place);
     put_level(path, n - 1, child, choice.polygon);
     descend(m, level - 1, c, path)
 }

@@ -6,15 +6,15 @@ ghost use mathlib.Core.Option.{none, some};
 ghost use lib.ListN.{length};
 ghost use Rattle.geometry.specs.Cells.{onGrid};
 ghost use Rattle.memory.specs.Reading.{reading};
-ghost use Rattle.index.specs.Answers.{fanout};
+ghost use Rattle.memory.specs.Fanout.{fanout};
 ghost use Rattle.index.specs.Changes.{entryOf};
 ghost use Rattle.insertion.specs.Insert.{Built};
-use crate::writing::put_tree;
-use emission::put_node;
 use geometry::Cell;
 use geometry::Polygon;
 use geometry::Rect;
 use index::Inserted;
+use layout::put_node;
+use layout::put_tree;
 
 // 'an empty index gets a leaf with that cell alone'
 pub fn insert_first(m: &mut [u32], work: &mut [u32], c: Cell, tag: u32) -> Inserted

@@ -1,9 +1,11 @@
 // Insertion.
 ghost use mathlib.Core.Path.{_≡_};
 ghost use Prim.Native.Nat.{_+_, _*_, _≤_};
-ghost use lib.ListN.{length};
+ghost use lib.ListN.{length, drop};
 ghost use mathlib.Core.Bool.{true};
 ghost use Rattle.geometry.specs.Cells.{onGrid};
+ghost use Rattle.geometry.specs.Numbers.{rectAt};
+ghost use Rattle.memory.specs.Layout.{PartIn, part};
 ghost use Rattle.index.specs.Changes.{entryOf, InsertCall};
 ghost use Rattle.index.specs.Open.{TreeIn, OpenedAs};
 ghost use Rattle.insertion.specs.Insert.{Inserting, PathFound, Built, InsertDone};
@@ -11,22 +13,31 @@ use crate::descent::descend;
 use crate::descent::put_level;
 use crate::first::insert_first;
 use crate::planning::plan;
-use crate::writing::put_tree;
 use emission::count_tree;
 use emission::emit_tree;
 use geometry::Cell;
 use geometry::Polygon;
+use geometry::Rect;
 use geometry::rect_at;
 use index::Inserted;
 use index::Opened;
 use index::entries_below;
-use index::fill_zeros;
 use index::is_held;
 use index::open;
-use index::right_length;
-use memory::HEAD;
-use memory::PART;
-use memory::RECTS;
+use layout::fill_zeros;
+use layout::part_at;
+use layout::part_count;
+use layout::put_tree;
+use layout::rects;
+use layout::right_length;
+
+// The first rectangle of the node at part k.
+fn first_rect(m: &[u32], k: u32) -> Rect
+    requires { ⌜ PartIn (now m) k ⌝ }
+    ensures { λ r. ⌜ r ≡ rectAt (drop 2 (part (now (m .entry)) k)) 0 ⌝ }
+{
+    rect_at(rects(part_at(m, k)), 0)
+}
 
 // Steps 1 to 4, planned: the path from the root, whose rectangle grows to the cell, and the lines of the
 // nodes that are split. False where step 2 refuses.
@@ -35,8 +46,7 @@ fn find_path(m: &[u32], level: u32, root: u32, c: Cell, path: &mut [u32]) -> boo
     ensures { λ b. ⌜ PathFound (now (m .entry)) level c (now (path .exit)) b ⌝ }
     ensures { λ _. ⌜ length (now (path .exit)) ≡ length (now (path .entry)) ⌝ }
 {
-    let from = HEAD + PART * (root as usize) + RECTS;
-    let r = rect_at(&m[from..], 0);
+    let r = first_rect(m, root);
     put_level(path, level as usize, root, Polygon::of(r.grow(c)));
     if !descend(m, level, c, path) {
         return false;
@@ -62,8 +72,8 @@ fn build(
     if !find_path(m, level, root, c, path) {
         return Inserted::PolygonLimit;
     }
-    let room = (m.len() - HEAD) / PART;
-    if room < count_tree(m, path, level, c, tag) as usize {
+    let room = part_count(m);
+    if room < count_tree(m, path, level, c, tag) {
         return Inserted::NodeLimit;
     }
     let done = emit_tree(m, path, level, c, tag, work);

@@ -3,7 +3,6 @@ mod descent;
 mod first;
 mod insert_call;
 mod planning;
-mod writing;
 
 pub use insert_call::insert;
 pub use insert_call::insert_opened;

@@ -1,9 +1,8 @@
 // Step 4, planned: which nodes on the path are split, and at which lines.
 ghost use Rattle.insertion.specs.Planning.{Plannable, Full, LineOfLevel, PlanMade};
 use geometry::Cell;
-use memory::HEAD;
-use memory::ITEM_COUNT;
-use memory::PART;
+use layout::count_at;
+use layout::part_at;
 use split_line::leaf_line;
 use split_line::node_line;
 
@@ -15,9 +14,7 @@ fn line_at(m: &[u32], path: &[u32], n: u32, level: u32, c: Cell) -> u32
     let at = 68 * (n as usize);
     let k = path[at];
     if n == 0 {
-        let a = HEAD + PART * (k as usize);
-        let e = a + PART;
-        return leaf_line(&m[a..e], c);
+        return leaf_line(part_at(m, k), c);
     }
     let place = path[at + 1];
     let below = path[68 * ((n - 1) as usize) + 2];
@@ -34,7 +31,7 @@ pub fn plan(m: &[u32], level: u32, c: Cell, path: &mut [u32])
         let at = 68 * (n as usize);
         let k = path[at];
         // with the new item it has at most eight: it is not split, nor is any above
-        if m[HEAD + PART * (k as usize) + ITEM_COUNT] < 8 {
+        if count_at(m, k) < 8 {
             return;
         }
         let line = line_at(m, path, n, level, c);

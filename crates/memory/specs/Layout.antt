@@ -1,7 +1,8 @@
 -- Document 01, 'Memory is a list of 32-bit numbers': where each number stands. docs/LAYOUT.md has the same as a table.
-use Prim.Native.Nat.{ℕ, zero, suc, _+_, _*_, _-_, _/_, _%_, _^_}
+use Prim.Native.Nat.{ℕ, zero, suc, _+_, _*_, _-_, _/_, _%_, _^_, _≤_, _<_}
 use mathlib.Core.Bool.{Bool, true, false, _&&_, _||_}
 use mathlib.Core.List.{List, [], _∷_, _++_}
+use mathlib.Core.Path.{_≡_}
 use lib.Count.{ones}
 use lib.Dec.{leb, ltb, eqb}
 use lib.ListN.{length, take, drop, getD}
@@ -74,6 +75,17 @@ entriesIn p (suc n) = entriesIn p n ++ (entryIn p n ∷ [])
 abbrev pub childrenIn : List ℕ → List ℕ
 childrenIn p = take (itemCount p) (drop 66 p)
 
+-- part k is one of the memory's
+abbrev pub PartIn : List ℕ → ℕ → Type 0
+PartIn m k = 64 + 128 * k + 128 ≤ length m
+
+-- in place in the memory: the count of the items of the node at part k, and its i-th child
+abbrev pub countAt : List ℕ → ℕ → ℕ
+countAt m k = getD m (64 + 128 * k + 1) 0
+
+abbrev pub childAt : List ℕ → ℕ → ℕ → ℕ
+childAt m k i = getD m (64 + 128 * k + 66 + i) 0
+
 -- 'Unused numbers are zero': of a part whose items take w numbers each
 unfoldable pub restZero : ℕ → List ℕ → Bool
 restZero w p = allZero (take (64 - 4 * rectCount p) (drop (2 + 4 * rectCount p) p)) && allZero (drop (66 + w * itemCount p) p)
@@ -90,3 +102,14 @@ nodeFits fanout w m k = ltb k (partsOf m) && inUse m k && countsFit fanout (part
 unfoldable pub othersZero : List ℕ → ℕ → Bool
 othersZero m zero = true
 othersZero m (suc k) = othersZero m k && (inUse m k || allZero (part m k))
+
+-- What the functions on a part rely on: its counts are no larger than the layout admits.
+pub record NodePart (p : List ℕ) : Type 0 where
+  pub length-is : length p ≡ 128
+  pub few-rects : rectCount p ≤ 16
+  pub few-items : itemCount p ≤ 8
+
+-- part k is one of the memory's, and its polygon has at most 16 rectangles
+pub record PolygonPart (m : List ℕ) (k : ℕ) : Type 0 where
+  pub below : k < partsOf m
+  pub few-rects : rectCount (part m k) ≤ 16

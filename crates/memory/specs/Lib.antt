@@ -1,3 +1,4 @@
+pub mod Fanout
 pub mod Layout
 pub mod SoundTest
 pub mod Reading

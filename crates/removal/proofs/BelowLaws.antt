@@ -15,8 +15,8 @@ use Rattle.plane.specs.Plane.{planeSpace}
 use Rattle.memory.specs.Layout.{partsOf, part, inUse, bitsSet, othersZero, itemCount, nodeFits}
 use Rattle.memory.specs.Reading.{readNode}
 use Rattle.memory.proofs.ReadingLaws.{fits-as, of-fits}
-use Rattle.index.specs.Answers.{fanout}
-use Rattle.removal.specs.Gap.{ItemDropped}
+use Rattle.memory.specs.Fanout.{fanout}
+use Rattle.layout.specs.Gap.{ItemDropped}
 use Rattle.removal.specs.Parts.{Beside}
 use Rattle.removal.specs.Below.{nodeLeft, RemovedBelow}
 

@@ -8,7 +8,6 @@ use lib.ListN.{getD}
 use Rattle.geometry.specs.declared.rect.Cell.{Cell}
 use Rattle.memory.specs.Layout.{part, childrenIn}
 use Rattle.memory.proofs.ReadingLaws.{lowAt}
-use Rattle.index.specs.Walks.{partAt}
 use Rattle.removal.specs.declared.place.Child.{Child}
 use Rattle.removal.specs.Place.{EntryPlace, HoldsCell, ChildrenHave, ChildPlace}
 use Rattle.removal.specs.Below.{TakesItem, EntryTaken, BranchTaken, Removable, RemovedBelow}
@@ -16,15 +15,17 @@ use Rattle.removal.proofs.LeafRemoved.{leaf-holds, leaf-takes, leaf-rem
 use Rattle.removal.proofs.NodeRemoved.{child-is, children-have, child-removable, child-stays, branch-takes, node-removed}
 
 module _ (level : ℕ) (m : List ℕ) (lo k : ℕ) (c : Cell) (v : Removable level m lo k c) (z : level ≡ 0) where
-  pub below-holds : HoldsCell (partAt m k) c
-  below-holds = leaf-holds m lo k c (rw z at v)
+  -- the leaf's part
+  module _ (p : List ℕ) (e : p ≡ part m k) where
+    pub below-holds : HoldsCell p c
+    below-holds = rw e (leaf-holds m lo k c (rw z at v))
 
-  module _ (i : ℕ) (q : EntryPlace (partAt m k) c i) where
-    pub below-takes : TakesItem m k i
-    below-takes = leaf-takes m lo k c (rw z at v) i q
+    module _ (i : ℕ) (q : EntryPlace p c i) where
+      pub below-takes : TakesItem m k i
+      below-takes = leaf-takes m lo k c (rw z at v) i (rw e at q)
 
-    pub below-leaf : (m′ : List ℕ) (r : Bool) → EntryTaken m k i m′ r → RemovedBelow level m lo k c m′ r
-    below-leaf m′ r t = rw z (leaf-removed m lo k c (rw z at v) i q m′ r t)
+      pub below-leaf : (m′ : List ℕ) (r : Bool) → EntryTaken m k i m′ r → RemovedBelow level m lo k c m′ r
+      below-leaf m′ r t = rw z (leaf-removed m lo k c (rw z at v) i (rw e at q) m′ r t)
 
 pub below-children : (level : ℕ) (m : List ℕ) (lo k : ℕ) (c : Cell) → Removable level m lo k c → (level ≡ 0 → ⊥) → ChildrenHave m k c
 below-children zero m lo k c v ne = absurd (ne refl)

@@ -1,5 +1,5 @@
 -- What a changed or freed part leaves as it was.
-use Prim.Native.Nat.{ℕ, _+_, _*_, _≤_, _<_}
+use Prim.Native.Nat.{ℕ, _+_, _≤_, _<_}
 use mathlib.Core.Path.{_≡_, sym, _∙_}
 use mathlib.Core.Bool.{true, false}
 use mathlib.Core.List.{List}
@@ -8,11 +8,12 @@ use native.Mathlib.Omega.{arith}
 use native.Mathlib.Decide.{ℕ-discrete}
 use lib.ListN.{length, replicate, length-replicate}
 use Rattle.tree.proofs.Booleans.{contrary}
-use Rattle.memory.specs.Layout.{partsOf, part, inUse, bitsSet, allZero, othersZero}
+use Rattle.memory.specs.Layout.{partsOf, part, inUse, bitsSet, allZero, othersZero, PartIn}
 use Rattle.memory.proofs.ReadingLaws.{unused-zero, zero-unused, zeros-zero}
-use Rattle.removal.specs.Parts.{setPart, withoutBit, freed, UsedPart, Beside}
-use Rattle.removal.proofs.BitLaws.{cleared-length, cleared-bits, cleared-others, cleared-head, cleared-part}
-use Rattle.removal.proofs.PartLaws.{set-length, set-part, set-others, set-head, set-in-use, set-bits}
+use Rattle.layout.specs.PartSet.{setPart, withoutBit, freed, UsedPart}
+use Rattle.layout.proofs.FreeLaws.{cleared-length, cleared-bits, cleared-others, cleared-head, cleared-part}
+use Rattle.layout.proofs.PartSetLaws.{set-length, set-part, set-others, set-head, set-in-use, set-bits}
+use Rattle.removal.specs.Parts.{Beside}
 
 -- a wider range
 pub beside-wider : (m : List ℕ) (lo′ lo k k′ : ℕ) (m′ : List ℕ) → lo′ ≤ lo → k ≤ k′ → Beside m lo k m′ → Beside m lo′ k′ m′
@@ -60,7 +61,7 @@ module _ (m : List ℕ) (k : ℕ) (u : UsedPart m k) (few : partsOf m ≤ 256) (
             rw (set-others m k p (u .ends) size j q) (unused-zero m (partsOf m) j others h (sym (set-in-use m k p (u .ends) size j (omega arith)) ∙ e))
 
   -- the part was set free
-  cleared-ends : 64 + 128 * k + 128 ≤ length (withoutBit m k)
+  cleared-ends : PartIn (withoutBit m k) k
   cleared-ends = rw (cleared-length m k u) (u .ends)
 
   zeros : length {A = ℕ} (replicate 128 0) ≡ 128

@@ -13,21 +13,19 @@ use Rattle.tree.specs.Remove.{prune, without}
 use Rattle.plane.specs.Lines.{CellEntry}
 use Rattle.plane.specs.Plane.{planeSpace}
 use Rattle.plane.proofs.Rects.{plane-space-laws}
-use Rattle.memory.specs.Layout.{partsOf, part, itemCount, entryIn, polygonIn}
-use Rattle.memory.proofs.ReadingLaws.{LeafParts, FitsAs, leaf-parts, make-leaf, fits-as, length-right, entries-length}
-use Rattle.index.specs.Answers.{fanout}
-use Rattle.index.specs.Walks.{cellTest, partAt}
-use Rattle.index.specs.Check.{NodePart}
-use Rattle.index.proofs.WalkRows.{leaf-part, part-is}
-use Rattle.removal.specs.Gap.{withoutAt}
-use Rattle.removal.specs.Parts.{setPart, freed, UsedPart}
+use Rattle.memory.specs.Layout.{partsOf, part, itemCount, entryIn, polygonIn, NodePart}
+use Rattle.memory.proofs.ReadingLaws.{LeafParts, FitsAs, leaf-parts, make-leaf, fits-as, length-right, part-length, entries-length}
+use Rattle.memory.specs.Fanout.{fanout}
+use Rattle.layout.specs.Gap.{withoutAt}
+use Rattle.layout.specs.PartSet.{setPart, freed, UsedPart}
+use Rattle.layout.proofs.GapLists.{length-without}
+use Rattle.layout.proofs.GapLaws.{entry-at}
+use Rattle.layout.proofs.PartSetLaws.{set-part, set-length, set-in-use, set-bits}
+use Rattle.index.specs.Walks.{cellTest}
 use Rattle.removal.specs.Place.{EntryPlace, HoldsCell}
 use Rattle.removal.specs.Below.{TakesItem, LeafShorter, NodeFreed, EntryTaken, Removable, RemovedBelow}
-use Rattle.removal.proofs.Lists.{no-items, length-without}
-use Rattle.removal.proofs.GapLaws.{entry-at}
-use Rattle.removal.proofs.PartLaws.{set-part, set-length, set-in-use, set-bits}
 use Rattle.removal.proofs.FrameLaws.{beside-wider, set-beside, set-unused, freed-beside, freed-unused, freed-bits}
-use Rattle.removal.proofs.TreeLaws.{without-at, holder, holder-has, all-at}
+use Rattle.removal.proofs.TreeLaws.{no-items, without-at, holder, holder-has, all-at}
 use Rattle.removal.proofs.BelowLaws.{removed-left, removed-gone, fits-dropped}
 
 -- entries are no nodes
@@ -57,10 +55,10 @@ module _ (m : List ℕ) (lo k : ℕ) (c : Cell) (v : Removable 0 m lo k c) where
   entry-is i d h = ap (λ (l : List CellEntry). getD l i d) (parts .entries) ∙ entry-at (part m k) (itemCount (part m k)) i d h
 
   node-part : NodePart (part m k)
-  node-part = rw (part-is 0 m lo k (v .walk)) at (leaf-part 0 m lo k (v .walk))
+  node-part = record { length-is = part-length m k (fits .below); few-rects = fits .few-rects; few-items = fits .few-items }
 
   -- the leaf holds the cell
-  pub leaf-holds : HoldsCell (partAt m k) c
+  pub leaf-holds : HoldsCell (part m k) c
   unfolding held SoundItem itemHas cellTest
   leaf-holds =
       let d = entryIn (part m k) 0 in
@@ -69,16 +67,13 @@ module _ (m : List ℕ) (lo k : ℕ) (c : Cell) (v : Removable 0 m lo k c) where
       let h = holder (planeSpace fanout) (plane-space-laws fanout) 0 c (v .walk .node .child) d (v .holds) in
       let i = h .inside in
       let e = holder-has (planeSpace fanout) (plane-space-laws fanout) 0 c (v .walk .node .poly) _ (all-at (SoundItem (planeSpace fanout) 0 (v .walk .node .poly)) (v .walk .node .child) (h .at) d i (s .each)) (h .holds) in
-      rw (part-is 0 m lo k (v .walk)) (record {
+      record {
         leaf = node-part;
         at = h .at;
         place = record { inside = omega arith; is = rw (entry-is (h .at) d (omega arith)) at e };
-      })
+      }
 
-  module _ (i : ℕ) (q : EntryPlace (partAt m k) c i) where
-    place : EntryPlace (part m k) c i
-    place = rw (part-is 0 m lo k (v .walk)) at q
-
+  module _ (i : ℕ) (place : EntryPlace (part m k) c i) where
     pub leaf-takes : TakesItem m k i
     leaf-takes = record { used = used; item = record { node = node-part; inside = place .inside } }
 
@@ -104,8 +99,8 @@ module _ (m : List ℕ) (lo k : ℕ) (c : Cell) (v : Removable 0 m lo k c) where
     -- the leaf lost one of several entries
     leaf-left : (m′ : List ℕ) → LeafShorter m k i m′ → RemovedBelow 0 m lo k c m′ true
     leaf-left m′ z =
-        let p = z .new in
-        let d = z .entry .item in
+        let p = z .dropped .new in
+        let d = z .dropped .entry .item in
         let size : length p ≡ 128 = d .same-length ∙ node-part .length-is in
         let e = v .walk .ends in
         let same = set-part m k p e size in
@@ -115,14 +110,14 @@ module _ (m : List ℕ) (lo k : ℕ) (c : Cell) (v : Removable 0 m lo k c) where
         let a = entries-nodes (v .walk .node .child) in
         let b = entries-nodes (withoutAt i (v .walk .node .child)) in
         let o = set-bits m k p e size in
-        rw (z .memory)
+        rw (z .dropped .memory)
         (removed-left 0 m lo k c (setPart m k p) (v .walk .node) (v .walk .reads) (set-unused m k used few-parts (v .unused) p size)
         (beside-wider m lo k k k _ (v .walk .from) (omega arith) (set-beside m k used few-parts (v .unused) p size))
         (withoutAt i (v .walk .node .child)) leaf-without (omega arith)
         (make-leaf fanout (setPart m k p) lo k _ (record {
           fits = fits-dropped 3 m k m (setPart m k p) p (parts .fits) (set-length m k p e size) refl (set-in-use m k p e size k (v .walk .below) ∙ fits .used) same d f;
           polygon = parts .polygon ∙ sym (d .polygon) ∙ ap polygonIn (sym same);
-          entries = rw (same, parts .entries) (sym (z .entry .entries));
+          entries = rw (same, parts .entries) (sym (z .dropped .entry .entries));
         }))
         (omega arith))
 

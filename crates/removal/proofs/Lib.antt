@@ -1,8 +1,3 @@
-pub mod Lists
-pub mod GapLoop
-pub mod GapLaws
-pub mod BitLaws
-pub mod PartLaws
 pub mod TakeWays
 pub mod PlaceLoops
 pub mod TreeLaws

@@ -18,22 +18,23 @@ use Rattle.tree.proofs.Counts.{total-append}
 use Rattle.tree.proofs.Prune.{prune-one}
 use Rattle.plane.specs.Plane.{planeSpace}
 use Rattle.plane.proofs.Rects.{plane-space-laws}
-use Rattle.memory.specs.Layout.{partsOf, part, inUse, bitsSet, itemCount, polygonIn, childrenIn}
+use Rattle.memory.specs.Layout.{partsOf, part, inUse, bitsSet, itemCount, polygonIn, childrenIn, countAt, childAt}
 use Rattle.memory.specs.Reading.{readNode}
 use Rattle.memory.proofs.ReadingLaws.{NodeParts, FitsAs, node-parts, fits-as, length-right, part-length, lowAt, low-from, low-to, part-below, row-at, row-length, change-node, remove-node}
-use Rattle.index.specs.Answers.{fanout}
-use Rattle.index.specs.Walks.{hasTest, countAt, childAt, Walkable}
+use Rattle.memory.specs.Fanout.{fanout}
+use Rattle.layout.specs.Gap.{withoutAt}
+use Rattle.layout.specs.PartSet.{setPart, freed, UsedPart}
+use Rattle.layout.proofs.GapLists.{length-without}
+use Rattle.layout.proofs.PartSetLaws.{set-part, set-in-use, set-bits}
+use Rattle.index.specs.Walks.{hasTest, Walkable}
 use Rattle.index.proofs.WalkParts.{part-at}
 use Rattle.index.proofs.WalkRows.{walkable, walk-polygon, polygon-is}
-use Rattle.removal.specs.Gap.{withoutAt}
-use Rattle.removal.specs.Parts.{setPart, freed, UsedPart, Beside}
+use Rattle.removal.specs.Parts.{Beside}
 use Rattle.removal.specs.Place.{ChildHas, ChildrenHave}
 use Rattle.removal.specs.Below.{nodeLeft, TakesItem, NodeShorter, NodeFreed, BranchTaken, Removable, RemovedBelow}
-use Rattle.removal.proofs.Lists.{no-items, length-without}
-use Rattle.removal.proofs.PartLaws.{set-part, set-in-use, set-bits}
 use Rattle.removal.proofs.FrameLaws.{beside-wider, beside-then, set-beside, set-unused, freed-beside, freed-unused, freed-bits}
 use Rattle.removal.proofs.PlaceLoops.{ChildNumbers, child-numbers}
-use Rattle.removal.proofs.TreeLaws.{all-at, total-at, without-at, holder, holder-has, has-holds}
+use Rattle.removal.proofs.TreeLaws.{no-items, all-at, total-at, without-at, holder, holder-has, has-holds}
 use Rattle.removal.proofs.BelowLaws.{removed-left, removed-gone, fits-dropped, fits-kept}
 
 -- the one element of a list
@@ -239,8 +240,8 @@ module _ (n : ℕ) (m : List ℕ) (lo k : ℕ) (c : Cell) (v : Removable (suc n)
         -- the node lost one of several branches
         node-left : (m₂ : List ℕ) → NodeShorter m₁ k i m₂ → RemovedBelow (suc n) m lo k c m₂ true
         node-left m₂ z =
-            let p = z .new in
-            let d = z .branch .item in
+            let p = z .dropped .new in
+            let d = z .dropped .branch .item in
             let size : length p ≡ 128 = d .same-length ∙ ap length part-kept ∙ part-length m k (fits .below) in
             let ends = used₁ .ends in
             let same = set-part m₁ k p ends size in
@@ -252,8 +253,8 @@ module _ (n : ℕ) (m : List ℕ) (lo k : ℕ) (c : Cell) (v : Removable (suc n)
             let o = set-bits m₁ k p ends size in
             let b = bits₁ in
             let u = ap (total (nodes (planeSpace fanout) (suc n))) branches-without in
-            let kids : childrenIn (part (setPart m₁ k p) k) ≡ withoutAt i (childrenIn (part m k)) = ap childrenIn same ∙ z .branch .children ∙ ap (λ (l : List ℕ). withoutAt i (childrenIn l)) part-kept in
-            rw (z .memory)
+            let kids : childrenIn (part (setPart m₁ k p) k) ≡ withoutAt i (childrenIn (part m k)) = ap childrenIn same ∙ z .dropped .branch .children ∙ ap (λ (l : List ℕ). withoutAt i (childrenIn l)) part-kept in
+            rw (z .dropped .memory)
             (removed-left (suc n) m lo k c (setPart m₁ k p) (v .walk .node) (v .walk .reads) (set-unused m₁ k used₁ few-parts₁ (r .unused) p size)
             (beside-then m lo k m₁ _ beside₁ (beside-wider m₁ lo k k k _ (v .walk .from) (omega arith) b₂))
             (withoutAt i (v .walk .node .child)) branches-without (omega arith)

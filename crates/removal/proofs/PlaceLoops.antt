@@ -13,10 +13,9 @@ use lib.ListN.{length, getD, drop, length-take, length-drop}
 use lib.Seq.{getD-take, getD-drop}
 use Rattle.geometry.specs.declared.rect.Cell.{Cell}
 use Rattle.tree.proofs.Booleans.{contrary}
-use Rattle.memory.specs.Layout.{part, itemCount, entryIn, polygonIn, childrenIn}
+use Rattle.memory.specs.Layout.{part, itemCount, entryIn, polygonIn, childrenIn, countAt, childAt, PartIn, PolygonPart}
 use Rattle.memory.proofs.ReadingLaws.{lowAt, part-length}
-use Rattle.index.specs.Check.{PolygonPart}
-use Rattle.index.specs.Walks.{hasTest, cellTest, countAt, childAt}
+use Rattle.index.specs.Walks.{hasTest, cellTest}
 use Rattle.index.proofs.WalkParts.{part-at}
 use Rattle.removal.specs.Place.{EntryPlace, HoldsCell, ChildrenHave, ChildPlace}
 
@@ -69,7 +68,7 @@ pub record ChildNumbers (m : List ℕ) (k : ℕ) : Type 0 where
   pub count : length (childrenIn (part m k)) ≡ countAt m k
   pub at : (i : ℕ) → i < countAt m k → getD (childrenIn (part m k)) i 0 ≡ childAt m k i
 
-pub child-numbers : (m : List ℕ) (k : ℕ) → 64 + 128 * k + 128 ≤ length m → countAt m k ≤ 8 → ChildNumbers m k
+pub child-numbers : (m : List ℕ) (k : ℕ) → PartIn m k → countAt m k ≤ 8 → ChildNumbers m k
 child-numbers m k e f =
     let l = part-length m k (omega arith) in
     let c = part-at m k 1 (omega arith) in
@@ -98,10 +97,8 @@ seek-child-at m lo k c i low j h l e f =
     record { have = h; i-le = l; inside = omega arith; few = omega arith; low-is = e; part-is = f }
 
 module _ (m : List ℕ) (lo k : ℕ) (c : Cell) where
-  pub seek-child-start : ChildrenHave m k c → SeekChild m lo k c 0 lo (getD m (64 + 128 * k + 66) 0)
-  seek-child-start h =
-      let q : 64 + 128 * k + 66 ≡ 64 + 128 * k + 66 + 0 = omega arith in
-      seek-child-at m lo k c 0 lo _ h (omega arith) (sym (low-first lo (childrenIn (part m k)))) (ap (λ (x : ℕ). getD m x 0) q)
+  pub seek-child-start : (j : ℕ) → ChildrenHave m k c → j ≡ childAt m k 0 → SeekChild m lo k c 0 lo j
+  seek-child-start j h q = seek-child-at m lo k c 0 lo j h (omega arith) (sym (low-first lo (childrenIn (part m k)))) q
 
   module _ (i low j : ℕ) (v : SeekChild m lo k c i low j) where
     pub seek-polygon : PolygonPart m j
@@ -122,15 +119,9 @@ module _ (m : List ℕ) (lo k : ℕ) (c : Cell) where
         part-is = v .part-is;
       }
 
-      pub seek-child-again : not b ≡ true → SeekChild m lo k c (i + 1) (j + 1) (getD m (64 + 128 * k + 66 + (i + 1)) 0)
-      seek-child-again f =
-          let n = child-numbers m k (v .have .ends) (v .have .few) in
-          let s = n .count in
-          let h = v .inside in
-          let g : lowAt lo (childrenIn (part m k)) (i + 1) ≡ j + 1 =
-          ap (λ (x : ℕ). lowAt lo (childrenIn (part m k)) x) (add-one i) ∙ low-next lo (childrenIn (part m k)) i (omega arith)
-          ∙ ap (λ (x : ℕ). x + 1) (n .at i (v .inside) ∙ sym (v .part-is)) in
-          seek-child-at m lo k c (i + 1) (j + 1) _ (v .have) (go (decLt i (v .have .at))) (sym g) refl
+      -- the child that has the cell is a later one
+      later : not b ≡ true → i + 1 ≤ v .have .at
+      later f = go (decLt i (v .have .at))
         where
           go : Dec (i < v .have .at) → i + 1 ≤ v .have .at
           go (yes l) = omega arith
@@ -138,3 +129,20 @@ module _ (m : List ℕ) (lo k : ℕ) (c : Cell) where
               let q : v .have .at ≡ i = let a = v .i-le in omega arith in
               let t = rw (q, ← (v .part-is)) at (v .have .place .has) in
               absurd (contrary (hasTest c (polygonIn (part m j))) t (sym e ∙ not-true b f))
+
+      pub seek-child-few : not b ≡ true → i + 1 < 8
+      seek-child-few f =
+          let a = later f in
+          let h = v .have .place .inside in
+          let n = v .have .few in
+          omega arith
+
+      pub seek-child-again : (x : ℕ) → not b ≡ true → x ≡ childAt m k (i + 1) → SeekChild m lo k c (i + 1) (j + 1) x
+      seek-child-again x f q =
+          let n = child-numbers m k (v .have .ends) (v .have .few) in
+          let s = n .count in
+          let h = v .inside in
+          let g : lowAt lo (childrenIn (part m k)) (i + 1) ≡ j + 1 =
+          ap (λ (x : ℕ). lowAt lo (childrenIn (part m k)) x) (add-one i) ∙ low-next lo (childrenIn (part m k)) i (omega arith)
+          ∙ ap (λ (x : ℕ). x + 1) (n .at i (v .inside) ∙ sym (v .part-is)) in
+          seek-child-at m lo k c (i + 1) (j + 1) x (v .have) (later f) (sym g) q

@@ -10,11 +10,12 @@ use Rattle.geometry.specs.Cells.{onGrid}
 use Rattle.tree.specs.Search.{any}
 use Rattle.memory.specs.Layout.{rightLength}
 use Rattle.memory.specs.Reading.{reading}
+use Rattle.memory.specs.Fanout.{fanout}
 use Rattle.index.specs.declared.answer.Removed.{Removed}
 use Rattle.index.specs.declared.answer.Removed.the-variants.{WrongLength, OffGrid, NoTree, CellNotHeld}
 use Rattle.index.specs.declared.opening.Opened.{Opened}
 use Rattle.index.specs.declared.opening.Opened.the-variants as O
-use Rattle.index.specs.Answers.{fanout, removeEnd, removeRead, removeAnswer}
+use Rattle.index.specs.Answers.{removeEnd, removeRead, removeAnswer}
 use Rattle.index.specs.Changes.{RemoveCall}
 use Rattle.index.specs.Open.{OpenedAs}
 use Rattle.removal.specs.Tree.{RemoveDone}

@@ -22,6 +22,11 @@ use Rattle.tree.proofs.Once.{held-inside}
 use Rattle.tree.proofs.Remove.{prune-elsewhere}
 
 module _ {A : Type 0} where
+  -- a list of no length has no element
+  pub no-items : (l : List A) → length l ≡ 0 → l ≡ []
+  no-items [] h = refl
+  no-items (a ∷ l) h = absurd (omega arith)
+
   -- what holds of all holds of each
   pub all-at : (P : A → Type 0) (l : List A) (i : ℕ) (d : A) → i < length l → All P l → P (getD l i d)
   unfolding All

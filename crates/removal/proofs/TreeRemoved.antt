@@ -25,8 +25,10 @@ use Rattle.memory.specs.Layout.{rightLength, bitsSet, rootIn, allZero}
 use Rattle.memory.specs.Reading.{reading}
 use Rattle.memory.proofs.SoundTested.{test-of-sound}
 use Rattle.memory.proofs.ReadingLaws.{ReadAs, read-as, read-sound, make-reading, zeros-read, length-right}
+use Rattle.memory.specs.Fanout.{fanout}
+use Rattle.layout.specs.PartSet.{noTree}
 use Rattle.index.specs.declared.answer.Removed.the-variants.{Accepted, CellNotHeld}
-use Rattle.index.specs.Answers.{fanout, removeEnd, removeRead}
+use Rattle.index.specs.Answers.{removeEnd, removeRead}
 use Rattle.index.specs.Changes.{removedIndex}
 use Rattle.index.specs.Count.{entriesAt}
 use Rattle.index.specs.Open.{TreeIn}
@@ -60,20 +62,12 @@ head-same m k m′ v =
     getD-drop 10 (take 64 m′) x 0 ∙ getD-take 64 m′ (10 + x) 0 y ∙ v .head (10 + x) (omega arith) y
     ∙ sym (getD-drop 10 (take 64 m) x 0 ∙ getD-take 64 m (10 + x) 0 y))
 
--- the height and the root's part are numbers of the memory
-module _ (m : List ℕ) (level root : ℕ) (c : Cell) (v : TreeIn m level root) (m₁ : List ℕ) (s : Bool) (w : RemovedBelow level m 0 root c m₁ s) where
-  pub height-in : 8 < length m₁
-  height-in =
-      let r = length-right m (read-as fanout m (v .tree) (v .reads) .right) .length-is in
-      let l = w .beside .same-length in
-      omega arith
-
-  pub root-in : 9 < length (set m₁ 8 0)
-  root-in =
-      let r = length-right m (read-as fanout m (v .tree) (v .reads) .right) .length-is in
-      let l = w .beside .same-length in
-      let k = length-set m₁ 8 0 in
-      omega arith
+-- the memory has the numbers before the parts
+pub head-in : (m : List ℕ) (level root : ℕ) (c : Cell) (m₁ : List ℕ) (s : Bool) → TreeIn m level root → RemovedBelow level m 0 root c m₁ s → 64 ≤ length m₁
+head-in m level root c m₁ s v w =
+    let r = length-right m (read-as fanout m (v .tree) (v .reads) .right) .length-is in
+    let l = w .beside .same-length in
+    omega arith
 
 module _ (m : List ℕ) (level root : ℕ) (c : Cell) (b : Bool) (v : TreeIn m level root) (e : b ≡ heldRead c (reading fanout m)) (f : not b ≡ false) where
   is-held : holds (planeSpace fanout) c (some (v .tree)) ≡ true
@@ -180,15 +174,15 @@ module _ (m : List ℕ) (level root : ℕ) (c : Cell) (b : Bool) (v : TreeIn m l
       none-left (x ∷ l) q = let z : _≡_ {A = ℕ} 0 1 = cc in absurd (omega arith)
 
       -- nothing is left: the memory is all zeros
-      pub tree-gone : s ≡ false → RemoveDone m c (set (set m₁ 8 0) 9 0) (Accepted (n - 1))
+      pub tree-gone : (m₂ : List ℕ) → s ≡ false → m₂ ≡ noTree m₁ → RemoveDone m c m₂ (Accepted (n - 1))
       unfolding prune total
-      tree-gone t =
+      tree-gone m₂ t d =
           let q = none-left (without (planeSpace fanout) (v .tree .level) c (v .tree .items)) (sym t ∙ left-is) in
           let u : nodeLeft (v .tree .level) c (top (planeSpace fanout) (v .tree)) ≡ [] = ap (branchIf (planeSpace fanout) (v .tree .root)) q in
-          let l : length (set (set m₁ 8 0) 9 0) ≡ length m = length-set (set m₁ 8 0) 9 0 ∙ length-set m₁ 8 0 ∙ below .beside .same-length in
+          let l : length (noTree m₁) ≡ length m = length-set (set m₁ 8 0) 9 0 ∙ length-set m₁ 8 0 ∙ below .beside .same-length in
           let z : bitsSet m₁ ≡ 0 = bits-are ∙ ap (total (nodes (planeSpace fanout) (suc (v .tree .level)))) u in
           let h : allZero (drop 10 (take 64 m₁)) ≡ true = rw (head-same m (rootIn m) m₁ (below .beside)) (read .head-zero) in
-          let r : reading fanout (set (set m₁ 8 0) 9 0) ≡ some none =
-          zeros-read fanout (set (set m₁ 8 0) 9 0) (right-same m (set (set m₁ 8 0) 9 0) l (read .right))
+          let r : reading fanout (noTree m₁) ≡ some none =
+          zeros-read fanout (noTree m₁) (right-same m (noTree m₁) l (read .right))
           (all-zeros m₁ (right-same m m₁ (below .beside .same-length) (read .right)) z h (below .unused)) in
-          done (set (set m₁ 8 0) 9 0) (r ∙ ap (λ i. some (treeIf (planeSpace fanout) (v .tree .level) (v .tree .root) i)) (sym q)) l
+          rw d (done (noTree m₁) (r ∙ ap (λ i. some (treeIf (planeSpace fanout) (v .tree .level) (v .tree .root) i)) (sym q)) l)

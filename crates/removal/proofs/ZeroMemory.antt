@@ -12,8 +12,9 @@ use lib.ListN.{length, getD, set, take, drop, length-set}
 use lib.Seq.{getD-set-same, getD-set-other, getD-take, getD-drop}
 use Rattle.memory.specs.Layout.{partsOf, rightLength, part, inUse, onesOf, bitsSet, allZero, othersZero}
 use Rattle.memory.proofs.ReadingLaws.{length-right, zero-at, unused-zero}
+use Rattle.layout.specs.PartSet.{noTree}
+use Rattle.layout.proofs.GapLists.{zeros-of}
 use Rattle.index.proofs.WalkParts.{part-at}
-use Rattle.removal.proofs.Lists.{zeros-of}
 
 -- a word without bits is zero
 no-ones : (f w : ℕ) → w ≤ f → ones w ≡ 0 → w ≡ 0
@@ -54,14 +55,14 @@ module _ (m : List ℕ) (right : rightLength m ≡ true) (none-set : bitsSet m �
       ap (λ (y : ℕ). getD m y 0) (sym q) ∙ sym (part-at m j i (omega arith)) ∙ zero-at (part m j) i (unused-zero m (partsOf m) j others h (none-used j (omega arith)))
 
   -- with no height and no root it is all zeros
-  pub all-zeros : allZero (set (set m 8 0) 9 0) ≡ true
-  all-zeros = zeros-of (set (set m 8 0) 9 0) (λ x h. go x (rw (length-set (set m 8 0) 9 0, length-set m 8 0) at h) (decLt x 8) (decLt x 10) (decLt x 64))
+  pub all-zeros : allZero (noTree m) ≡ true
+  all-zeros = zeros-of (noTree m) (λ x h. go x (rw (length-set (set m 8 0) 9 0, length-set m 8 0) at h) (decLt x 8) (decLt x 10) (decLt x 64))
     where
-      beside : (x : ℕ) → (x < 8) ⊎ (9 < x) → getD (set (set m 8 0) 9 0) x 0 ≡ getD m x 0
+      beside : (x : ℕ) → (x < 8) ⊎ (9 < x) → getD (noTree m) x 0 ≡ getD m x 0
       beside x (inl a) = getD-set-other (set m 8 0) 9 x 0 0 (λ e. absurd (omega arith)) ∙ getD-set-other m 8 x 0 0 (λ e. absurd (omega arith))
       beside x (inr a) = getD-set-other (set m 8 0) 9 x 0 0 (λ e. absurd (omega arith)) ∙ getD-set-other m 8 x 0 0 (λ e. absurd (omega arith))
 
-      middle : (x : ℕ) → x < length m → Dec (x < 9) → 8 ≤ x → x < 10 → getD (set (set m 8 0) 9 0) x 0 ≡ 0
+      middle : (x : ℕ) → x < length m → Dec (x < 9) → 8 ≤ x → x < 10 → getD (noTree m) x 0 ≡ 0
       middle x h (yes a) b d =
           let e : x ≡ 8 = omega arith in
           rw e (getD-set-other (set m 8 0) 9 8 0 0 (λ q. absurd (omega arith)) ∙ getD-set-same m 8 0 0 (omega arith))
@@ -70,7 +71,7 @@ module _ (m : List ℕ) (right : rightLength m ≡ true) (none-set : bitsSet m �
           let l = length-set m 8 0 in
           rw e (getD-set-same (set m 8 0) 9 0 0 (omega arith))
 
-      go : (x : ℕ) → x < length m → Dec (x < 8) → Dec (x < 10) → Dec (x < 64) → getD (set (set m 8 0) 9 0) x 0 ≡ 0
+      go : (x : ℕ) → x < length m → Dec (x < 8) → Dec (x < 10) → Dec (x < 64) → getD (noTree m) x 0 ≡ 0
       go x h (yes a) p q = beside x (inl a) ∙ word-zero x a
       go x h (no a) (yes b) q = middle x h (decLt x 9) (omega arith) b
       go x h (no a) (no b) (yes d) = beside x (inr (omega arith)) ∙ head-zero x (omega arith) d

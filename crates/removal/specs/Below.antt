@@ -15,29 +15,26 @@ use Rattle.tree.specs.Remove.{prune, other}
 use Rattle.plane.specs.Plane.{planeSpace}
 use Rattle.memory.specs.Layout.{partsOf, part, bitsSet, itemCount, othersZero}
 use Rattle.memory.specs.Reading.{readNode}
-use Rattle.index.specs.Answers.{fanout}
+use Rattle.memory.specs.Fanout.{fanout}
+use Rattle.layout.specs.Gap.{ItemIn}
+use Rattle.layout.specs.PartSet.{freed, UsedPart, EntryDroppedAt, BranchDroppedAt}
 use Rattle.index.specs.Walks.{Walkable}
-use Rattle.removal.specs.Gap.{ItemIn, EntryDropped, BranchDropped}
-use Rattle.removal.specs.Parts.{setPart, freed, UsedPart, Beside}
+use Rattle.removal.specs.Parts.{Beside}
 
 -- The node at part k has an i-th item.
 pub record TakesItem (m : List ℕ) (k i : ℕ) : Type 0 where
   pub used : UsedPart m k
   pub item : ItemIn i (part m k)
 
--- The leaf at part k lost its i-th entry.
+-- The leaf at part k lost its i-th entry, one of several.
 pub record LeafShorter (m : List ℕ) (k i : ℕ) (m′ : List ℕ) : Type 0 where
-  pub new : List ℕ
-  pub entry : EntryDropped i (part m k) new
+  pub dropped : EntryDroppedAt m k i m′
   pub several : 2 ≤ itemCount (part m k)
-  pub memory : m′ ≡ setPart m k new
 
--- The routing node at part k lost its i-th branch.
+-- The routing node at part k lost its i-th branch, one of several.
 pub record NodeShorter (m : List ℕ) (k i : ℕ) (m′ : List ℕ) : Type 0 where
-  pub new : List ℕ
-  pub branch : BranchDropped i (part m k) new
+  pub dropped : BranchDroppedAt m k i m′
   pub several : 2 ≤ itemCount (part m k)
-  pub memory : m′ ≡ setPart m k new
 
 -- The node at part k lost its only item, and its part was set free.
 pub record NodeFreed (m : List ℕ) (k : ℕ) (m′ : List ℕ) : Type 0 where

@@ -1,4 +1,3 @@
-pub mod Gap
 pub mod Parts
 pub mod Place
 pub mod Below

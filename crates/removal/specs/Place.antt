@@ -1,14 +1,12 @@
 -- Where the entry of a cell is held: its place in a leaf, and the child that leads to it.
-use Prim.Native.Nat.{ℕ, _+_, _*_, _≤_, _<_}
+use Prim.Native.Nat.{ℕ, _≤_, _<_}
 use mathlib.Core.Bool.{true}
 use mathlib.Core.List.{List}
 use mathlib.Core.Path.{_≡_}
-use lib.ListN.{length}
 use Rattle.geometry.specs.declared.rect.Cell.{Cell}
-use Rattle.memory.specs.Layout.{part, itemCount, entryIn, polygonIn, childrenIn}
+use Rattle.memory.specs.Layout.{part, itemCount, entryIn, polygonIn, childrenIn, countAt, childAt, PartIn, NodePart, PolygonPart}
 use Rattle.memory.proofs.ReadingLaws.{lowAt}
-use Rattle.index.specs.Check.{NodePart, PolygonPart}
-use Rattle.index.specs.Walks.{hasTest, cellTest, countAt, childAt}
+use Rattle.index.specs.Walks.{hasTest, cellTest}
 use Rattle.removal.specs.declared.place.Child.{Child}
 
 -- The i-th entry of a leaf's part is of the cell.
@@ -30,7 +28,7 @@ pub record ChildHas (m : List ℕ) (k : ℕ) (c : Cell) (i : ℕ) : Type 0 where
 -- The node at part k has children, and one of them has the cell.
 pub record ChildrenHave (m : List ℕ) (k : ℕ) (c : Cell) : Type 0 where
   pub below : k < 256
-  pub ends : 64 + 128 * k + 128 ≤ length m
+  pub ends : PartIn m k
   pub few : countAt m k ≤ 8
   pub lower : (i : ℕ) → i < countAt m k → childAt m k i < k
   pub each : (i : ℕ) → i < countAt m k → PolygonPart m (childAt m k i)

@@ -5,8 +5,9 @@ use mathlib.Core.Path.{_≡_}
 use lib.ListN.{length}
 use Rattle.geometry.specs.declared.rect.Cell.{Cell}
 use Rattle.memory.specs.Reading.{reading}
+use Rattle.memory.specs.Fanout.{fanout}
 use Rattle.index.specs.declared.answer.Removed.{Removed}
-use Rattle.index.specs.Answers.{fanout, removeRead}
+use Rattle.index.specs.Answers.{removeRead}
 use Rattle.index.specs.Changes.{RemoveMemory}
 
 -- A removal from the index that the memory reads as ended with the answer r, and left m′.

@@ -1,14 +1,13 @@
 // Removal below a node: down to the leaf that holds the entry, and back up while nodes are emptied.
 ghost use Rattle.removal.specs.Below.{TakesItem, EntryTaken, BranchTaken, Removable, RemovedBelow};
-use crate::free::set_free;
-use crate::gap::drop_branch;
-use crate::gap::drop_entry;
 use crate::place::child_place;
 use crate::place::entry_place;
 use geometry::Cell;
-use memory::HEAD;
-use memory::ITEM_COUNT;
-use memory::PART;
+use layout::count_at;
+use layout::drop_branch_at;
+use layout::drop_entry_at;
+use layout::part_at;
+use layout::set_free;
 
 // Takes the i-th entry out of the leaf at part k, which is set free if it was the last. Answers whether
 // the leaf is left.
@@ -16,13 +15,11 @@ fn take_entry(m: &mut [u32], k: u32, i: usize) -> bool
     requires { ⌜ TakesItem (now m) k i ⌝ }
     ensures { λ r. ⌜ EntryTaken (now (m .entry)) k i (now (m .exit)) r ⌝ }
 {
-    let a = HEAD + PART * (k as usize);
-    let e = a + PART;
-    if m[a + ITEM_COUNT] == 1 {
+    if count_at(m, k) == 1 {
         set_free(m, k);
         return false;
     }
-    drop_entry(&mut m[a..e], i);
+    drop_entry_at(m, k, i);
     true
 }
 
@@ -31,13 +28,11 @@ fn take_branch(m: &mut [u32], k: u32, i: usize) -> bool
     requires { ⌜ TakesItem (now m) k i ⌝ }
     ensures { λ r. ⌜ BranchTaken (now (m .entry)) k i (now (m .exit)) r ⌝ }
 {
-    let a = HEAD + PART * (k as usize);
-    let e = a + PART;
-    if m[a + ITEM_COUNT] == 1 {
+    if count_at(m, k) == 1 {
         set_free(m, k);
         return false;
     }
-    drop_branch(&mut m[a..e], i);
+    drop_branch_at(m, k, i);
     true
 }
 
@@ -48,9 +43,7 @@ pub fn remove_below(m: &mut [u32], level: u32, lo: u32, k: u32, c: Cell) -> bool
     ensures { λ r. ⌜ RemovedBelow level (now (m .entry)) lo k c (now (m .exit)) r ⌝ }
 {
     if level == 0 {
-        let a = HEAD + PART * (k as usize);
-        let e = a + PART;
-        let i = entry_place(&m[a..e], c);
+        let i = entry_place(part_at(m, k), c);
         return take_entry(m, k, i);
     }
     let child = child_place(m, lo, k, c);

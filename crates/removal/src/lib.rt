@@ -1,8 +1,6 @@
 // Removal from the index, in place: along one path from the root to a leaf, and back up while nodes are
 // emptied.
 mod below;
-mod free;
-mod gap;
 mod place;
 mod removing;
 

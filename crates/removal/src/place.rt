@@ -3,9 +3,7 @@ ghost use Rattle.removal.specs.Place.{HoldsCell, EntryPlace, ChildrenHav
 use geometry::Cell;
 use index::is_of_cell;
 use index::polygon_has;
-use memory::HEAD;
-use memory::ITEMS;
-use memory::PART;
+use layout::child_at;
 
 // A child of a routing node: its place among the branches, the lower end of its subtree and its part.
 pub struct Child {
@@ -32,14 +30,13 @@ pub fn child_place(m: &[u32], lo: u32, k: u32, c: Cell) -> Child
     requires { ⌜ ChildrenHave (now m) k c ⌝ }
     ensures { λ r. ⌜ ChildPlace (now (m .entry)) lo k c r ⌝ }
 {
-    let a = HEAD + PART * (k as usize) + ITEMS;
     let mut at = 0;
     let mut low = lo;
-    let mut part = m[a];
+    let mut part = child_at(m, k, 0);
     while !polygon_has(m, part, c) {
         at += 1;
         low = part + 1;
-        part = m[a + at];
+        part = child_at(m, k, at);
     }
     Child { at, low, part }
 }

@@ -9,9 +9,8 @@ use index::Removed;
 use index::entries_below;
 use index::is_held;
 use index::open;
-use index::right_length;
-use memory::HEIGHT;
-use memory::ROOT;
+use layout::no_tree;
+use layout::right_length;
 
 // Removal from the tree in a memory. 'The last removal leaves all zeros.'
 fn remove_in_tree(m: &mut [u32], level: u32, root: u32, c: Cell) -> Removed
@@ -25,9 +24,7 @@ fn remove_in_tree(m: &mut [u32], level: u32, root: u32, c: Cell) -> Removed
     if remove_below(m, level, 0, root, c) {
         return Removed::Accepted(entries);
     }
-    // the root is gone: its height and its part are numbers of no tree
-    m[HEIGHT] = 0;
-    m[ROOT] = 0;
+    no_tree(m);
     Removed::Accepted(entries)
 }
 

@@ -12,13 +12,14 @@ use Rattle.geometry.specs.declared.rect.Rect.{Rect}
 use Rattle.geometry.specs.Cells.{valid}
 use Rattle.memory.specs.Layout.{rightLength}
 use Rattle.memory.specs.Reading.{reading}
+use Rattle.memory.specs.Fanout.{fanout}
 use Rattle.index.specs.declared.answer.Inserted.{Inserted}
 use Rattle.index.specs.declared.answer.Removed.{Removed}
 use Rattle.index.specs.declared.answer.Cleared.{Cleared}
 use Rattle.index.specs.declared.answer.PointFound.{PointFound}
 use Rattle.index.specs.declared.answer.WindowFound.{WindowFound}
 use Rattle.index.specs.declared.answer.WindowFound.the-variants as W
-use Rattle.index.specs.Answers.{fanout, PlaneIndex, pointAnswer, clearAnswer, cleared, windowAnswer, windowRead}
+use Rattle.index.specs.Answers.{PlaneIndex, pointAnswer, clearAnswer, cleared, windowAnswer, windowRead}
 use Rattle.index.specs.Changes.{entryOf, InsertCall, RemoveCall}
 use Rattle.index.specs.Walks.{WindowCall}
 use Rattle.commands.specs.declared.parsing.Command.{Command}

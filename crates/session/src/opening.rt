@@ -6,7 +6,7 @@ ghost use Rattle.session.specs.Opening.{isIndex};
 use index::Opened;
 use index::open;
 use index::reopen;
-use index::right_length;
+use layout::right_length;
 
 // Opens the index: it is tested, unless it is known to be one.
 pub fn opened_as(m: &[u32], known: bool) -> Opened

@@ -21,7 +21,7 @@ use Rattle.tree.specs.Pass.{onAll}
 use Rattle.plane.specs.Plane.{planeSpace, rectSide}
 use Rattle.plane.specs.Lines.{CellEntry}
 use Rattle.plane.specs.Candidates.{rankLine}
-use Rattle.index.specs.Answers.{fanout}
+use Rattle.memory.specs.Fanout.{fanout}
 use Rattle.sides.specs.Sides.{sideOf, sidesOf, onSide, onEvery}
 
 pub line-x : (rank : ℕ) → rank < 65536 → AtX rank ≡ rankLine rank

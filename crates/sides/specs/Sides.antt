@@ -10,7 +10,7 @@ use Rattle.tree.specs.Nodes.{on}
 use Rattle.tree.specs.Pass.{onAll}
 use Rattle.plane.specs.Plane.{planeSpace}
 use Rattle.plane.specs.Candidates.{rankLine}
-use Rattle.index.specs.Answers.{fanout}
+use Rattle.memory.specs.Fanout.{fanout}
 
 -- the side of a number: the line of half of it, left where it is even
 unfoldable pub sideOf : ℕ → Side Line

@@ -19,7 +19,7 @@ use Rattle.plane.specs.Lines.{CellEntry, xOf, yOf}
 use Rattle.plane.specs.Plane.{planeSpace}
 use Rattle.plane.specs.Candidates.{extentOf, extents}
 use Rattle.plane.proofs.Kept.{keep-all}
-use Rattle.index.specs.Answers.{fanout}
+use Rattle.memory.specs.Fanout.{fanout}
 use Rattle.index.specs.Changes.{entryOf}
 use Rattle.index.specs.Count.{entriesAt}
 use Rattle.sides.specs.Sides.{sideOf, sidesOf, onSide, onEvery}

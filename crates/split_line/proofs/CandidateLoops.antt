@@ -21,7 +21,7 @@ use Rattle.tree.proofs.Lists.{flatMap-append, all-first, all-second, all-head}
 use Rattle.tree.proofs.Counts.{countOf-append, countOf-cons, length-keep}
 use Rattle.plane.specs.Lines.{fits, onBoth}
 use Rattle.plane.specs.Candidates.{Extent, extentOn, rank, key, candidates, tried, leastKey}
-use Rattle.index.specs.Answers.{fanout}
+use Rattle.memory.specs.Fanout.{fanout}
 use Rattle.split_line.specs.declared.candidates.Counts.{Counts}
 use Rattle.split_line.specs.Bounds.{rectExtent, extentsIn, BoundsList, countsOf, addedCounts, countsFit, TriedLine, linesBehind, triedAt, noKey, bestRank}
 

@@ -22,13 +22,12 @@ use Rattle.tree.proofs.Lists.{all-append, all-head, all-tail, flatMap-all}
 use Rattle.plane.specs.Lines.{CellEntry}
 use Rattle.plane.specs.Plane.{planeSpace}
 use Rattle.plane.specs.Candidates.{rankLine}
-use Rattle.memory.specs.Layout.{part, childrenIn}
+use Rattle.memory.specs.Layout.{part, childrenIn, countAt, childAt}
 use Rattle.memory.specs.Reading.{readNode}
 use Rattle.memory.proofs.ReadingLaws.{RowParts, row-parts, row-none, row-length, node-parts}
-use Rattle.index.specs.Answers.{fanout}
+use Rattle.memory.specs.Fanout.{fanout}
 use Rattle.index.specs.Changes.{entryOf}
 use Rattle.index.specs.Count.{entriesAt, entriesOf}
-use Rattle.index.specs.Walks.{countAt, childAt}
 use Rattle.index.proofs.WalkRows.{RowWalkable, walkable}
 use Rattle.index.proofs.WalkLoop.{children-count, next-child}
 use Rattle.split_line.specs.FullLeaf.{OnGrid}
@@ -60,10 +59,11 @@ module _ (n place : ℕ) (l : Line) (e : CellEntry) where
       let s : suc p + 1 ≡ suc (p + 1) = omega arith in
       rw (ne-eqb i place (λ q. omega arith), from-start (i + 1) p bs r (omega arith), s)
 
--- Before the i-th branch of the node at part k, whose branches lead to nodes of level n: the bounds of the groups before it are the first
--- `next` rectangles of the list l.
-pub record AtBranch (n : ℕ) (m : List ℕ) (level lo k place below : ℕ) (c : Cell) (i low : ℕ) (l : List ℕ) (next : ℕ) : Type 0 where
-  pub i-le : i ≤ countAt m k
+-- Before the i-th of the t branches of the node at part k, which lead to nodes of level n: the bounds of the groups before it are the
+-- first `next` rectangles of the list l.
+pub record AtBranch (n : ℕ) (m : List ℕ) (level lo k place below : ℕ) (c : Cell) (t i low : ℕ) (l : List ℕ) (next : ℕ) : Type 0 where
+  pub count : t ≡ countAt m k
+  pub i-le : i ≤ t
   pub here : NodeHere m level lo k place below c
   pub row : RowWalkable n m low k (drop i (childrenIn (part m k)))
   pub grid : All (λ b. OnGrid (held (planeSpace fanout) (suc n) b)) (row .row)
@@ -77,15 +77,16 @@ held-read : (n : ℕ) (m : List ℕ) (lo k : ℕ) (b : Item (planeSpace fanout) 
 unfolding entriesAt entriesOf held
 held-read n m lo k b e = rw e
 
-start-at : (n : ℕ) (m : List ℕ) (lo k place below : ℕ) (c : Cell) (l : List ℕ) → NodeHere m (suc n) lo k place below c → length l ≡ 36 → AtBranch n m (suc n) lo k place below c 0 lo l 0
+start-at : (n : ℕ) (m : List ℕ) (lo k place below : ℕ) (c : Cell) (t : ℕ) (l : List ℕ) → NodeHere m (suc n) lo k place below c → t ≡ countAt m k → length l ≡ 36 → AtBranch n m (suc n) lo k place below c t 0 lo l 0
 unfolding groupsAt rectsIn All held
-start-at n m lo k place below c l v h =
+start-at n m lo k place below c t l v t-is h =
     let w = v .walk in
     let p = node-parts fanout n m lo k (w .node) (w .reads) in
     let s = row-length (readNode fanout n m) lo k (childrenIn (part m k)) (w .node .child) (p .row) in
-    let t = children-count (suc n) m lo k w in
+    let d = children-count (suc n) m lo k w in
     let u = v .place-in in
     record {
+      count = t-is;
       i-le = omega arith;
       here = v;
       row = record { right = w .right; row = w .node .child; reads = p .row };
@@ -97,9 +98,9 @@ start-at n m lo k place below c l v h =
       list = rw (w .reads) (ap (map boundsOf) (from-start n place (rankLine below) (entryOf c 0) 0 place (w .node .child) (omega arith) (omega arith)));
     }
 
-pub branch-start : (m : List ℕ) (level lo k place below : ℕ) (c : Cell) (l : List ℕ) → NodeHere m level lo k place below c → length l ≡ 36 → AtBranch (level - 1) m level lo k place below c 0 lo l 0
-branch-start m zero lo k place below c l v h = let r = v .routing in absurd (omega arith)
-branch-start m (suc n) lo k place below c l v h = let e : suc n - 1 ≡ n = omega arith in rw e (start-at n m lo k place below c l v h)
+pub branch-start : (m : List ℕ) (level lo k place below : ℕ) (c : Cell) (t : ℕ) (l : List ℕ) → NodeHere m level lo k place below c → t ≡ countAt m k → length l ≡ 36 → AtBranch (level - 1) m level lo k place below c t 0 lo l 0
+branch-start m zero lo k place below c t l v t-is h = let r = v .routing in absurd (omega arith)
+branch-start m (suc n) lo k place below c t l v t-is h = let e : suc n - 1 ≡ n = omega arith in rw e (start-at n m lo k place below c t l v t-is h)
 
 map-cond : {A B : Type 0} (f : A → B) (b : Bool) (x y : List A) → cond b (map f x) (map f y) ≡ map f (cond b x y)
 map-cond f true x y = refl
@@ -121,12 +122,13 @@ module _ (n : ℕ) (m : List ℕ) (lo k : ℕ) (halved : Bool) (below : ℕ) (c 
       let more = all-append (λ e. onGrid (e .cell) ≡ true) (entriesAt n m lo k) (entryOf c 0 ∷ []) g (h, tt) in
       all-cond (λ r. valid r ≡ true) halved _ _ (bounds-valid _ (grid-kept _ _ more), (bounds-valid _ (grid-kept _ _ more), tt)) (bounds-valid _ g, tt)
 
-module _ (n : ℕ) (m : List ℕ) (level lo k place below : ℕ) (c : Cell) (i low : ℕ) (l : List ℕ) (next : ℕ) (a : AtBranch n m level lo k place below c i low l next) where
-  pub branch-end : countAt m k ≤ i → GroupBounds m level lo k place below c l next
+module _ (n : ℕ) (m : List ℕ) (level lo k place below : ℕ) (c : Cell) (t i low : ℕ) (l : List ℕ) (next : ℕ) (a : AtBranch n m level lo k place below c t i low l next) where
+  pub branch-end : t ≤ i → GroupBounds m level lo k place below c l next
   unfolding groupsFrom
   branch-end h =
       let w = a .here .walk in
       let s = children-count level m lo k w in
+      let t-is = a .count in
       let d : length (childrenIn (part m k)) ≤ i = omega arith in
       let z : a .row .row ≡ [] = row-none (readNode fanout n m) low k (a .row .row) (rw (drop-of-length-le (childrenIn (part m k)) d) at (a .row .reads)) in
       let p = a .here .place-in in
@@ -139,23 +141,26 @@ module _ (n : ℕ) (m : List ℕ) (level lo k place below : ℕ) (c : Cell) (i l
         is = sym (append-nil (rectsIn l next)) ∙ (rw z at (a .list));
       }
 
-  module _ (h : i < countAt m k) where
-    parts : RowParts (readNode fanout n m) low k (childAt m k i) (drop (i + 1) (childrenIn (part m k))) (a .row .row)
-    parts = row-parts (readNode fanout n m) low k (childAt m k i) _ (a .row .row) (rw (next-child level m lo k (a .here .walk) i h) at (a .row .reads))
+  module _ (h : i < t) (j : ℕ) (j-is : j ≡ childAt m k i) where
+    parts : RowParts (readNode fanout n m) low k j (drop (i + 1) (childrenIn (part m k))) (a .row .row)
+    parts =
+        let t-is = a .count in
+        let e = next-child level m lo k (a .here .walk) i (omega arith) in
+        row-parts (readNode fanout n m) low k j _ (a .row .row) (rw (e, ← j-is) at (a .row .reads))
 
-    held-is : entriesAt n m low (childAt m k i) ≡ held (planeSpace fanout) (suc n) (parts .first)
-    held-is = held-read n m low (childAt m k i) (parts .first) (parts .head)
+    held-is : entriesAt n m low j ≡ held (planeSpace fanout) (suc n) (parts .first)
+    held-is = held-read n m low j (parts .first) (parts .head)
 
     grids : All (λ b. OnGrid (held (planeSpace fanout) (suc n) b)) (parts .first ∷ parts .others)
     grids = rw (parts .whole) (a .grid)
 
-    branch-grid : OnGrid (entriesAt n m low (childAt m k i))
+    branch-grid : OnGrid (entriesAt n m low j)
     branch-grid = subst OnGrid (sym held-is) (all-head _ (parts .first) (parts .others) grids)
 
-    pub branch-below : childAt m k i < k
+    pub branch-below : j < k
     branch-below = parts .below
 
-    pub branch-fits : Fits w32 (childAt m k i + 1)
+    pub branch-fits : Fits w32 (j + 1)
     branch-fits = let b = branch-below in let v = a .here .walk .below in omega arith
 
     room-is : (b : Bool) → eqb i place ≡ b → next + cond b 2 1 ≤ 9
@@ -163,8 +168,9 @@ module _ (n : ℕ) (m : List ℕ) (level lo k place below : ℕ) (c : Cell) (i l
         let q = eqb-true i place e in
         let z = a .before (omega arith) in
         let f = a .here .walk .few in
+        let t-is = a .count in
         omega arith
-    room-is false e = let f = a .here .walk .few in let z = next-most in omega arith
+    room-is false e = let f = a .here .walk .few in let t-is = a .count in let z = next-most in omega arith
       where
         next-most : next ≤ i + 1
         next-most = go (decLe i place)
@@ -173,12 +179,12 @@ module _ (n : ℕ) (m : List ℕ) (level lo k place below : ℕ) (c : Cell) (i l
             go (yes y) = let z = a .before y in omega arith
             go (no y) = let z = a .after (omega arith) in omega arith
 
-    pub branch-here : BranchHere n m low (childAt m k i) (eqb i place) below c l next
+    pub branch-here : BranchHere n m low j (eqb i place) below c l next
     branch-here =
         let r = room-is (eqb i place) refl in
         let s = a .long in
         record {
-          branch = record { walk = walkable n m low (childAt m k i) (parts .first) (a .row .right) (parts .from) (parts .head); grid = branch-grid };
+          branch = record { walk = walkable n m low j (parts .first) (a .row .right) (parts .from) (parts .head); grid = branch-grid };
           line = a .here .line;
           cell = a .here .cell;
           room = omega arith;
@@ -189,22 +195,23 @@ module _ (n : ℕ) (m : List ℕ) (level lo k place below : ℕ) (c : Cell) (i l
         some-few true r = omega arith
         some-few false r = omega arith
 
-    module _ (l′ : List ℕ) (next′ : ℕ) (x : Appended l next (branchBounds n m low (childAt m k i) (eqb i place) below c) 2 l′ next′) where
+    module _ (l′ : List ℕ) (next′ : ℕ) (x : Appended l next (branchBounds n m low j (eqb i place) below c) 2 l′ next′) where
       groups : List (List CellEntry)
       groups = cond (eqb i place) (halvesOf (rankLine below) (held (planeSpace fanout) (suc n) (parts .first) ++ (entryOf c 0 ∷ []))) (held (planeSpace fanout) (suc n) (parts .first) ∷ [])
 
-      bounds-are : branchBounds n m low (childAt m k i) (eqb i place) below c ≡ map boundsOf groups
+      bounds-are : branchBounds n m low j (eqb i place) below c ≡ map boundsOf groups
       unfolding groups
-      bounds-are = branch-groups n m low (childAt m k i) (eqb i place) below c ∙ rw held-is
+      bounds-are = branch-groups n m low j (eqb i place) below c ∙ rw held-is
 
       count : (b : Bool) → eqb i place ≡ b → next′ ≡ next + cond b 2 1
       unfolding branchBounds
       count true e = append-count l next _ 2 l′ next′ (rw e at x)
       count false e = append-count l next _ 2 l′ next′ (rw e at x)
 
-      pub branch-again : AtBranch n m level lo k place below c (i + 1) (childAt m k i + 1) l′ next′
+      pub branch-again : AtBranch n m level lo k place below c t (i + 1) (j + 1) l′ next′
       unfolding groupsFrom groups
       branch-again = record {
+        count = a .count;
         i-le = omega arith;
         here = a .here;
         row = record { right = a .row .right; row = parts .others; reads = parts .tail };
@@ -212,7 +219,7 @@ module _ (n : ℕ) (m : List ℕ) (level lo k place below : ℕ) (c : Cell) (i l
         long = x .same-length ∙ a .long;
         before = λ g. let e = count false (ne-eqb i place (λ q. omega arith)) in let z = a .before (omega arith) in omega arith;
         after = λ g. later (ℕ-discrete i place) g;
-        each = rw (x .list) (all-append _ (rectsIn l next) _ (a .each) (branch-valid n m low (childAt m k i) (eqb i place) below c branch-grid (a .here .cell)));
+        each = rw (x .list) (all-append _ (rectsIn l next) _ (a .each) (branch-valid n m low j (eqb i place) below c branch-grid (a .here .cell)));
         list =
             ap (λ q. q ++ map boundsOf (groupsFrom n place (rankLine below) (entryOf c 0) (i + 1) (parts .others))) (x .list ∙ ap (λ q. rectsIn l next ++ q) bounds-are)
             ∙ append-assoc (rectsIn l next) _ _

@@ -18,7 +18,7 @@ use Rattle.plane.proofs.LeastKey.{least-key-line}
 use Rattle.plane.proofs.NodeLine.{node-range}
 use Rattle.plane.proofs.Range.{InRange}
 use Rattle.memory.specs.Reading.{readNode}
-use Rattle.index.specs.Answers.{fanout}
+use Rattle.memory.specs.Fanout.{fanout}
 use Rattle.index.specs.Changes.{entryOf}
 use Rattle.split_line.specs.Reached.{boundsOf}
 use Rattle.split_line.specs.Bounds.{rectExtent, extentsIn, noKey, bestRank}

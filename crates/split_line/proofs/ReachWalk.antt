@@ -3,7 +3,6 @@ use Prim.Native.Nat.{ℕ, zero, suc, _+_, _*_, _-_, _≤_, _<_}
 use mathlib.Core.Path.{_≡_, refl, sym, ap, _∙_, subst}
 use mathlib.Core.Bool.{Bool, true, false}
 use mathlib.Core.List.{List, [], _∷_, _++_, flatMap}
-use lib.ListN.{getD}
 use Rattle.geometry.specs.declared.rect.Cell.{Cell}
 use Rattle.geometry.specs.declared.rect.Rect.{Rect}
 use Rattle.geometry.specs.Cells.{onGrid}
@@ -13,11 +12,11 @@ use Rattle.tree.specs.Walk.{nodeWalkEntries}
 use Rattle.tree.proofs.Lists.{flatMap-single, flatMap-same, keep-flatMap, all-first, all-second, all-head}
 use Rattle.plane.specs.Lines.{CellEntry}
 use Rattle.plane.specs.Plane.{planeSpace}
-use Rattle.memory.specs.Layout.{itemCount, entryIn}
-use Rattle.index.specs.Answers.{fanout}
+use Rattle.memory.specs.Layout.{part, itemCount, entryIn, countAt, childAt}
+use Rattle.memory.specs.Fanout.{fanout}
 use Rattle.index.specs.Count.{entriesAt, entriesOf}
-use Rattle.index.specs.Walks.{visitsBelow, entriesFrom, entriesBelow, leafEntries, Walkable, countAt, childAt, partAt}
-use Rattle.index.proofs.WalkRows.{leaf-entries, leaf-part, part-is}
+use Rattle.index.specs.Walks.{visitsBelow, entriesFrom, entriesBelow, leafEntries, Walkable}
+use Rattle.index.proofs.WalkRows.{leaf-entries, node-part}
 use Rattle.index.proofs.WalkLeaf.{AtEntry, entry-start, entry-miss, entry-hit, entry-end}
 use Rattle.index.proofs.WalkLoop.{AtChild, child-start, child-walkable, child-hit, end-entries}
 use Rattle.sides.specs.Sides.{onEvery}
@@ -40,99 +39,98 @@ kept-walk : (ss : List ℕ) (n : ℕ) (m : List ℕ) (lo k : ℕ) → Walkable n
 unfolding keptUnder entriesAt entriesOf entriesBelow entriesFrom held
 kept-walk ss n m lo k v = rw (v .reads) (walk-all (onSides ss) n (v .node .child))
 
--- Before the i-th entry of a leaf: what those before it reach.
-pub record ReachLeaf (ss p : List ℕ) (i : ℕ) (r : Reach) : Type 0 where
+-- Before the i-th of the n entries of a leaf: what those before it reach.
+pub record ReachLeaf (ss p : List ℕ) (n i : ℕ) (r : Reach) : Type 0 where
   pub es : List CellEntry
-  pub at : AtEntry (onSides ss) p i es
+  pub at : AtEntry (onSides ss) p n i es
   pub grid : OnGrid (leafEntries (onSides ss) p)
   pub so-far : r ≡ reachOf es
 
--- the cell of a leaf's i-th entry
-abbrev cellIn : List ℕ → ℕ → Cell
-cellIn p i = record { x = getD p (66 + 3 * i) 0; y = getD p (66 + 3 * i + 1) 0 }
+module _ (ss p : List ℕ) (n : ℕ) where
+  pub leaf-start : (r : Reach) → n ≡ itemCount p → LeafReach p ss → r ≡ reachOf [] → ReachLeaf ss p n 0 r
+  leaf-start r k h e = record { es = []; at = entry-start (onSides ss) p n (h .leaf) k; grid = h .grid; so-far = e }
 
-module _ (ss p : List ℕ) where
-  pub leaf-start : (r : Reach) → LeafReach p ss → r ≡ reachOf [] → ReachLeaf ss p 0 r
-  leaf-start r h e = record { es = []; at = entry-start (onSides ss) p (h .leaf); grid = h .grid; so-far = e }
+  module _ (i : ℕ) (r : Reach) (a : ReachLeaf ss p n i r) where
+    pub leaf-end : n ≤ i → r ≡ reachOf (leafEntries (onSides ss) p)
+    leaf-end h = a .so-far ∙ ap reachOf (entry-end (onSides ss) p n i (a .es) (a .at) h)
 
-  module _ (i : ℕ) (r : Reach) (a : ReachLeaf ss p i r) where
-    pub leaf-end : itemCount p ≤ i → r ≡ reachOf (leafEntries (onSides ss) p)
-    leaf-end h = a .so-far ∙ ap reachOf (entry-end (onSides ss) p i (a .es) (a .at) h)
-
-    module _ (h : i < itemCount p) (b : Bool) (e : b ≡ onEvery ss (cellIn p i)) where
+    module _ (h : i < n) (c : Cell) (c-is : c ≡ entryIn p i .cell) (b : Bool) (e : b ≡ onEvery ss c) where
       tested : b ≡ onSides ss (entryIn p i)
-      unfolding onSides entryIn
-      tested = e
+      unfolding onSides
+      tested = e ∙ ap (onEvery ss) c-is
 
-      pub leaf-miss : (r′ : Reach) → b ≡ false → r′ ≡ r → ReachLeaf ss p (i + 1) r′
-      leaf-miss r′ f g = record { es = a .es; at = entry-miss (onSides ss) p i (a .es) (a .at) h b tested f; grid = a .grid; so-far = g ∙ a .so-far }
-
-      pub leaf-grid : b ≡ true → onGrid (cellIn p i) ≡ true
-      unfolding entryIn
-      leaf-grid f =
-          let n = entry-hit (onSides ss) p i (a .es) (a .at) h b tested f in
-          let g = all-first _ (a .es ++ (entryIn p i ∷ [])) _ (subst OnGrid (sym (n .entries)) (a .grid)) in
-          all-head _ (entryIn p i) [] (all-second _ (a .es) (entryIn p i ∷ []) g)
-
-      pub leaf-hit : (d r′ : Reach) → b ≡ true → d ≡ reachAdd r (cellIn p i) → r′ ≡ d → ReachLeaf ss p (i + 1) r′
-      unfolding entryIn
-      leaf-hit d r′ f g j = record {
-        es = a .es ++ (entryIn p i ∷ []);
-        at = entry-hit (onSides ss) p i (a .es) (a .at) h b tested f;
+      pub leaf-miss : (r′ : Reach) → b ≡ false → r′ ≡ r → ReachLeaf ss p n (i + 1) r′
+      leaf-miss r′ f g = record {
+        es = a .es;
+        at = entry-miss (onSides ss) p n i (a .es) (a .at) h b tested f;
         grid = a .grid;
-        so-far = j ∙ g ∙ ap (λ q. reachAdd q (entryIn p i .cell)) (a .so-far) ∙ reach-more (a .es) (entryIn p i);
+        so-far = g ∙ a .so-far;
       }
 
-module _ (ss : List ℕ) (level : ℕ) (m : List ℕ) (lo k : ℕ) (v : NodeReach level m lo k ss) where
-  leaf-kept : level ≡ 0 → keptUnder ss level m lo k ≡ leafEntries (onSides ss) (partAt m k)
-  leaf-kept z =
+      pub leaf-grid : b ≡ true → onGrid c ≡ true
+      leaf-grid f =
+          let y = entry-hit (onSides ss) p n i (a .es) (a .at) h b tested f in
+          let g = all-first _ (a .es ++ (entryIn p i ∷ [])) _ (subst OnGrid (sym (y .entries)) (a .grid)) in
+          rw c-is (all-head _ (entryIn p i) [] (all-second _ (a .es) (entryIn p i ∷ []) g))
+
+      pub leaf-hit : (d r′ : Reach) → b ≡ true → d ≡ reachAdd r c → r′ ≡ d → ReachLeaf ss p n (i + 1) r′
+      leaf-hit d r′ f g j = record {
+        es = a .es ++ (entryIn p i ∷ []);
+        at = entry-hit (onSides ss) p n i (a .es) (a .at) h b tested f;
+        grid = a .grid;
+        so-far = j ∙ g ∙ ap (reachAdd r) c-is ∙ ap (λ q. reachAdd q (entryIn p i .cell)) (a .so-far) ∙ reach-more (a .es) (entryIn p i);
+      }
+
+module _ (ss : List ℕ) (level : ℕ) (m : List ℕ) (lo k : ℕ) (v : NodeReach level m lo k ss) (z : level ≡ 0) (p : List ℕ) (p-is : p ≡ part m k) where
+  leaf-kept : keptUnder ss level m lo k ≡ leafEntries (onSides ss) p
+  leaf-kept =
       let w : Walkable 0 m lo k = rw z at (v .walk) in
-      rw (z, kept-walk ss 0 m lo k w, leaf-entries every (onSides ss) m lo k w, part-is 0 m lo k w)
+      rw (z, kept-walk ss 0 m lo k w, leaf-entries every (onSides ss) m lo k w, p-is)
 
   -- a node that is a leaf
-  pub reach-leaf : level ≡ 0 → LeafReach (partAt m k) ss
-  reach-leaf z = record { leaf = leaf-part level m lo k (v .walk); grid = subst OnGrid (leaf-kept z) (v .grid) }
+  pub reach-leaf : LeafReach p ss
+  reach-leaf = record { leaf = node-part level m lo k (v .walk) p p-is; grid = subst OnGrid leaf-kept (v .grid) }
 
-  pub reach-of-leaf : (r : Reach) → level ≡ 0 → r ≡ reachOf (leafEntries (onSides ss) (partAt m k)) → r ≡ reachOf (keptUnder ss level m lo k)
-  reach-of-leaf r z e = e ∙ ap reachOf (sym (leaf-kept z))
+  pub reach-of-leaf : (r : Reach) → r ≡ reachOf (leafEntries (onSides ss) p) → r ≡ reachOf (keptUnder ss level m lo k)
+  reach-of-leaf r e = e ∙ ap reachOf (sym leaf-kept)
 
--- Before the i-th child: what the entries below those before it reach.
-pub record ReachLoop (ss : List ℕ) (level : ℕ) (m : List ℕ) (lo k i low : ℕ) (r : Reach) : Type 0 where
+-- Before the i-th of the n children: what the entries below those before it reach.
+pub record ReachLoop (ss : List ℕ) (level : ℕ) (m : List ℕ) (lo k n i low : ℕ) (r : Reach) : Type 0 where
   pub vs : ℕ
   pub es : List CellEntry
-  pub at : AtChild every (onSides ss) level m lo k i low vs es
+  pub at : AtChild every (onSides ss) level m lo k n i low vs es
   pub grid : OnGrid (keptUnder ss level m lo k)
   pub so-far : r ≡ reachOf es
 
-module _ (ss : List ℕ) (level : ℕ) (m : List ℕ) (lo k : ℕ) where
-  pub reach-start : (r : Reach) → (level ≡ 0 → ⊥) → NodeReach level m lo k ss → r ≡ reachOf [] → ReachLoop ss level m lo k 0 lo r
-  reach-start r ne v e = record { vs = 1; es = []; at = child-start every (onSides ss) level m lo k ne (v .walk); grid = v .grid; so-far = e }
+module _ (ss : List ℕ) (level : ℕ) (m : List ℕ) (lo k n : ℕ) where
+  pub reach-start : (r : Reach) → (level ≡ 0 → ⊥) → NodeReach level m lo k ss → n ≡ countAt m k → r ≡ reachOf [] → ReachLoop ss level m lo k n 0 lo r
+  reach-start r ne v c e = record { vs = 1; es = []; at = child-start every (onSides ss) level m lo k n ne (v .walk) c; grid = v .grid; so-far = e }
 
-  module _ (i low : ℕ) (r : Reach) (a : ReachLoop ss level m lo k i low r) where
-    pub reach-end : countAt m k ≤ i → r ≡ reachOf (keptUnder ss level m lo k)
-    reach-end h = a .so-far ∙ ap reachOf (end-entries every (onSides ss) level m lo k i low (a .vs) (a .es) (a .at) h ∙ sym (kept-walk ss level m lo k (a .at .walkable)))
+  module _ (i low : ℕ) (r : Reach) (a : ReachLoop ss level m lo k n i low r) where
+    pub reach-end : n ≤ i → r ≡ reachOf (keptUnder ss level m lo k)
+    reach-end h = a .so-far ∙ ap reachOf (end-entries every (onSides ss) level m lo k n i low (a .vs) (a .es) (a .at) h ∙ sym (kept-walk ss level m lo k (a .at .walkable)))
 
-    module _ (h : i < countAt m k) where
-      walks : Walkable (level - 1) m low (childAt m k i)
-      walks = child-walkable every (onSides ss) level m lo k i low (a .vs) (a .es) (a .at) h
+    module _ (h : i < n) (j : ℕ) (j-is : j ≡ childAt m k i) where
+      walks : Walkable (level - 1) m low j
+      walks = child-walkable every (onSides ss) level m lo k n i low (a .vs) (a .es) (a .at) h j j-is
 
-      next : AtChild every (onSides ss) level m lo k (i + 1) (childAt m k i + 1) (a .vs + visitsBelow every (level - 1) m low (childAt m k i)) (a .es ++ entriesBelow every (onSides ss) (level - 1) m low (childAt m k i))
+      next : AtChild every (onSides ss) level m lo k n (i + 1) (j + 1) (a .vs + visitsBelow every (level - 1) m low j) (a .es ++ entriesBelow every (onSides ss) (level - 1) m low j)
       unfolding every
-      next = child-hit every (onSides ss) level m lo k i low (a .vs) (a .es) (a .at) h true refl refl
+      next = child-hit every (onSides ss) level m lo k n i low (a .vs) (a .es) (a .at) h j j-is true refl refl
 
-      pub reach-child : NodeReach (level - 1) m low (childAt m k i) ss
+      pub reach-child : NodeReach (level - 1) m low j ss
       reach-child = record {
         walk = walks;
         grid =
             let w = subst OnGrid (kept-walk ss level m lo k (a .at .walkable) ∙ sym (next .entries)) (a .grid) in
-            subst OnGrid (sym (kept-walk ss (level - 1) m low (childAt m k i) walks)) (all-second _ (a .es) _ (all-first _ (a .es ++ entriesBelow every (onSides ss) (level - 1) m low (childAt m k i)) _ w));
+            subst OnGrid (sym (kept-walk ss (level - 1) m low j walks)) (all-second _ (a .es) _ (all-first _ (a .es ++ entriesBelow every (onSides ss) (level - 1) m low j) _ w));
       }
 
-      pub reach-again : (d r′ : Reach) → d ≡ reachOf (keptUnder ss (level - 1) m low (childAt m k i)) → r′ ≡ reachJoin r d → ReachLoop ss level m lo k (i + 1) (childAt m k i + 1) r′
+      pub reach-again : (d r′ : Reach) → d ≡ reachOf (keptUnder ss (level - 1) m low j) → r′ ≡ reachJoin r d → ReachLoop ss level m lo k n (i + 1) (j + 1) r′
       reach-again d r′ e f = record {
         vs = _;
-        es = a .es ++ entriesBelow every (onSides ss) (level - 1) m low (childAt m k i);
+        es = a .es ++ entriesBelow every (onSides ss) (level - 1) m low j;
         at = next;
         grid = a .grid;
-        so-far = f ∙ rw (e, kept-walk ss (level - 1) m low (childAt m k i) walks, a .so-far) (reach-append (a .es) _);
+        so-far = f ∙ rw (e, kept-walk ss (level - 1) m low j walks, a .so-far) (reach-append (a .es) _);
       }

@@ -9,7 +9,7 @@ use native.Mathlib.Numerals.{add-one}
 use borrow.Author.Tests.{le-leb, lt-leb}
 use mir.Syntax.{w64, w32}
 use mir.Val.{Fits}
-use lib.ListN.{length, getD, length-append}
+use lib.ListN.{length, length-append}
 use Rattle.geometry.specs.declared.rect.Cell.{Cell}
 use Rattle.geometry.specs.declared.rect.Line.the-variants.{AtX, AtY}
 use Rattle.geometry.specs.Cells.{onGrid}
@@ -23,7 +23,7 @@ use Rattle.plane.proofs.LeafLine.{leaf-range}
 use Rattle.plane.proofs.Range.{InRange}
 use Rattle.memory.specs.Layout.{itemCount, entryIn, entriesIn}
 use Rattle.memory.proofs.ReadingLaws.{entries-length}
-use Rattle.index.specs.Answers.{fanout}
+use Rattle.memory.specs.Fanout.{fanout}
 use Rattle.index.specs.Changes.{entryOf}
 use Rattle.sides.proofs.SideLaws.{line-x, line-y}
 use Rattle.split_line.specs.declared.leaf.Sums.{Sums}
@@ -62,9 +62,10 @@ small es c n g h =
       squares-y = b .squares;
     }
 
--- Before the i-th entry of a leaf's part: the sums of the entries before it.
-pub record AtSum (p : List ℕ) (c : Cell) (i : ℕ) (s : Sums) : Type 0 where
-  pub i-le : i ≤ itemCount p
+-- Before the i-th of the n entries of a leaf's part: the sums of the entries before it.
+pub record AtSum (p : List ℕ) (c : Cell) (n i : ℕ) (s : Sums) : Type 0 where
+  pub count : n ≡ itemCount p
+  pub i-le : i ≤ n
   pub here : LeafHere p c
   pub so-far : s ≡ sumsOf (entriesIn p i)
 
@@ -83,39 +84,51 @@ entries-next : (p : List ℕ) (i : ℕ) → entriesIn p (i + 1) ≡ entriesIn p 
 unfolding entriesIn
 entries-next p i = rw add-one
 
-pub sum-start : (p : List ℕ) (c : Cell) → LeafHere p c → AtSum p c 0 (record { x = 0; xx = 0; y = 0; yy = 0 })
+pub sum-start : (p : List ℕ) (c : Cell) (n : ℕ) → n ≡ itemCount p → LeafHere p c → AtSum p c n 0 (record { x = 0; xx = 0; y = 0; yy = 0 })
 unfolding sumsOf entriesIn total
-sum-start p c h = record { i-le = omega arith; here = h; so-far = refl }
+sum-start p c n e h = record { count = e; i-le = omega arith; here = h; so-far = refl }
 
-module _ (p : List ℕ) (c : Cell) (i : ℕ) (s : Sums) (a : AtSum p c i s) where
+module _ (p : List ℕ) (c : Cell) (n i : ℕ) (s : Sums) (a : AtSum p c n i s) where
   few : i ≤ 8
-  few = let f = a .here .leaf .few-items in let e = a .i-le in omega arith
+  few = let f = a .here .leaf .few-items in let e = a .i-le in let k = a .count in omega arith
 
-  module _ (h : i < itemCount p) where
-    entry-grid : onGrid (entryIn p i .cell) ≡ true
+  small-with : (d : Cell) → onGrid d ≡ true → SmallSums s d
+  small-with d g =
+      let l = entries-length p i in
+      let f = few in
+      let e = a .i-le in
+      let k = a .count in
+      rw (a .so-far) (small (entriesIn p i) d (omega arith) (grid-before p (itemCount p) i (omega arith) (a .here .grid)) g)
+
+  module _ (h : i < n) (d : Cell) (e : d ≡ entryIn p i .cell) where
+    entry-grid : onGrid d ≡ true
     entry-grid =
+        let k = a .count in
         let g = grid-before p (itemCount p) (i + 1) (omega arith) (a .here .grid) in
-        all-head _ (entryIn p i) [] (all-second _ (entriesIn p i) (entryIn p i ∷ []) (rw (entries-next p i) at g))
+        rw e (all-head _ (entryIn p i) [] (all-second _ (entriesIn p i) (entryIn p i ∷ []) (rw (entries-next p i) at g)))
 
-    pub sum-small : SmallSums s (record { x = getD p (66 + 3 * i) 0; y = getD p (66 + 3 * i + 1) 0 })
-    unfolding entryIn
-    sum-small = rw (a .so-far) (small (entriesIn p i) _ (let l = entries-length p i in let f = few in omega arith) (grid-before p (itemCount p) i (a .i-le) (a .here .grid)) entry-grid)
+    pub sum-small : SmallSums s d
+    sum-small = small-with d entry-grid
 
-    pub sum-again : (s′ : Sums) → s′ ≡ addedSums s (record { x = getD p (66 + 3 * i) 0; y = getD p (66 + 3 * i + 1) 0 }) → AtSum p c (i + 1) s′
-    unfolding entryIn
-    sum-again s′ e = record {
+    pub sum-again : (s′ : Sums) → s′ ≡ addedSums s d → AtSum p c n (i + 1) s′
+    sum-again s′ f = record {
+      count = a .count;
       i-le = omega arith;
       here = a .here;
-      so-far = e ∙ ap (λ q. addedSums q (entryIn p i .cell)) (a .so-far) ∙ sums-more (entriesIn p i) (entryIn p i) ∙ ap sumsOf (sym (entries-next p i));
+      so-far = f ∙ ap (addedSums s) e ∙ ap (λ q. addedSums q (entryIn p i .cell)) (a .so-far) ∙ sums-more (entriesIn p i) (entryIn p i) ∙ ap sumsOf (sym (entries-next p i));
     }
 
-  sums-all : itemCount p ≤ i → s ≡ sumsOf (entriesOf p)
-  sums-all h = let e : i ≡ itemCount p = let l = a .i-le in omega arith in a .so-far ∙ ap (λ j. sumsOf (entriesIn p j)) e
+  sums-all : n ≤ i → s ≡ sumsOf (entriesOf p)
+  sums-all h =
+      let l = a .i-le in
+      let k = a .count in
+      let e : i ≡ itemCount p = omega arith in
+      a .so-far ∙ ap (λ j. sumsOf (entriesIn p j)) e
 
   pub sum-last : SmallSums s c
-  sum-last = rw (a .so-far) (small (entriesIn p i) c (let l = entries-length p i in let f = few in omega arith) (grid-before p (itemCount p) i (a .i-le) (a .here .grid)) (a .here .cell))
+  sum-last = small-with c (a .here .cell)
 
-  pub sum-end : (r : Sums) → itemCount p ≤ i → r ≡ addedSums s c → r ≡ addedSums (sumsOf (entriesOf p)) c
+  pub sum-end : (r : Sums) → n ≤ i → r ≡ addedSums s c → r ≡ addedSums (sumsOf (entriesOf p)) c
   sum-end r h e = e ∙ ap (λ q. addedSums q c) (sums-all h)
 
 -- What the code computes with the sums s of n entries fits: no difference is negative.
@@ -168,24 +181,24 @@ module _ (es : List CellEntry) (f : FullLeaf es) where
 abbrev withNew : List ℕ → Cell → ℕ → List CellEntry
 withNew p c t = entriesOf p ++ (entryOf c t ∷ [])
 
-module _ (p : List ℕ) (c : Cell) (s : Sums) (h : LeafHere p c) (e : s ≡ addedSums (sumsOf (entriesOf p)) c) where
-  count-is : (t : ℕ) → getD p 1 0 + 1 ≡ length (withNew p c t)
+module _ (p : List ℕ) (c : Cell) (n : ℕ) (s : Sums) (h : LeafHere p c) (k : n ≡ itemCount p) (e : s ≡ addedSums (sumsOf (entriesOf p)) c) where
+  count-is : (t : ℕ) → n + 1 ≡ length (withNew p c t)
   count-is t = rw length-append (let l = entries-length p (itemCount p) in omega arith)
 
   sums-are : (t : ℕ) → s ≡ sumsOf (withNew p c t)
   sums-are t = e ∙ sums-more (entriesOf p) (entryOf c t)
 
-  numbers : Numbers (getD p 1 0 + 1) s
+  numbers : Numbers (n + 1) s
   unfolding All
   numbers =
       let f = h .leaf .few-items in
       let l = count-is 0 in
       rw (l, sums-are 0) (numbers-of (withNew p c 0) (omega arith) (all-append _ (entriesOf p) (entryOf c 0 ∷ []) (h .grid) (h .cell, tt)))
 
-  pub product-x-fits : Fits w64 ((getD p 1 0 + 1) * s .xx)
+  pub product-x-fits : Fits w64 ((n + 1) * s .xx)
   product-x-fits = let a = numbers .product-x in omega arith
 
-  pub product-y-fits : Fits w64 ((getD p 1 0 + 1) * s .yy)
+  pub product-y-fits : Fits w64 ((n + 1) * s .yy)
   product-y-fits = let a = numbers .product-y in omega arith
 
   pub square-x-fits : Fits w64 (s .x * s .x)
@@ -194,35 +207,35 @@ module _ (p : List ℕ) (c : Cell) (s : Sums) (h : LeafHere p c) (e : s ≡ adde
   pub square-y-fits : Fits w64 (s .y * s .y)
   square-y-fits = let a = numbers .product-y in let b = numbers .difference-y in omega arith
 
-  pub spread-x-some : s .x * s .x ≤ (getD p 1 0 + 1) * s .xx
+  pub spread-x-some : s .x * s .x ≤ (n + 1) * s .xx
   spread-x-some = numbers .difference-x
 
-  pub spread-y-some : s .y * s .y ≤ (getD p 1 0 + 1) * s .yy
+  pub spread-y-some : s .y * s .y ≤ (n + 1) * s .yy
   spread-y-some = numbers .difference-y
 
-  mean-x : s .x / (getD p 1 0 + 1) ≤ 589815
-  mean-x = let a = numbers .sum-x in let b = div-le-self (s .x) (getD p 1 0 + 1) in omega arith
+  mean-x : s .x / (n + 1) ≤ 589815
+  mean-x = let a = numbers .sum-x in let b = div-le-self (s .x) (n + 1) in omega arith
 
-  mean-y : s .y / (getD p 1 0 + 1) ≤ 589815
-  mean-y = let a = numbers .sum-y in let b = div-le-self (s .y) (getD p 1 0 + 1) in omega arith
+  mean-y : s .y / (n + 1) ≤ 589815
+  mean-y = let a = numbers .sum-y in let b = div-le-self (s .y) (n + 1) in omega arith
 
-  pub mean-x-fits : Fits w32 (s .x / (getD p 1 0 + 1))
+  pub mean-x-fits : Fits w32 (s .x / (n + 1))
   mean-x-fits = let a = mean-x in omega arith
 
-  pub mean-y-fits : Fits w32 (s .y / (getD p 1 0 + 1))
+  pub mean-y-fits : Fits w32 (s .y / (n + 1))
   mean-y-fits = let a = mean-y in omega arith
 
-  pub line-x-fits : Fits w32 (s .x / (getD p 1 0 + 1) + 1)
+  pub line-x-fits : Fits w32 (s .x / (n + 1) + 1)
   line-x-fits = let a = mean-x in omega arith
 
-  pub line-y-fits : Fits w32 (65536 + s .y / (getD p 1 0 + 1))
+  pub line-y-fits : Fits w32 (65536 + s .y / (n + 1))
   line-y-fits = let a = mean-y in omega arith
 
-  pub line-y-fits′ : Fits w32 (65536 + s .y / (getD p 1 0 + 1) + 1)
+  pub line-y-fits′ : Fits w32 (65536 + s .y / (n + 1) + 1)
   line-y-fits′ = let a = mean-y in omega arith
 
-  pub leaf-at-x : (getD p 1 0 + 1) * s .yy - s .y * s .y ≤ (getD p 1 0 + 1) * s .xx - s .x * s .x → LeafLineIs p c (s .x / (getD p 1 0 + 1) + 1)
+  pub leaf-at-x : (n + 1) * s .yy - s .y * s .y ≤ (n + 1) * s .xx - s .x * s .x → LeafLineIs p c (s .x / (n + 1) + 1)
   leaf-at-x g t f = rw (count-is t, sums-are t) (at-x (withNew p c t) f (rw (← (count-is t), ← (sums-are t)) g))
 
-  pub leaf-at-y : (getD p 1 0 + 1) * s .xx - s .x * s .x < (getD p 1 0 + 1) * s .yy - s .y * s .y → LeafLineIs p c (65536 + s .y / (getD p 1 0 + 1) + 1)
+  pub leaf-at-y : (n + 1) * s .xx - s .x * s .x < (n + 1) * s .yy - s .y * s .y → LeafLineIs p c (65536 + s .y / (n + 1) + 1)
   leaf-at-y g t f = rw (count-is t, sums-are t) (at-y (withNew p c t) f (rw (← (count-is t), ← (sums-are t)) g))

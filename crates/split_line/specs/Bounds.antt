@@ -13,7 +13,7 @@ use Rattle.tree.specs.Lists.{All, keep}
 use Rattle.tree.specs.Space.{left, right}
 use Rattle.plane.specs.Lines.{fitsIn, onBoth}
 use Rattle.plane.specs.Candidates.{Extent, extentOn, rank, candidates, leastKey}
-use Rattle.index.specs.Answers.{fanout}
+use Rattle.memory.specs.Fanout.{fanout}
 use Rattle.split_line.specs.declared.candidates.Counts.{Counts}
 
 -- the extent of a rectangle's cells: its ur is excluded

@@ -14,7 +14,7 @@ use Rattle.tree.specs.Space.{Side, left, right}
 use Rattle.tree.specs.Nodes.{entryOn}
 use Rattle.plane.specs.Plane.{planeSpace}
 use Rattle.plane.specs.Candidates.{rankLine}
-use Rattle.index.specs.Answers.{fanout}
+use Rattle.memory.specs.Fanout.{fanout}
 use Rattle.index.specs.Walks.{Walkable}
 use Rattle.index.specs.Changes.{entryOf}
 use Rattle.index.specs.Count.{entriesAt}

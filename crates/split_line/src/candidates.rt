@@ -6,7 +6,7 @@ ghost use Prim.Native.Nat.{_<_, _≤_};
 ghost use Rattle.geometry.specs.Cells.{valid};
 ghost use Rattle.tree.specs.Space.{left, right};
 ghost use Rattle.plane.specs.Candidates.{extentOn, rank, tried};
-ghost use Rattle.index.specs.Answers.{fanout};
+ghost use Rattle.memory.specs.Fanout.{fanout};
 ghost use Rattle.split_line.specs.Bounds.{rectExtent, extentsIn, BoundsList, TriedLine, countsOf, addedCounts, countsFit, triedAt, bestRank};
 use geometry::Line;
 use geometry::Rect;

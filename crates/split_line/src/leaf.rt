@@ -2,9 +2,8 @@
 ghost use mathlib.Core.Path.{_≡_};
 ghost use Rattle.split_line.specs.FullLeaf.{entriesOf, LeafHere, LeafLineIs, sumsOf, addedSums, SmallSums};
 use geometry::Cell;
-use memory::ENTRY;
-use memory::ITEM_COUNT;
-use memory::ITEMS;
+use layout::entry_cell;
+use layout::item_count;
 
 // The sums of coordinates and of their squares.
 struct Sums {
@@ -36,7 +35,7 @@ fn leaf_sums(p: &[u32], c: Cell) -> Sums
     requires { ⌜ LeafHere (now p) c ⌝ }
     ensures { λ r. ⌜ r ≡ addedSums (sumsOf (entriesOf (now (p .entry)))) c ⌝ }
 {
-    let n = p[ITEM_COUNT] as usize;
+    let n = item_count(p) as usize;
     let mut sums = Sums {
         x: 0,
         xx: 0,
@@ -45,12 +44,7 @@ fn leaf_sums(p: &[u32], c: Cell) -> Sums
     };
     let mut i = 0;
     while i < n {
-        let at = ITEMS + ENTRY * i;
-        let held = Cell {
-            x: p[at],
-            y: p[at + 1],
-        };
-        sums = sums.add(held);
+        sums = sums.add(entry_cell(p, i));
         i += 1;
     }
     sums.add(c)
@@ -62,7 +56,7 @@ pub fn leaf_line(p: &[u32], c: Cell) -> u32
     requires { ⌜ LeafHere (now p) c ⌝ }
     ensures { λ r. ⌜ LeafLineIs (now (p .entry)) c r ⌝ }
 {
-    let n = (p[ITEM_COUNT] as u64) + 1;
+    let n = (item_count(p) as u64) + 1;
     let sums = leaf_sums(p, c);
     let spread_x = n * sums.xx - sums.x * sums.x;
     let spread_y = n * sums.yy - sums.y * sums.y;

@@ -14,10 +14,8 @@ use crate::reach::reach_under;
 use geometry::Cell;
 use geometry::Rect;
 use geometry::put_rect;
-use memory::HEAD;
-use memory::ITEM_COUNT;
-use memory::ITEMS;
-use memory::PART;
+use layout::child_at;
+use layout::count_at;
 use sides::is_on;
 use sides::left_side;
 use sides::right_side;
@@ -87,13 +85,12 @@ fn put_bounds(
     requires { ⌜ NodeHere (now m) level lo k place below c × (length (now list) ≡ 36) ⌝ }
     ensures { λ r. ⌜ GroupBounds (now (m .entry)) level lo k place below c (now (list .exit)) r ⌝ }
 {
-    let a = HEAD + PART * (k as usize);
-    let n = m[a + ITEM_COUNT];
+    let n = count_at(m, k);
     let mut next = 0;
     let mut low = lo;
     let mut i: u32 = 0;
     while i < n {
-        let j = m[a + ITEMS + (i as usize)];
+        let j = child_at(m, k, i as usize);
         next = put_branch(m, level - 1, low, j, i == place, below, c, list, next);
         low = j + 1;
         i += 1;

@@ -7,11 +7,11 @@ ghost use Rattle.index.specs.Walks.{leafEntries};
 ghost use Rattle.split_line.specs.Reached.{reachOf, reachAdd, reachJoin, onSides, keptUnder, LeafReach, NodeReach};
 use geometry::Cell;
 use geometry::Rect;
-use memory::ENTRY;
-use memory::HEAD;
-use memory::ITEM_COUNT;
-use memory::ITEMS;
-use memory::PART;
+use layout::child_at;
+use layout::count_at;
+use layout::entry_cell;
+use layout::item_count;
+use layout::part_at;
 use sides::on_all;
 
 // Whether there are entries, and the smallest rectangle with their cells.
@@ -83,15 +83,11 @@ fn reach_in_leaf(p: &[u32], sides: &[u32]) -> Reach
     requires { ⌜ LeafReach (now p) (now sides) ⌝ }
     ensures { λ r. ⌜ r ≡ reachOf (leafEntries (onSides (now (sides .entry))) (now (p .entry))) ⌝ }
 {
-    let n = p[ITEM_COUNT] as usize;
+    let n = item_count(p) as usize;
     let mut reach = Reach::empty();
     let mut i = 0;
     while i < n {
-        let at = ITEMS + ENTRY * i;
-        let c = Cell {
-            x: p[at],
-            y: p[at + 1],
-        };
+        let c = entry_cell(p, i);
         if on_all(sides, c) {
             reach = reach.add(c);
         }
@@ -105,17 +101,15 @@ pub fn reach_under(m: &[u32], level: u32, lo: u32, k: u32, sides: &[u32]) -> Rea
     requires { ⌜ NodeReach level (now m) lo k (now sides) ⌝ }
     ensures { λ r. ⌜ r ≡ reachOf (keptUnder (now (sides .entry)) level (now (m .entry)) lo k) ⌝ }
 {
-    let a = HEAD + PART * (k as usize);
-    let e = a + PART;
     if level == 0 {
-        return reach_in_leaf(&m[a..e], sides);
+        return reach_in_leaf(part_at(m, k), sides);
     }
-    let n = m[a + ITEM_COUNT] as usize;
+    let n = count_at(m, k) as usize;
     let mut reach = Reach::empty();
     let mut low = lo;
     let mut i = 0;
     while i < n {
-        let j = m[a + ITEMS + i];
+        let j = child_at(m, k, i);
         reach = reach.join(reach_under(m, level - 1, low, j, sides));
         low = j + 1;
         i += 1;

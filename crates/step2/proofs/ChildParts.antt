@@ -4,25 +4,22 @@ use mathlib.Core.Path.{_≡_, sym, ap, _∙_}
 use mathlib.Core.List.{List, [], _∷_}
 use native.Mathlib.Omega.{arith}
 use native.Mathlib.Numerals.{add-one}
-use mir.Syntax.{w64}
-use mir.Val.{Fits}
-use lib.ListN.{length, drop, getD, drop-of-length-le, List·getD-map}
+use lib.ListN.{length, drop, getD, length-drop, drop-of-length-le, List·getD-map}
 use lib.Seq.{drop-cons, getD-take, getD-drop}
 use Rattle.geometry.specs.declared.polygon.Polygon.{Polygon}
 use Rattle.geometry.specs.Numbers.{rectsIn, PolygonOf}
-use Rattle.memory.specs.Layout.{part, itemCount, polygonIn, childrenIn}
-use Rattle.index.specs.Check.{PolygonPart}
-use Rattle.index.specs.Walks.{rectsAt, countAt, childAt}
-use Rattle.index.proofs.WalkParts.{part-at, part-first, part-rest}
-use Rattle.step2.specs.Branches.{polygonsIn, GoodPart, Branches}
+use Rattle.memory.specs.Layout.{part, rectCount, itemCount, polygonIn, childrenIn, countAt, childAt, PolygonPart}
+use Rattle.layout.proofs.NodeLaws.{lent-polygon}
+use Rattle.index.proofs.WalkParts.{part-at}
+use Rattle.step2.specs.Branches.{polygonsIn, Branches}
 
--- the rectangles in place are the polygon's
-pub rects-are : (m : List ℕ) (k : ℕ) → rectsIn (rectsAt m k) (getD m (64 + 128 * k) 0) ≡ polygonIn (part m k)
-rects-are m k = rw (part-rest m k, part-first m k)
+-- the polygon loaded from the part p of a node, by its rectangles r and their count n
+module _ (m : List ℕ) (k : ℕ) (p r : List ℕ) (n : ℕ) (e : p ≡ part m k) (f : r ≡ drop 2 p) (g : n ≡ rectCount p) where
+  pub loaded : (q : Polygon) → PolygonOf (rectsIn r n) q → PolygonOf (polygonIn (part m k)) q
+  loaded q v = rw (← (lent-polygon m k p r n e f g)) v
 
--- the polygon loaded from its place
-pub loaded : (m : List ℕ) (k : ℕ) (p : Polygon) → PolygonOf (rectsIn (rectsAt m k) (getD m (64 + 128 * k) 0)) p → PolygonOf (polygonIn (part m k)) p
-loaded m k p v = rw (← (rects-are m k)) v
+  pub count-few : PolygonPart m k → n ≤ 16
+  count-few v = rw (g, e) (v .few-rects)
 
 -- the i-th child's part number, in place
 pub child-is : (m : List ℕ) (k i : ℕ) → countAt m k ≤ 8 → i < countAt m k → getD (childrenIn (part m k)) i 0 ≡ childAt m k i
@@ -32,16 +29,7 @@ child-is m k i f h =
     ∙ ap (λ j. getD m j 0) (let q : 64 + 128 * k + (66 + i) ≡ 64 + 128 * k + 66 + i = omega arith in q)
 
 module _ (m : List ℕ) (k : ℕ) (v : Branches m k) where
-  pub items-fit : Fits w64 (countAt m k)
-  items-fit = let f = v .few in omega arith
-
   module _ (i : ℕ) (h : i < countAt m k) where
-    pub child-good : GoodPart m (childAt m k i)
-    child-good = v .good i h
-
-    pub child-polygon : PolygonPart m (childAt m k i)
-    child-polygon = child-good .polygon
-
     -- the polygons from the i-th on
     pub next-polygon : drop i (polygonsIn m k) ≡ polygonIn (part m (childAt m k i)) ∷ drop (i + 1) (polygonsIn m k)
     unfolding polygonsIn
@@ -52,11 +40,16 @@ module _ (m : List ℕ) (k : ℕ) (v : Branches m k) where
         let s : i < length (polygonsIn m k) = omega arith in
         drop-cons (polygonsIn m k) i (polygonIn (part m 0)) s ∙ rw (at, add-one)
 
-    -- the i-th polygon
-    pub polygon-there : getD (polygonsIn m k) i [] ≡ polygonIn (part m (childAt m k i))
+  -- the i-th child j
+  module _ (i j : ℕ) (h : i < countAt m k) (q : j ≡ childAt m k i) where
+    pub child-polygon : PolygonPart m j
+    child-polygon = rw q (v .good i h .polygon)
+
+    pub polygon-there : getD (polygonsIn m k) i [] ≡ polygonIn (part m j)
     polygon-there =
         let e : i + 0 ≡ i = omega arith in
-        ap (λ j. getD (polygonsIn m k) j []) (sym e) ∙ sym (getD-drop i (polygonsIn m k) 0 []) ∙ ap (λ l. getD l 0 []) next-polygon
+        ap (λ x. getD (polygonsIn m k) x []) (sym e) ∙ sym (getD-drop i (polygonsIn m k) 0 []) ∙ ap (λ l. getD l 0 []) (next-polygon i h)
+        ∙ ap (λ x. polygonIn (part m x)) (sym q)
 
   pub no-polygon : (i : ℕ) → countAt m k ≤ i → drop i (polygonsIn m k) ≡ []
   no-polygon i h =

@@ -21,7 +21,7 @@ use Rattle.tree.proofs.Any.{any-append, any-none}
 use Rattle.tree.proofs.Lists.{flatMap-append, all-append, all-map, all-second, all-flatMap, all-head}
 use Rattle.plane.specs.Plane.{extraOf, plane}
 use Rattle.plane.proofs.Best.{least-low, least-high}
-use Rattle.index.specs.Answers.{fanout}
+use Rattle.memory.specs.Fanout.{fanout}
 use Rattle.index.specs.Walks.{hasTest}
 use Rattle.step2.specs.Pieces.{rectsAll, siblings, focusAt, grownAt}
 use Rattle.step2.proofs.NearestLaws.{AtLeast, More, FirstOf}

@@ -20,15 +20,15 @@ use Rattle.tree.specs.Lists.{All}
 use Rattle.tree.specs.Nodes.{Item}
 use Rattle.tree.specs.Step2.{choose}
 use Rattle.plane.specs.Plane.{plane, planeSpace}
-use Rattle.memory.specs.Layout.{part, polygonIn}
-use Rattle.index.specs.Answers.{fanout}
-use Rattle.index.specs.Walks.{hasTest, countAt, childAt}
+use Rattle.memory.specs.Layout.{part, polygonIn, countAt, childAt, PolygonPart}
+use Rattle.memory.specs.Fanout.{fanout}
+use Rattle.index.specs.Walks.{hasTest}
 use Rattle.step2.specs.declared.extra.Nearest.{Nearest}
 use Rattle.step2.specs.Branches.{polygonsIn, Branches, firstPlace}
 use Rattle.step2.specs.Choose.{ChosenBranch, ChosenAt, NoneChosen}
 use Rattle.step2.specs.Extra.{noneYet, nearestFrom}
 use Rattle.step2.specs.Pieces.{grownAt}
-use Rattle.step2.proofs.ChildParts.{next-polygon, polygon-there}
+use Rattle.step2.proofs.ChildParts.{next-polygon, child-polygon, polygon-there}
 use Rattle.step2.proofs.ReadBranches.{polygons-read}
 use Rattle.step2.proofs.FirstLoop.{none-before, passes-at}
 use Rattle.step2.proofs.NearestLaws.{Least, nearest-least}
@@ -47,17 +47,21 @@ chosen-branch n b p c i before after x q s e = record {
   chosen = rw (add-one i) e;
 }
 
+-- one of the x branches, at part j
+pub has-polygon : (m : List ℕ) (k x place j : ℕ) → Branches m k → x ≡ countAt m k → place < x → j ≡ childAt m k place → PolygonPart m j
+has-polygon m k x place j v y h o = child-polygon m k v place j (rw y at h) o
+
 module _ (m : List ℕ) (k : ℕ) (p : List Rect) (c : Cell) (v : Branches m k) where
-  -- the first branch that has the cell
-  pub has-way : (place : ℕ) (q : Polygon) → place ≡ firstPlace (hasTest c) (polygonsIn m k) → place < countAt m k
-      → PolygonOf (polygonIn (part m (childAt m k place))) q → ChosenAt m k p c place q
-  has-way place q e h w = record { few = w .fits; each = λ n lo b r. one n b (polygons-read n m lo k b r) }
+  -- the first of the x branches that has the cell, at part j
+  pub has-way : (x place j : ℕ) (q : Polygon) → x ≡ countAt m k → place ≡ firstPlace (hasTest c) (polygonsIn m k) → place < x
+      → j ≡ childAt m k place → PolygonOf (polygonIn (part m j)) q → ChosenAt m k p c place q
+  has-way x place j q y e h o w = record { few = w .fits; each = λ n lo b r. one n b (polygons-read n m lo k b r) }
     where
       one : (n : ℕ) (b : Item (planeSpace fanout) (suc (suc n))) → map (λ x. x .poly) (b .child) ≡ polygonsIn m k → ChosenBranch n b p c place (rectsOf q)
       one n b r =
           let ps = polygonsIn m k in
           let l : place < length ps = let z = v .count in omega arith in
-          let at : getD ps place [] ≡ rectsOf q = polygon-there m k v place h ∙ sym (w .list) in
+          let at : getD ps place [] ≡ rectsOf q = polygon-there m k v place j (rw y at h) o ∙ sym (w .list) in
           let len : length (take place ps) ≡ place = length-take-le place ps (omega arith) in
           let none-has : All (λ x. hasTest c x ≡ false) (take place ps) = rw e (none-before (hasTest c) ps) in
           let has : hasTest c (getD ps place []) ≡ true = rw e (passes-at (hasTest c) ps [] (rw (← e) l)) in

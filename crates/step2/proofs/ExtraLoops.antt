@@ -5,7 +5,7 @@ use mathlib.Core.Bool.{true}
 use mathlib.Core.List.{List, _∷_}
 use native.Mathlib.Omega.{arith}
 use borrow.Author.Tests.{lt-ltb, le-ltb}
-use lib.ListN.{length, drop, getD}
+use lib.ListN.{length, drop}
 use Rattle.geometry.specs.declared.rect.Cell.{Cell}
 use Rattle.geometry.specs.declared.rect.Rect.{Rect}
 use Rattle.geometry.specs.Cells.{onGrid, valid, allValid, area}
@@ -15,12 +15,12 @@ use Rattle.geometry.proofs.CellLaws.{grid-of, Valid, valid-of, valid-at}
 use Rattle.geometry.proofs.GrowLaws.{grow-valid, area-grows}
 use Rattle.geometry.proofs.NumberLaws.{length-rects, rects-at, rects-next, rects-end}
 use Rattle.plane.specs.Plane.{extraOf}
-use Rattle.memory.specs.Layout.{part, polygonIn}
-use Rattle.index.specs.Walks.{rectsAt, countAt, childAt}
+use Rattle.memory.specs.Layout.{part, rectCount, polygonIn, countAt, childAt}
+use Rattle.layout.proofs.NodeLaws.{lent-polygon, polygon-few}
 use Rattle.step2.specs.declared.extra.Nearest.{Nearest}
 use Rattle.step2.specs.Branches.{polygonsIn, GoodPart, Branches}
 use Rattle.step2.specs.Extra.{noneYet, nearer, nearestIn, nearestFrom}
-use Rattle.step2.proofs.ChildParts.{rects-are, next-polygon, no-polygon}
+use Rattle.step2.proofs.ChildParts.{next-polygon, no-polygon}
 
 -- a cell on the grid
 module _ (c : Cell) (h : onGrid c ≡ true) where
@@ -85,35 +85,45 @@ module _ (c : Cell) (list : List ℕ) (n branch : ℕ) (known : Nearest) where
     unfolding nearestIn
     compare-end h = sym (v .rest ∙ rw (rects-end list n i h))
 
--- the rectangles in place of a part
-module _ (m : List ℕ) (j : ℕ) where
-  pub place-valid : GoodPart m j → allValid (rectsIn (rectsAt m j) (getD m (64 + 128 * j) 0)) ≡ true
-  place-valid v = rw (rects-are m j) (v .valid)
+-- the rectangles s of the part p of a child, and their count n
+module _ (m : List ℕ) (j : ℕ) (p s : List ℕ) (n : ℕ) (e : p ≡ part m j) (f : s ≡ drop 2 p) (g : n ≡ rectCount p) where
+  module _ (v : GoodPart m j) where
+    pub good-fit : 4 * n ≤ length s
+    good-fit = polygon-few m j p s n (v .polygon) e f g
 
-  pub compared-at : (c : Cell) (branch : ℕ) (known r : Nearest) → r ≡ nearestIn c branch 0 known (rectsIn (rectsAt m j) (getD m (64 + 128 * j) 0))
+    pub good-valid : allValid (rectsIn s n) ≡ true
+    good-valid = rw (lent-polygon m j p s n e f g) (v .valid)
+
+  pub compared-at : (c : Cell) (branch : ℕ) (known r : Nearest) → r ≡ nearestIn c branch 0 known (rectsIn s n)
       → r ≡ nearestIn c branch 0 known (polygonIn (part m j))
-  compared-at c branch known r e = e ∙ ap (nearestIn c branch 0 known) (rects-are m j)
+  compared-at c branch known r q = q ∙ ap (nearestIn c branch 0 known) (lent-polygon m j p s n e f g)
 
--- The first i children are compared.
-pub record Nearing (c : Cell) (m : List ℕ) (k : ℕ) (best : Nearest) (i : ℕ) : Type 0 where
+-- The first i of the n children are compared.
+pub record Nearing (c : Cell) (m : List ℕ) (k n : ℕ) (best : Nearest) (i : ℕ) : Type 0 where
   pub branches : Branches m k
-  pub i-le : i ≤ countAt m k
+  pub count : n ≡ countAt m k
+  pub i-le : i ≤ n
   pub rest : nearestFrom c 0 noneYet (polygonsIn m k) ≡ nearestFrom c i best (drop i (polygonsIn m k))
 
-module _ (c : Cell) (m : List ℕ) (k : ℕ) where
-  pub near-start : Branches m k → Nearing c m k noneYet 0
-  near-start v = record { branches = v; i-le = omega arith; rest = refl }
+module _ (c : Cell) (m : List ℕ) (k n : ℕ) where
+  pub near-start : Branches m k → n ≡ countAt m k → Nearing c m k n noneYet 0
+  near-start v q = record { branches = v; count = q; i-le = omega arith; rest = refl }
 
-  module _ (best : Nearest) (i : ℕ) (v : Nearing c m k best i) where
-    pub near-again : (best′ : Nearest) → i < countAt m k → best′ ≡ nearestIn c i 0 best (polygonIn (part m (childAt m k i))) → Nearing c m k best′ (i + 1)
-    unfolding nearestFrom
-    near-again best′ h e = record {
-      branches = v .branches;
-      i-le = omega arith;
-      rest = v .rest ∙ ap (nearestFrom c i best) (next-polygon m k (v .branches) i h)
-          ∙ ap (λ y. nearestFrom c (i + 1) y (drop (i + 1) (polygonsIn m k))) (sym e);
-    }
+  module _ (best : Nearest) (i : ℕ) (v : Nearing c m k n best i) where
+    module _ (j : ℕ) (h : i < n) (q : j ≡ childAt m k i) where
+      pub near-child : GoodPart m j
+      near-child = rw q (v .branches .good i (rw (v .count) at h))
 
-    pub near-end : countAt m k ≤ i → best ≡ nearestFrom c 0 noneYet (polygonsIn m k)
+      pub near-again : (best′ : Nearest) → best′ ≡ nearestIn c i 0 best (polygonIn (part m j)) → Nearing c m k n best′ (i + 1)
+      unfolding nearestFrom
+      near-again best′ e = record {
+        branches = v .branches;
+        count = v .count;
+        i-le = omega arith;
+        rest = v .rest ∙ ap (nearestFrom c i best) (next-polygon m k (v .branches) i (rw (v .count) at h))
+            ∙ ap (λ y. nearestFrom c (i + 1) y (drop (i + 1) (polygonsIn m k))) (sym (rw q at e));
+      }
+
+    pub near-end : n ≤ i → best ≡ nearestFrom c 0 noneYet (polygonsIn m k)
     unfolding nearestFrom
-    near-end h = sym (v .rest ∙ rw (no-polygon m k (v .branches) i h))
+    near-end h = sym (v .rest ∙ rw (no-polygon m k (v .branches) i (rw (v .count) at h)))

@@ -7,38 +7,47 @@ use native.Mathlib.Omega.{arith}
 use lib.ListN.{length, take, drop, getD}
 use Rattle.geometry.specs.declared.rect.Cell.{Cell}
 use Rattle.tree.specs.Lists.{All}
-use Rattle.memory.specs.Layout.{part, polygonIn}
-use Rattle.index.specs.Walks.{hasTest, countAt, childAt}
+use Rattle.memory.specs.Layout.{part, polygonIn, countAt, childAt, PolygonPart}
+use Rattle.index.specs.Walks.{hasTest}
 use Rattle.step2.specs.Branches.{polygonsIn, Branches, firstPlace}
 use Rattle.step2.proofs.ChildParts.{next-polygon, no-polygon}
 
--- The first i children do not have the cell.
-pub record Looking (m : List ℕ) (k : ℕ) (c : Cell) (i : ℕ) : Type 0 where
+-- The first i of the n children do not have the cell.
+pub record Looking (m : List ℕ) (k : ℕ) (c : Cell) (n i : ℕ) : Type 0 where
   pub branches : Branches m k
-  pub i-le : i ≤ countAt m k
+  pub count : n ≡ countAt m k
+  pub i-le : i ≤ n
   pub rest : firstPlace (hasTest c) (polygonsIn m k) ≡ i + firstPlace (hasTest c) (drop i (polygonsIn m k))
 
-module _ (m : List ℕ) (k : ℕ) (c : Cell) where
-  pub look-start : Branches m k → Looking m k c 0
-  look-start v = record { branches = v; i-le = omega arith; rest = omega arith }
+module _ (m : List ℕ) (k : ℕ) (c : Cell) (n : ℕ) where
+  pub look-start : Branches m k → n ≡ countAt m k → Looking m k c n 0
+  look-start v q = record { branches = v; count = q; i-le = omega arith; rest = omega arith }
 
-  module _ (i : ℕ) (v : Looking m k c i) where
-    pub look-hit : (b : Bool) → i < countAt m k → b ≡ hasTest c (polygonIn (part m (childAt m k i))) → b ≡ true
-        → i ≡ firstPlace (hasTest c) (polygonsIn m k)
-    unfolding firstPlace
-    look-hit b h e f = rw (v .rest, next-polygon m k (v .branches) i h, ← e, f) (omega arith)
+  module _ (i : ℕ) (v : Looking m k c n i) where
+    module _ (j : ℕ) (h : i < n) (q : j ≡ childAt m k i) where
+      pub look-child : PolygonPart m j
+      look-child = rw q (v .branches .good i (rw (v .count) at h) .polygon)
 
-    pub look-again : (b : Bool) → i < countAt m k → b ≡ hasTest c (polygonIn (part m (childAt m k i))) → b ≡ false → Looking m k c (i + 1)
-    unfolding firstPlace
-    look-again b h e f = record {
-      branches = v .branches;
-      i-le = omega arith;
-      rest = rw (v .rest, next-polygon m k (v .branches) i h, ← e, f) (omega arith);
-    }
+      next : drop i (polygonsIn m k) ≡ polygonIn (part m j) ∷ drop (i + 1) (polygonsIn m k)
+      next = rw q (next-polygon m k (v .branches) i (rw (v .count) at h))
 
-    pub look-end : countAt m k ≤ i → countAt m k ≡ firstPlace (hasTest c) (polygonsIn m k)
+      module _ (b : Bool) (e : b ≡ hasTest c (polygonIn (part m j))) where
+        pub look-hit : b ≡ true → i ≡ firstPlace (hasTest c) (polygonsIn m k)
+        unfolding firstPlace
+        look-hit f = rw (v .rest, next, ← e, f) (omega arith)
+
+        pub look-again : b ≡ false → Looking m k c n (i + 1)
+        unfolding firstPlace
+        look-again f = record {
+          branches = v .branches;
+          count = v .count;
+          i-le = omega arith;
+          rest = rw (v .rest, next, ← e, f) (omega arith);
+        }
+
+    pub look-end : n ≤ i → n ≡ firstPlace (hasTest c) (polygonsIn m k)
     unfolding firstPlace
-    look-end h = rw (v .rest, no-polygon m k (v .branches) i h) (let l = v .i-le in omega arith)
+    look-end h = rw (v .rest, no-polygon m k (v .branches) i (rw (v .count) at h)) (let l = v .i-le in omega arith)
 
 -- What the first place says of a list.
 module _ {A : Type 0} (t : A → Bool) where
@@ -72,10 +81,10 @@ module _ {A : Type 0} (t : A → Bool) where
       go true e f h = e
       go false e f h = f (omega arith)
 
--- no child has the cell
-pub none-first : (m : List ℕ) (k : ℕ) (c : Cell) (place : ℕ) → Branches m k → place ≡ firstPlace (hasTest c) (polygonsIn m k) → countAt m k ≤ place
+-- none of the n children has the cell
+pub none-first : (m : List ℕ) (k : ℕ) (c : Cell) (n place : ℕ) → Branches m k → n ≡ countAt m k → place ≡ firstPlace (hasTest c) (polygonsIn m k) → n ≤ place
     → firstPlace (hasTest c) (polygonsIn m k) ≡ countAt m k
-none-first m k c place v e h =
+none-first m k c n place v q e h =
     let l = place-le (hasTest c) (polygonsIn m k) in
-    let n = v .count in
+    let s = v .count in
     omega arith

@@ -4,7 +4,7 @@ use mathlib.Core.Path.{_≡_, sym, ap, _∙_}
 use mathlib.Core.List.{List, [], _∷_}
 use mathlib.Core.Option.{Option, bind}
 use native.Mathlib.Omega.{arith}
-use lib.ListN.{length, getD}
+use lib.ListN.{length, drop, getD, length-drop}
 use Rattle.geometry.specs.declared.rect.Cell.{Cell}
 use Rattle.geometry.specs.declared.rect.Rect.{Rect}
 use Rattle.geometry.specs.declared.cut.Count.{Count}
@@ -14,12 +14,11 @@ use Rattle.geometry.specs.Cut.{cutLimited, commonLimited}
 use Rattle.geometry.specs.Grow.{grown}
 use Rattle.geometry.specs.Numbers.{rectAt, rectsIn, putAt, counted, Written}
 use Rattle.geometry.proofs.NumberLaws.{length-rects, length-put, rects-at, put-behind}
-use Rattle.memory.specs.Layout.{part, rectCount, polygonIn}
-use Rattle.index.specs.Walks.{rectsAt, countAt, childAt}
-use Rattle.index.proofs.WalkParts.{part-first}
+use Rattle.memory.specs.Layout.{part, rectCount, polygonIn, countAt, childAt, PolygonPart}
+use Rattle.layout.proofs.NodeLaws.{lent-polygon}
 use Rattle.step2.specs.Branches.{polygonsIn, Branches}
 use Rattle.step2.specs.Pieces.{siblings, innerPieces, replaced, refinedLimited, grownAt}
-use Rattle.step2.proofs.ChildParts.{rects-are, polygon-there}
+use Rattle.step2.proofs.ChildParts.{polygon-there}
 use Rattle.step2.proofs.PieceLaws.{grown-at}
 
 -- the list after the rectangle was written to it and cut
@@ -58,42 +57,41 @@ module _ (g : Rect) (ss p : List Rect) (list₀ list list₁ out₀ out₁ : Lis
     unfolding counted bind
     inner-parts b out₂ w = record { list = w .list ∙ sym (cut-first ∙ rw q); few = w .few; same-length = w .same-length ∙ o }
 
--- the polygon in place
-module _ (m : List ℕ) (j : ℕ) where
-  pub rect-below : (rect : ℕ) → rect < rectCount (part m j) → rect < getD m (64 + 128 * j) 0
-  rect-below rect h = let q = part-first m j in omega arith
+-- the rectangles s of the part p at j, and the rect-th of them
+module _ (m : List ℕ) (j : ℕ) (p s : List ℕ) (rect : ℕ) (e : p ≡ part m j) (f : s ≡ drop 2 p) (h : rect < rectCount (part m j)) where
+  pub rect-room : PolygonPart m j → length p ≡ 128 → 4 * rect + 4 ≤ length s
+  rect-room v l = let x = v .few-rects in rw (f, length-drop) (omega arith)
 
-  pub rect-grown : (rect : ℕ) (c : Cell) (r g : Rect) → rect < rectCount (part m j) → r ≡ rectAt (rectsAt m j) rect → g ≡ grown r c
-      → g ≡ grown (getD (polygonIn (part m j)) rect noRect) c
-  rect-grown rect c r g h e f =
-      let at : getD (polygonIn (part m j)) rect noRect ≡ rectAt (rectsAt m j) rect =
-      ap (λ l. getD l rect noRect) (sym (rects-are m j)) ∙ rects-at (rectsAt m j) (getD m (64 + 128 * j) 0) rect (rect-below rect h) in
-      f ∙ ap (λ s. grown s c) (e ∙ sym at)
+  pub rect-grown : (c : Cell) (r g : Rect) → r ≡ rectAt s rect → g ≡ grown r c → g ≡ grown (getD (polygonIn (part m j)) rect noRect) c
+  rect-grown c r g x y = y ∙ ap (λ t. grown t c) (x ∙ sym (rw (← e, ← f) (rects-at s (rectCount p) rect (rw (← e) at h))))
 
-  pub polygon-put : (rect : ℕ) (l : List ℕ) (a : Count) (l′ : List ℕ) (pieces : List Rect)
-      → Written l (refinedLimited (replaced (rectsIn (rectsAt m j) (getD m (64 + 128 * j) 0)) rect pieces)) a l′
-      → Written l (refinedLimited (replaced (polygonIn (part m j)) rect pieces)) a l′
-  polygon-put rect l a l′ pieces w = rw (← (rects-are m j)) w
+  module _ (n : ℕ) (g : n ≡ rectCount p) where
+    pub rect-below : rect < n
+    rect-below = rw (g, e) h
 
--- the branch at a place, its rect-th rectangle
-module _ (m : List ℕ) (k place rect : ℕ) (v : Branches m k) (h : place < countAt m k) (f : rect < length (getD (polygonsIn m k) place [])) where
-  pub rect-counted : rect < rectCount (part m (childAt m k place))
+    pub polygon-put : (l : List ℕ) (a : Count) (l′ : List ℕ) (pieces : List Rect) → Written l (refinedLimited (replaced (rectsIn s n) rect pieces)) a l′
+        → Written l (refinedLimited (replaced (polygonIn (part m j)) rect pieces)) a l′
+    polygon-put l a l′ pieces w = rw (← (lent-polygon m j p s n e f g)) w
+
+-- the branch at a place, which is at part j, its rect-th rectangle
+module _ (m : List ℕ) (k place rect j : ℕ) (v : Branches m k) (h : place < countAt m k) (o : j ≡ childAt m k place) (f : rect < length (getD (polygonsIn m k) place [])) where
+  pub rect-counted : rect < rectCount (part m j)
   rect-counted =
-      let l : length (getD (polygonsIn m k) place []) ≡ rectCount (part m (childAt m k place)) = ap length (polygon-there m k v place h) ∙ length-rects _ _ in
+      let l : length (getD (polygonsIn m k) place []) ≡ rectCount (part m j) = ap length (polygon-there m k v place j h o) ∙ length-rects _ _ in
       omega arith
 
-  module _ (p : List Rect) (c : Cell) (g : Rect) (e : g ≡ grown (getD (polygonIn (part m (childAt m k place))) rect noRect) c)
+  module _ (p : List Rect) (c : Cell) (g : Rect) (e : g ≡ grown (getD (polygonIn (part m j)) rect noRect) c)
       (list₀ list₁ spare₀ spare : List ℕ) (a : Count) (l : length list₁ ≡ length list₀)
       (w : Written spare₀ (innerPieces p (siblings (polygonsIn m k) place) g) a spare) where
     pieces-first : grownAt p (polygonsIn m k) place rect c
-        ≡ bind (counted a spare) (λ inner. refinedLimited (replaced (polygonIn (part m (childAt m k place))) rect inner))
+        ≡ bind (counted a spare) (λ inner. refinedLimited (replaced (polygonIn (part m j)) rect inner))
     pieces-first =
-        let q = polygon-there m k v place h in
-        let z : innerPieces p (siblings (polygonsIn m k) place) (grown (getD (polygonIn (part m (childAt m k place))) rect noRect) c) ≡ counted a spare =
+        let q = polygon-there m k v place j h o in
+        let z : innerPieces p (siblings (polygonsIn m k) place) (grown (getD (polygonIn (part m j)) rect noRect) c) ≡ counted a spare =
         ap (innerPieces p (siblings (polygonsIn m k) place)) (sym e) ∙ sym (w .list) in
         grown-at p (polygonsIn m k) place rect c
         ∙ ap (λ x. bind (innerPieces p (siblings (polygonsIn m k) place) (grown (getD x rect noRect) c)) (λ inner. refinedLimited (replaced x rect inner))) q
-        ∙ ap (λ x. bind x (λ inner. refinedLimited (replaced (polygonIn (part m (childAt m k place))) rect inner))) z
+        ∙ ap (λ x. bind x (λ inner. refinedLimited (replaced (polygonIn (part m j)) rect inner))) z
 
     pub grown-over : a ≡ Over → Written list₀ (grownAt p (polygonsIn m k) place rect c) Over list₁
     unfolding counted bind
@@ -101,7 +99,7 @@ module _ (m : List ℕ) (k place rect : ℕ) (v : Branches m k) (h : place < cou
 
     module _ (count : ℕ) (q : a ≡ Rects count) where
       pub grown-put : (b : Count) (list₂ : List ℕ)
-          → Written list₁ (refinedLimited (replaced (polygonIn (part m (childAt m k place))) rect (rectsIn spare count))) b list₂
+          → Written list₁ (refinedLimited (replaced (polygonIn (part m j)) rect (rectsIn spare count))) b list₂
           → Written list₀ (grownAt p (polygonsIn m k) place rect c) b list₂
       unfolding counted bind
       grown-put b list₂ u = record { list = u .list ∙ sym (pieces-first ∙ rw q); few = u .few; same-length = u .same-length ∙ l }

@@ -18,7 +18,7 @@ use Rattle.tree.specs.Limits.{polygonLimit, piecesLimit}
 use Rattle.tree.specs.Step2.{cutEach, commons, grownPoly}
 use Rattle.tree.proofs.Any.{bind-some}
 use Rattle.plane.specs.Plane.{plane}
-use Rattle.index.specs.Answers.{fanout}
+use Rattle.memory.specs.Fanout.{fanout}
 use Rattle.step2.specs.Pieces.{siblings, innerPieces, replaced, refinedLimited, grownAt}
 
 bind-same : {A B : Type 0} (o : Option A) (f g : A → Option B) → ((a : A) → f a ≡ g a) → bind o f ≡ bind o g

@@ -15,12 +15,10 @@ use Rattle.geometry.specs.Numbers.{rectsIn, rectsOf, counted, Written, PolygonO
 use Rattle.geometry.proofs.ArrayLaws.{array-next, array-end}
 use Rattle.geometry.proofs.CutLaws.{cut-limited-append}
 use Rattle.tree.proofs.Lists.{flatMap-append}
-use Rattle.memory.specs.Layout.{part, polygonIn}
-use Rattle.index.specs.Check.{PolygonPart}
-use Rattle.index.specs.Walks.{countAt, childAt}
+use Rattle.memory.specs.Layout.{part, polygonIn, countAt, childAt, PolygonPart}
 use Rattle.step2.specs.Branches.{polygonsIn, Branches}
 use Rattle.step2.specs.Pieces.{rectsAll, siblings}
-use Rattle.step2.proofs.ChildParts.{child-polygon, polygon-there}
+use Rattle.step2.proofs.ChildParts.{polygon-there}
 
 -- The children from the given one up to before the i-th have cut the list; those up to another are left to do.
 pub record CuttingBy (m : List ℕ) (k from to : ℕ) (list₀ : List ℕ) (n : ℕ) (spare₀ list spare : List ℕ) (left i : ℕ) : Type 0 where
@@ -63,10 +61,10 @@ module _ (m : List ℕ) (k from to : ℕ) (list₀ : List ℕ) (n : ℕ) (spare�
           same-length = v .same-length;
         }
 
-    pub cut-child : i < to → PolygonPart m (childAt m k i)
-    cut-child h = let t = v .to-le in child-polygon m k (v .branches) i (omega arith)
+    pub cut-child : (j : ℕ) → i < to → j ≡ childAt m k i → PolygonPart m j
+    cut-child j h o = let t = v .to-le in rw o (v .branches .good i (omega arith) .polygon)
 
-    module _ (p : Polygon) (a : Count) (list′ spare′ : List ℕ) (h : i < to) (q : PolygonOf (polygonIn (part m (childAt m k i))) p)
+    module _ (j : ℕ) (p : Polygon) (a : Count) (list′ spare′ : List ℕ) (h : i < to) (o : j ≡ childAt m k i) (q : PolygonOf (polygonIn (part m j)) p)
         (w : Written list (cutLimited (rectsIn list left) (rectsOf p)) a list′) where
       next : cutLimited (rectsIn list₀ n) (rectsAll (drop from (take to (polygonsIn m k))))
           ≡ bind (counted a list′) (λ l. cutLimited l (rectsAll (drop (i + 1) (take to (polygonsIn m k)))))
@@ -76,7 +74,7 @@ module _ (m : List ℕ) (k from to : ℕ) (list₀ : List ℕ) (n : ℕ) (spare�
           let t = v .to-le in
           let l : to ≤ length (polygonsIn m k) = omega arith in
           let g : i < countAt m k = omega arith in
-          let e : getD (polygonsIn m k) i [] ≡ rectsOf p = polygon-there m k (v .branches) i g ∙ sym (q .list) in
+          let e : getD (polygonsIn m k) i [] ≡ rectsOf p = polygon-there m k (v .branches) i j g o ∙ sym (q .list) in
           let rest = rectsAll (drop (i + 1) (take to (polygonsIn m k))) in
           v .rest ∙ ap (λ x. cutLimited (rectsIn list left) (rectsAll x)) (array-next to i (polygonsIn m k) [] h l)
           ∙ ap (λ x. cutLimited (rectsIn list left) (x ++ rest)) e ∙ cut-limited-append (rectsIn list left) (rectsOf p) rest
@@ -122,13 +120,13 @@ module _ (m : List ℕ) (k place : ℕ) (list₀ : List ℕ) (n : ℕ) (b : Bran
   unfolding counted bind
   siblings-over e = record { list = sym (both-cuts ∙ rw e); few = tt; same-length = v .same-length }
 
-  module _ (left : ℕ) (e : a ≡ Rects left) where
+  module _ (left count : ℕ) (e : a ≡ Rects left) (q : count ≡ countAt m k) where
     pub siblings-cut : (a′ : Count) (list′ : List ℕ)
-        → Written list (cutLimited (rectsIn list left) (rectsAll (drop (place + 1) (take (countAt m k) (polygonsIn m k))))) a′ list′
+        → Written list (cutLimited (rectsIn list left) (rectsAll (drop (place + 1) (take count (polygonsIn m k))))) a′ list′
         → Written list₀ (cutLimited (rectsIn list₀ n) (siblings (polygonsIn m k) place)) a′ list′
     unfolding counted bind
     siblings-cut a′ list′ w = record {
-      list = w .list ∙ sym (both-cuts ∙ rw e);
+      list = w .list ∙ sym (both-cuts ∙ rw (e, q));
       few = w .few;
       same-length = w .same-length ∙ v .same-length;
     }

@@ -6,9 +6,7 @@ use mathlib.Core.Path.{_≡_}
 use lib.ListN.{length}
 use Rattle.geometry.specs.declared.rect.Rect.{Rect}
 use Rattle.geometry.specs.Cells.{allValid}
-use Rattle.memory.specs.Layout.{partsOf, part, rectCount, polygonIn, childrenIn}
-use Rattle.index.specs.Check.{PolygonPart}
-use Rattle.index.specs.Walks.{countAt, childAt}
+use Rattle.memory.specs.Layout.{partsOf, part, rectCount, polygonIn, childrenIn, countAt, childAt, PolygonPart}
 
 -- the polygons of the children of the node at part k, in order
 unfoldable pub polygonsIn : List ℕ → ℕ → List (List Rect)

@@ -14,7 +14,7 @@ use Rattle.tree.specs.Nodes.{Item}
 use Rattle.plane.specs.Plane.{planeSpace}
 use Rattle.memory.specs.Layout.{rightLength}
 use Rattle.memory.specs.Reading.{readNode}
-use Rattle.index.specs.Answers.{fanout}
+use Rattle.memory.specs.Fanout.{fanout}
 use Rattle.step2.specs.declared.choosing.Taken.{Taken}
 use Rattle.step2.specs.declared.choosing.Taken.the-variants.{Branch, Over}
 use Rattle.step2.specs.declared.choosing.Choice.{Choice}

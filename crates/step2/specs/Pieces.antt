@@ -12,7 +12,7 @@ use Rattle.geometry.specs.Refine.{refine}
 use Rattle.tree.specs.Search.{Focus}
 use Rattle.tree.specs.Step2.{grownPoly}
 use Rattle.plane.specs.Plane.{plane}
-use Rattle.index.specs.Answers.{fanout}
+use Rattle.memory.specs.Fanout.{fanout}
 
 -- the rectangles of some polygons, in order
 unfoldable pub rectsAll : List (List Rect) → List Rect

@@ -4,7 +4,8 @@ ghost use mathlib.Core.Bool.{true};
 ghost use Prim.Native.Nat.{_≤_};
 ghost use Rattle.geometry.specs.Cells.{onGrid};
 ghost use Rattle.geometry.specs.Numbers.{rectsOf};
-ghost use Rattle.index.specs.Walks.{hasTest, countAt};
+ghost use Rattle.memory.specs.Layout.{countAt};
+ghost use Rattle.index.specs.Walks.{hasTest};
 ghost use Rattle.step2.specs.Branches.{polygonsIn, Branches, firstPlace};
 ghost use Rattle.step2.specs.Choose.{Routing, ChoiceIs};
 use crate::branch::first_with;
@@ -14,10 +15,8 @@ use crate::pieces::put_grown;
 use geometry::Cell;
 use geometry::Count;
 use geometry::Polygon;
-use memory::HEAD;
-use memory::ITEM_COUNT;
-use memory::ITEMS;
-use memory::PART;
+use layout::child_at;
+use layout::count_at;
 
 // The branch at a place of the node's row, or refusal 7.
 pub enum Taken {
@@ -56,13 +55,12 @@ fn choose_branch(m: &[u32], k: u32, p: Polygon, c: Cell) -> Choice
     requires { ⌜ Branches (now m) k × (p .count ≤ 16) × (onGrid c ≡ true) ⌝ }
     ensures { λ r. ⌜ ChoiceIs (now (m .entry)) k (rectsOf p) c r ⌝ }
 {
-    let a = HEAD + PART * (k as usize);
-    let n = m[a + ITEM_COUNT] as usize;
+    let n = count_at(m, k) as usize;
     let place = first_with(m, k, c);
     if n <= place {
         return choose_nearest(m, k, p, c);
     }
-    let j = m[a + ITEMS + place];
+    let j = child_at(m, k, place);
     let polygon = polygon_at(m, j);
     let taken = Taken::Branch(place);
     Choice { taken, polygon }

@@ -12,11 +12,11 @@ ghost use Rattle.step2.specs.Extra.{noneYet, nearestIn, nearestFrom};
 use geometry::Cell;
 use geometry::Rect;
 use geometry::rect_at;
-use memory::HEAD;
-use memory::ITEM_COUNT;
-use memory::ITEMS;
-use memory::PART;
-use memory::RECTS;
+use layout::child_at;
+use layout::count_at;
+use layout::part_at;
+use layout::rect_count;
+use layout::rects;
 
 // The rectangle of least extra area so far, by its branch and its place in the branch's polygon.
 pub struct Nearest {
@@ -61,11 +61,8 @@ fn nearest_at(m: &[u32], j: u32, branch: usize, c: Cell, known: Nearest) -> Near
     requires { ⌜ GoodPart (now m) j × (onGrid c ≡ true) ⌝ }
     ensures { λ r. ⌜ r ≡ nearestIn c branch 0 known (polygonIn (part (now (m .entry)) j)) ⌝ }
 {
-    let a = HEAD + PART * (j as usize);
-    let n = m[a] as usize;
-    let from = a + RECTS;
-    let to = a + PART;
-    nearest_in(&m[from..to], n, branch, c, known)
+    let p = part_at(m, j);
+    nearest_in(rects(p), rect_count(p) as usize, branch, c, known)
 }
 
 // The rectangle of least extra area, first branch then first rectangle on ties, of the children of the node
@@ -74,8 +71,7 @@ pub fn find_nearest(m: &[u32], k: u32, c: Cell) -> Nearest
     requires { ⌜ Branches (now m) k × (onGrid c ≡ true) ⌝ }
     ensures { λ r. ⌜ r ≡ nearestFrom c 0 noneYet (polygonsIn (now (m .entry)) k) ⌝ }
 {
-    let a = HEAD + PART * (k as usize);
-    let n = m[a + ITEM_COUNT] as usize;
+    let n = count_at(m, k) as usize;
     let mut best = Nearest {
         branch: 0,
         rect: 0,
@@ -83,7 +79,7 @@ pub fn find_nearest(m: &[u32], k: u32, c: Cell) -> Nearest
     };
     let mut i = 0;
     while i < n {
-        let j = m[a + ITEMS + i];
+        let j = child_at(m, k, i);
         best = nearest_at(m, j, i, c, best);
         i += 1;
     }

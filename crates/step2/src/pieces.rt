@@ -8,9 +8,7 @@ ghost use lib.ListN.{length, getD};
 ghost use Rattle.geometry.specs.Cells.{onGrid, noRect};
 ghost use Rattle.geometry.specs.Grow.{grown};
 ghost use Rattle.geometry.specs.Numbers.{rectsOf, Written};
-ghost use Rattle.memory.specs.Layout.{part, rectCount, polygonIn};
-ghost use Rattle.index.specs.Check.{PolygonPart};
-ghost use Rattle.index.specs.Walks.{countAt};
+ghost use Rattle.memory.specs.Layout.{part, rectCount, polygonIn, countAt, PolygonPart};
 ghost use Rattle.step2.specs.Branches.{polygonsIn, Branches};
 ghost use Rattle.step2.specs.Pieces.{siblings, innerPieces, grownAt};
 use crate::replacing::put_polygon;
@@ -22,10 +20,9 @@ use geometry::Rect;
 use geometry::common_parts;
 use geometry::put_rect;
 use geometry::rect_at;
-use memory::HEAD;
-use memory::ITEMS;
-use memory::PART;
-use memory::RECTS;
+use layout::child_at;
+use layout::part_at;
+use layout::rects;
 
 // Writes the pieces of the grown rectangle g of the branch at a place: outside its siblings, inside the parent's
 // polygon p. The list holds the pieces on the way.
@@ -55,10 +52,8 @@ fn grown_rect(m: &[u32], j: u32, rect: usize, c: Cell) -> Rect
     requires { ⌜ PolygonPart (now m) j × (rect < rectCount (part (now m) j)) × (onGrid c ≡ true) ⌝ }
     ensures { λ g. ⌜ g ≡ grown (getD (polygonIn (part (now (m .entry)) j)) rect noRect) c ⌝ }
 {
-    let a = HEAD + PART * (j as usize);
-    let from = a + RECTS;
-    let to = a + PART;
-    let r = rect_at(&m[from..to], rect);
+    let p = part_at(m, j);
+    let r = rect_at(rects(p), rect);
     r.grow(c)
 }
 
@@ -77,7 +72,7 @@ pub fn put_grown(
     requires { ⌜ Branches (now m) k × (place < countAt (now m) k) × (rect < length (getD (polygonsIn (now m) k) place [])) × (p .count ≤ 16) × (onGrid c ≡ true) × (1088 ≤ length (now list)) × (1088 ≤ length (now spare)) ⌝ }
     ensures { λ n. ⌜ Written (now (list .entry)) (grownAt (rectsOf p) (polygonsIn (now (m .entry)) k) place rect c) n (now (list .exit)) ⌝ }
 {
-    let j = m[HEAD + PART * (k as usize) + ITEMS + place];
+    let j = child_at(m, k, place);
     let g = grown_rect(m, j, rect, c);
     let inner = put_inner(m, k, place, g, p, list, spare);
     let Count::Rects(count) = inner else {

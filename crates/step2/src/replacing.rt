@@ -2,16 +2,15 @@
 ghost use Prim.Native.Nat.{_+_, _*_, _-_, _≤_, _<_};
 ghost use lib.ListN.{length, drop};
 ghost use Rattle.geometry.specs.Numbers.{rectsIn, Appended, Written};
-ghost use Rattle.memory.specs.Layout.{part, rectCount, polygonIn};
-ghost use Rattle.index.specs.Check.{PolygonPart};
+ghost use Rattle.memory.specs.Layout.{part, rectCount, polygonIn, PolygonPart};
 ghost use Rattle.step2.specs.Pieces.{replaced, refinedLimited};
 use geometry::Count;
 use geometry::put_rect;
 use geometry::rect_at;
 use geometry::refine_list;
-use memory::HEAD;
-use memory::PART;
-use memory::RECTS;
+use layout::part_at;
+use layout::rect_count;
+use layout::rects;
 
 // Writes the rectangles from the given one up to before the e-th of one list behind the first n of another.
 fn put_rects(list: &mut [u32], n: usize, source: &[u32], from: usize, e: usize) -> usize
@@ -78,9 +77,6 @@ pub fn put_polygon(
     requires { ⌜ PolygonPart (now m) j × (rect < rectCount (part (now m) j)) × (count ≤ 256) × (4 * count ≤ length (now pieces)) × (1088 ≤ length (now list)) ⌝ }
     ensures { λ c. ⌜ Written (now (list .entry)) (refinedLimited (replaced (polygonIn (part (now (m .entry)) j)) rect (rectsIn (now (pieces .entry)) count))) c (now (list .exit)) ⌝ }
 {
-    let a = HEAD + PART * (j as usize);
-    let n = m[a] as usize;
-    let from = a + RECTS;
-    let to = a + PART;
-    put_refined(list, &m[from..to], n, rect, pieces, count)
+    let p = part_at(m, j);
+    put_refined(list, rects(p), rect_count(p) as usize, rect, pieces, count)
 }

@@ -4,16 +4,14 @@ ghost use Prim.Native.Nat.{_≤_, _<_};
 ghost use lib.ListN.{length, take, drop};
 ghost use Rattle.geometry.specs.Cut.{cutLimited};
 ghost use Rattle.geometry.specs.Numbers.{rectsIn, Written};
-ghost use Rattle.index.specs.Walks.{countAt};
+ghost use Rattle.memory.specs.Layout.{countAt};
 ghost use Rattle.step2.specs.Branches.{polygonsIn, Branches};
 ghost use Rattle.step2.specs.Pieces.{rectsAll, siblings};
 use crate::branch::polygon_at;
 use geometry::Count;
 use geometry::cut_polygon;
-use memory::HEAD;
-use memory::ITEM_COUNT;
-use memory::ITEMS;
-use memory::PART;
+use layout::child_at;
+use layout::count_at;
 
 // Cuts the first n rectangles of a list by the children of the node at part k, from the given one up to
 // before another, in place; the spare list holds the pieces on the way.
@@ -30,11 +28,10 @@ fn cut_by_children(
     ensures { λ c. ⌜ Written (now (list .entry)) (cutLimited (rectsIn (now (list .entry)) n) (rectsAll (drop from (take to (polygonsIn (now (m .entry)) k))))) c (now (list .exit)) ⌝ }
     ensures { λ _. ⌜ length (now (spare .exit)) ≡ length (now (spare .entry)) ⌝ }
 {
-    let a = HEAD + PART * (k as usize);
     let mut left = n;
     let mut i = from;
     while i < to {
-        let j = m[a + ITEMS + i];
+        let j = child_at(m, k, i);
         let p = polygon_at(m, j);
         let c = cut_polygon(list, left, p, spare);
         let Count::Rects(rects) = c else {
@@ -63,7 +60,6 @@ pub fn cut_by_siblings(
     let Count::Rects(left) = before else {
         return Count::Over;
     };
-    let a = HEAD + PART * (k as usize);
-    let count = m[a + ITEM_COUNT] as usize;
+    let count = count_at(m, k) as usize;
     cut_by_children(m, k, place + 1, count, list, left, spare)
 }

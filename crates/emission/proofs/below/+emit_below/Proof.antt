@@ -2,13 +2,13 @@
 use native.Mathlib.Omega.{arith}
 use borrow.Author.Needs.{needs}
 use mathlib.Core.Logic.{⊎-elim}
-use Rattle.index.proofs.WalkRows.{leaf-part, items-fit}
-use Rattle.emission.proofs.DeepRows.{deep-fits}
-use Rattle.emission.proofs.EmitLoop.{EmitLoop, emit-start, child-walk, child-room, count-small}
-use Rattle.emission.proofs.EmitBelow.{plain-room, plain-emits, at-leaf-room, at-leaf-emits, emit-one, emit-nothing, emit-moved, left-count, left-few, node-gone, node-own-room, node-emits}
 use Prim.Native.Nat.{ℕ, _<_, _-_}
 use borrow.Fn.Kinds.{In}
 use borrow.Fn.PlainCycle.{Measures, is, falls, and}
+use Rattle.index.proofs.WalkRows.{node-part}
+use Rattle.emission.proofs.DeepRows.{deep-fits}
+use Rattle.emission.proofs.EmitLoop.{EmitLoop, emit-start, child-walk, child-room, count-small}
+use Rattle.emission.proofs.EmitBelow.{plain-room, plain-emits, at-leaf-room, at-leaf-emits, emit-one, emit-nothing, emit-moved, left-count, left-few, node-gone, node-own-room, node-emits}
 use Rattle.emission.proofs.below.emit_below.Reads as emit-below
 use Rattle.emission.proofs.below.emit_below.Kinds as emit-below-kinds
 use Rattle.emission.proofs.below.+emit_below.Lts-emit_below as emit-below-lts
@@ -17,6 +17,9 @@ use Rattle.emission.proofs.below.emit_leaf.Reads as emit-leaf-reads
 use Rattle.emission.proofs.node.put_left.Reads as put-left-reads
 use Rattle.emission.proofs.below.+emit_below.{statement}
 use Rattle.emission.proofs.below.+emit_below.Tie.{close}
+use Rattle.layout.proofs.child_at.Reads as child-at-reads
+use Rattle.layout.proofs.count_at.Reads as count-at-reads
+use Rattle.layout.proofs.part_at.Reads as part-at-reads
 
 abbrev μ-emit-below : Measures 3 emit-below-kinds.ps ℕ
 μ-emit-below κs a = a .1 .0
@@ -30,18 +33,24 @@ emit-below-below t =
     and 3 emit-below-kinds.ps (falls 3 emit-below-kinds.ps _<_ μ-emit-below t) emit-below.Pre
 
 abbrev emit-below-Inv-loop : emit-below-lts.InvT-loop
-emit-below-Inv-loop m level lo k sides work₀ next a e n tops₀ count₀ free₀ low₀ i₀ work tops count free low i =
-    EmitLoop level m lo k sides work₀ next i low work free tops count
+emit-below-Inv-loop m level lo k sides work₀ next n tops₀ count₀ free₀ low₀ i₀ work tops count free low i =
+    EmitLoop level m lo k sides work₀ next n i low work free tops count
 
 abbrev emit-below-μ-loop : emit-below-lts.MeasureT-loop
-emit-below-μ-loop m level lo k sides work₀ next a e n tops₀ count₀ free₀ low₀ i₀ work tops count free low i =
+emit-below-μ-loop m level lo k sides work₀ next n tops₀ count₀ free₀ low₀ i₀ work tops count free low i =
     n - i
 
 emit-below-copy-below-requires : (t : ℕ) → emit-below-lts.Need-copy-below-requires (
   copy-below-reads.Asked,
   copy-below-reads.Learnt,
+  part-at-reads.Asked,
+  part-at-reads.Learnt,
   emit-leaf-reads.Asked,
   emit-leaf-reads.Learnt,
+  count-at-reads.Asked,
+  count-at-reads.Learnt,
+  child-at-reads.Asked,
+  child-at-reads.Learnt,
   emit-below-below t,
   emit-below.Post,
   put-left-reads.Asked,
@@ -52,8 +61,14 @@ emit-below-copy-below-requires t c κs = (search needs, search plain-room)
 emit-below-same-length : (t : ℕ) → emit-below-lts.Need-same-length (
   copy-below-reads.Asked,
   copy-below-reads.Learnt,
+  part-at-reads.Asked,
+  part-at-reads.Learnt,
   emit-leaf-reads.Asked,
   emit-leaf-reads.Learnt,
+  count-at-reads.Asked,
+  count-at-reads.Learnt,
+  child-at-reads.Asked,
+  child-at-reads.Learnt,
   emit-below-below t,
   emit-below.Post,
   put-left-reads.Asked,
@@ -64,8 +79,14 @@ emit-below-same-length t c = search needs
 emit-below-returns : (t : ℕ) → emit-below-lts.Need-returns (
   copy-below-reads.Asked,
   copy-below-reads.Learnt,
+  part-at-reads.Asked,
+  part-at-reads.Learnt,
   emit-leaf-reads.Asked,
   emit-leaf-reads.Learnt,
+  count-at-reads.Asked,
+  count-at-reads.Learnt,
+  child-at-reads.Asked,
+  child-at-reads.Learnt,
   emit-below-below t,
   emit-below.Post,
   put-left-reads.Asked,
@@ -73,107 +94,53 @@ emit-below-returns : (t : ℕ) → emit-below-lts.Need-returns (
 ) (emit-below-at t) emit-below.Post emit-below-Inv-loop emit-below-μ-loop
 emit-below-returns t c = search plain-emits
 
-emit-below-mul-a : (t : ℕ) → emit-below-lts.Need-mul-a (
+emit-below-part-at-requires : (t : ℕ) → emit-below-lts.Need-part-at-requires (
   copy-below-reads.Asked,
   copy-below-reads.Learnt,
+  part-at-reads.Asked,
+  part-at-reads.Learnt,
   emit-leaf-reads.Asked,
   emit-leaf-reads.Learnt,
+  count-at-reads.Asked,
+  count-at-reads.Learnt,
+  child-at-reads.Asked,
+  child-at-reads.Learnt,
   emit-below-below t,
   emit-below.Post,
   put-left-reads.Asked,
   put-left-reads.Learnt,
 ) (emit-below-at t) emit-below.Post emit-below-Inv-loop emit-below-μ-loop
-emit-below-mul-a t c = search needs
-
-emit-below-add-a : (t : ℕ) → emit-below-lts.Need-add-a (
-  copy-below-reads.Asked,
-  copy-below-reads.Learnt,
-  emit-leaf-reads.Asked,
-  emit-leaf-reads.Learnt,
-  emit-below-below t,
-  emit-below.Post,
-  put-left-reads.Asked,
-  put-left-reads.Learnt,
-) (emit-below-at t) emit-below.Post emit-below-Inv-loop emit-below-μ-loop
-emit-below-add-a t c = search needs
-
-emit-below-add-e : (t : ℕ) → emit-below-lts.Need-add-e (
-  copy-below-reads.Asked,
-  copy-below-reads.Learnt,
-  emit-leaf-reads.Asked,
-  emit-leaf-reads.Learnt,
-  emit-below-below t,
-  emit-below.Post,
-  put-left-reads.Asked,
-  put-left-reads.Learnt,
-) (emit-below-at t) emit-below.Post emit-below-Inv-loop emit-below-μ-loop
-emit-below-add-e t c = search needs
-
-emit-below-mul-emit-leaf : (t : ℕ) → emit-below-lts.Need-mul-emit-leaf (
-  copy-below-reads.Asked,
-  copy-below-reads.Learnt,
-  emit-leaf-reads.Asked,
-  emit-leaf-reads.Learnt,
-  emit-below-below t,
-  emit-below.Post,
-  put-left-reads.Asked,
-  put-left-reads.Learnt,
-) (emit-below-at t) emit-below.Post emit-below-Inv-loop emit-below-μ-loop
-emit-below-mul-emit-leaf t c = search needs
-
-emit-below-sub-emit-leaf : (t : ℕ) → emit-below-lts.Need-sub-emit-leaf (
-  copy-below-reads.Asked,
-  copy-below-reads.Learnt,
-  emit-leaf-reads.Asked,
-  emit-leaf-reads.Learnt,
-  emit-below-below t,
-  emit-below.Post,
-  put-left-reads.Asked,
-  put-left-reads.Learnt,
-) (emit-below-at t) emit-below.Post emit-below-Inv-loop emit-below-μ-loop
-emit-below-sub-emit-leaf t c = search needs
-
-emit-below-part-emit-leaf-start : (t : ℕ) → emit-below-lts.Need-part-emit-leaf-start (
-  copy-below-reads.Asked,
-  copy-below-reads.Learnt,
-  emit-leaf-reads.Asked,
-  emit-leaf-reads.Learnt,
-  emit-below-below t,
-  emit-below.Post,
-  put-left-reads.Asked,
-  put-left-reads.Learnt,
-) (emit-below-at t) emit-below.Post emit-below-Inv-loop emit-below-μ-loop
-emit-below-part-emit-leaf-start t c = search needs
-
-emit-below-part-emit-leaf-end : (t : ℕ) → emit-below-lts.Need-part-emit-leaf-end (
-  copy-below-reads.Asked,
-  copy-below-reads.Learnt,
-  emit-leaf-reads.Asked,
-  emit-leaf-reads.Learnt,
-  emit-below-below t,
-  emit-below.Post,
-  put-left-reads.Asked,
-  put-left-reads.Learnt,
-) (emit-below-at t) emit-below.Post emit-below-Inv-loop emit-below-μ-loop
-emit-below-part-emit-leaf-end t c = search needs
+emit-below-part-at-requires t c κs = search needs
 
 emit-below-emit-leaf-requires : (t : ℕ) → emit-below-lts.Need-emit-leaf-requires (
   copy-below-reads.Asked,
   copy-below-reads.Learnt,
+  part-at-reads.Asked,
+  part-at-reads.Learnt,
   emit-leaf-reads.Asked,
   emit-leaf-reads.Learnt,
+  count-at-reads.Asked,
+  count-at-reads.Learnt,
+  child-at-reads.Asked,
+  child-at-reads.Learnt,
   emit-below-below t,
   emit-below.Post,
   put-left-reads.Asked,
   put-left-reads.Learnt,
 ) (emit-below-at t) emit-below.Post emit-below-Inv-loop emit-below-μ-loop
-emit-below-emit-leaf-requires t c κs = (search leaf-part, search needs, search at-leaf-room)
+emit-below-emit-leaf-requires t c κs = (search node-part, search needs, search at-leaf-room)
 
 emit-below-same-length-2 : (t : ℕ) → emit-below-lts.Need-same-length-2 (
   copy-below-reads.Asked,
   copy-below-reads.Learnt,
+  part-at-reads.Asked,
+  part-at-reads.Learnt,
   emit-leaf-reads.Asked,
   emit-leaf-reads.Learnt,
+  count-at-reads.Asked,
+  count-at-reads.Learnt,
+  child-at-reads.Asked,
+  child-at-reads.Learnt,
   emit-below-below t,
   emit-below.Post,
   put-left-reads.Asked,
@@ -184,8 +151,14 @@ emit-below-same-length-2 t c = search needs
 emit-below-returns-2 : (t : ℕ) → emit-below-lts.Need-returns-2 (
   copy-below-reads.Asked,
   copy-below-reads.Learnt,
+  part-at-reads.Asked,
+  part-at-reads.Learnt,
   emit-leaf-reads.Asked,
   emit-leaf-reads.Learnt,
+  count-at-reads.Asked,
+  count-at-reads.Learnt,
+  child-at-reads.Asked,
+  child-at-reads.Learnt,
   emit-below-below t,
   emit-below.Post,
   put-left-reads.Asked,
@@ -193,59 +166,53 @@ emit-below-returns-2 : (t : ℕ) → emit-below-lts.Need-returns-2 (
 ) (emit-below-at t) emit-below.Post emit-below-Inv-loop emit-below-μ-loop
 emit-below-returns-2 t c = search at-leaf-emits
 
-emit-below-add-n : (t : ℕ) → emit-below-lts.Need-add-n (
+emit-below-count-at-requires : (t : ℕ) → emit-below-lts.Need-count-at-requires (
   copy-below-reads.Asked,
   copy-below-reads.Learnt,
+  part-at-reads.Asked,
+  part-at-reads.Learnt,
   emit-leaf-reads.Asked,
   emit-leaf-reads.Learnt,
+  count-at-reads.Asked,
+  count-at-reads.Learnt,
+  child-at-reads.Asked,
+  child-at-reads.Learnt,
   emit-below-below t,
   emit-below.Post,
   put-left-reads.Asked,
   put-left-reads.Learnt,
 ) (emit-below-at t) emit-below.Post emit-below-Inv-loop emit-below-μ-loop
-emit-below-add-n t c = search needs
-
-emit-below-mul-n : (t : ℕ) → emit-below-lts.Need-mul-n (
-  copy-below-reads.Asked,
-  copy-below-reads.Learnt,
-  emit-leaf-reads.Asked,
-  emit-leaf-reads.Learnt,
-  emit-below-below t,
-  emit-below.Post,
-  put-left-reads.Asked,
-  put-left-reads.Learnt,
-) (emit-below-at t) emit-below.Post emit-below-Inv-loop emit-below-μ-loop
-emit-below-mul-n t c = search needs
-
-emit-below-shared-slice-read-n : (t : ℕ) → emit-below-lts.Need-shared-slice-read-n (
-  copy-below-reads.Asked,
-  copy-below-reads.Learnt,
-  emit-leaf-reads.Asked,
-  emit-leaf-reads.Learnt,
-  emit-below-below t,
-  emit-below.Post,
-  put-left-reads.Asked,
-  put-left-reads.Learnt,
-) (emit-below-at t) emit-below.Post emit-below-Inv-loop emit-below-μ-loop
-emit-below-shared-slice-read-n t c = search needs
+emit-below-count-at-requires t c κs = search needs
 
 emit-below-cast-n : (t : ℕ) → emit-below-lts.Need-cast-n (
   copy-below-reads.Asked,
   copy-below-reads.Learnt,
+  part-at-reads.Asked,
+  part-at-reads.Learnt,
   emit-leaf-reads.Asked,
   emit-leaf-reads.Learnt,
+  count-at-reads.Asked,
+  count-at-reads.Learnt,
+  child-at-reads.Asked,
+  child-at-reads.Learnt,
   emit-below-below t,
   emit-below.Post,
   put-left-reads.Asked,
   put-left-reads.Learnt,
 ) (emit-below-at t) emit-below.Post emit-below-Inv-loop emit-below-μ-loop
-emit-below-cast-n t c = search items-fit
+emit-below-cast-n t c = search needs
 
 emit-below-loop-holds : (t : ℕ) → emit-below-lts.Need-loop-holds (
   copy-below-reads.Asked,
   copy-below-reads.Learnt,
+  part-at-reads.Asked,
+  part-at-reads.Learnt,
   emit-leaf-reads.Asked,
   emit-leaf-reads.Learnt,
+  count-at-reads.Asked,
+  count-at-reads.Learnt,
+  child-at-reads.Asked,
+  child-at-reads.Learnt,
   emit-below-below t,
   emit-below.Post,
   put-left-reads.Asked,
@@ -253,59 +220,35 @@ emit-below-loop-holds : (t : ℕ) → emit-below-lts.Need-loop-holds (
 ) (emit-below-at t) emit-below.Post emit-below-Inv-loop emit-below-μ-loop
 emit-below-loop-holds t c = search emit-start
 
-emit-below-add-j : (t : ℕ) → emit-below-lts.Need-add-j (
+emit-below-child-at-requires : (t : ℕ) → emit-below-lts.Need-child-at-requires (
   copy-below-reads.Asked,
   copy-below-reads.Learnt,
+  part-at-reads.Asked,
+  part-at-reads.Learnt,
   emit-leaf-reads.Asked,
   emit-leaf-reads.Learnt,
+  count-at-reads.Asked,
+  count-at-reads.Learnt,
+  child-at-reads.Asked,
+  child-at-reads.Learnt,
   emit-below-below t,
   emit-below.Post,
   put-left-reads.Asked,
   put-left-reads.Learnt,
 ) (emit-below-at t) emit-below.Post emit-below-Inv-loop emit-below-μ-loop
-emit-below-add-j t c = search needs
-
-emit-below-add-j-2 : (t : ℕ) → emit-below-lts.Need-add-j-2 (
-  copy-below-reads.Asked,
-  copy-below-reads.Learnt,
-  emit-leaf-reads.Asked,
-  emit-leaf-reads.Learnt,
-  emit-below-below t,
-  emit-below.Post,
-  put-left-reads.Asked,
-  put-left-reads.Learnt,
-) (emit-below-at t) emit-below.Post emit-below-Inv-loop emit-below-μ-loop
-emit-below-add-j-2 t c = search needs
-
-emit-below-mul-j : (t : ℕ) → emit-below-lts.Need-mul-j (
-  copy-below-reads.Asked,
-  copy-below-reads.Learnt,
-  emit-leaf-reads.Asked,
-  emit-leaf-reads.Learnt,
-  emit-below-below t,
-  emit-below.Post,
-  put-left-reads.Asked,
-  put-left-reads.Learnt,
-) (emit-below-at t) emit-below.Post emit-below-Inv-loop emit-below-μ-loop
-emit-below-mul-j t c = search needs
-
-emit-below-shared-slice-read-j : (t : ℕ) → emit-below-lts.Need-shared-slice-read-j (
-  copy-below-reads.Asked,
-  copy-below-reads.Learnt,
-  emit-leaf-reads.Asked,
-  emit-leaf-reads.Learnt,
-  emit-below-below t,
-  emit-below.Post,
-  put-left-reads.Asked,
-  put-left-reads.Learnt,
-) (emit-below-at t) emit-below.Post emit-below-Inv-loop emit-below-μ-loop
-emit-below-shared-slice-read-j t c = search needs
+emit-below-child-at-requires t c κs = search needs
 
 emit-below-sub-emit-below : (t : ℕ) → emit-below-lts.Need-sub-emit-below (
   copy-below-reads.Asked,
   copy-below-reads.Learnt,
+  part-at-reads.Asked,
+  part-at-reads.Learnt,
   emit-leaf-reads.Asked,
   emit-leaf-reads.Learnt,
+  count-at-reads.Asked,
+  count-at-reads.Learnt,
+  child-at-reads.Asked,
+  child-at-reads.Learnt,
   emit-below-below t,
   emit-below.Post,
   put-left-reads.Asked,
@@ -316,24 +259,32 @@ emit-below-sub-emit-below t c = search needs
 emit-below-emit-below-requires : (t : ℕ) → emit-below-lts.Need-emit-below-requires (
   copy-below-reads.Asked,
   copy-below-reads.Learnt,
+  part-at-reads.Asked,
+  part-at-reads.Learnt,
   emit-leaf-reads.Asked,
   emit-leaf-reads.Learnt,
+  count-at-reads.Asked,
+  count-at-reads.Learnt,
+  child-at-reads.Asked,
+  child-at-reads.Learnt,
   emit-below-below t,
   emit-below.Post,
   put-left-reads.Asked,
   put-left-reads.Learnt,
 ) (emit-below-at t) emit-below.Post emit-below-Inv-loop emit-below-μ-loop
-emit-below-emit-below-requires t c κs =
-    let p = c .before .before in
-    let a = p .before .loop .inv in
-    let h = p .loop-test .taken in
-    (omega arith, (child-walk _ _ _ _ _ _ _ _ _ _ _ _ _ a h, child-room _ _ _ _ _ _ _ _ _ _ _ _ _ a h))
+emit-below-emit-below-requires t c κs = (omega arith, (search child-walk, search child-room))
 
 emit-below-sub-tops : (t : ℕ) → emit-below-lts.Need-sub-tops (
   copy-below-reads.Asked,
   copy-below-reads.Learnt,
+  part-at-reads.Asked,
+  part-at-reads.Learnt,
   emit-leaf-reads.Asked,
   emit-leaf-reads.Learnt,
+  count-at-reads.Asked,
+  count-at-reads.Learnt,
+  child-at-reads.Asked,
+  child-at-reads.Learnt,
   emit-below-below t,
   emit-below.Post,
   put-left-reads.Asked,
@@ -344,8 +295,14 @@ emit-below-sub-tops t c = search emit-moved
 emit-below-mul-tops : (t : ℕ) → emit-below-lts.Need-mul-tops (
   copy-below-reads.Asked,
   copy-below-reads.Learnt,
+  part-at-reads.Asked,
+  part-at-reads.Learnt,
   emit-leaf-reads.Asked,
   emit-leaf-reads.Learnt,
+  count-at-reads.Asked,
+  count-at-reads.Learnt,
+  child-at-reads.Asked,
+  child-at-reads.Learnt,
   emit-below-below t,
   emit-below.Post,
   put-left-reads.Asked,
@@ -356,8 +313,14 @@ emit-below-mul-tops t c = search needs
 emit-below-array-write-tops : (t : ℕ) → emit-below-lts.Need-array-write-tops (
   copy-below-reads.Asked,
   copy-below-reads.Learnt,
+  part-at-reads.Asked,
+  part-at-reads.Learnt,
   emit-leaf-reads.Asked,
   emit-leaf-reads.Learnt,
+  count-at-reads.Asked,
+  count-at-reads.Learnt,
+  child-at-reads.Asked,
+  child-at-reads.Learnt,
   emit-below-below t,
   emit-below.Post,
   put-left-reads.Asked,
@@ -368,8 +331,14 @@ emit-below-array-write-tops t c = search count-small
 emit-below-add-count : (t : ℕ) → emit-below-lts.Need-add-count (
   copy-below-reads.Asked,
   copy-below-reads.Learnt,
+  part-at-reads.Asked,
+  part-at-reads.Learnt,
   emit-leaf-reads.Asked,
   emit-leaf-reads.Learnt,
+  count-at-reads.Asked,
+  count-at-reads.Learnt,
+  child-at-reads.Asked,
+  child-at-reads.Learnt,
   emit-below-below t,
   emit-below.Post,
   put-left-reads.Asked,
@@ -380,8 +349,14 @@ emit-below-add-count t c = search needs
 emit-below-add-low : (t : ℕ) → emit-below-lts.Need-add-low (
   copy-below-reads.Asked,
   copy-below-reads.Learnt,
+  part-at-reads.Asked,
+  part-at-reads.Learnt,
   emit-leaf-reads.Asked,
   emit-leaf-reads.Learnt,
+  count-at-reads.Asked,
+  count-at-reads.Learnt,
+  child-at-reads.Asked,
+  child-at-reads.Learnt,
   emit-below-below t,
   emit-below.Post,
   put-left-reads.Asked,
@@ -392,8 +367,14 @@ emit-below-add-low t c = search deep-fits
 emit-below-add-i : (t : ℕ) → emit-below-lts.Need-add-i (
   copy-below-reads.Asked,
   copy-below-reads.Learnt,
+  part-at-reads.Asked,
+  part-at-reads.Learnt,
   emit-leaf-reads.Asked,
   emit-leaf-reads.Learnt,
+  count-at-reads.Asked,
+  count-at-reads.Learnt,
+  child-at-reads.Asked,
+  child-at-reads.Learnt,
   emit-below-below t,
   emit-below.Post,
   put-left-reads.Asked,
@@ -404,8 +385,14 @@ emit-below-add-i t c = search needs
 emit-below-loop-less : (t : ℕ) → emit-below-lts.Need-loop-less (
   copy-below-reads.Asked,
   copy-below-reads.Learnt,
+  part-at-reads.Asked,
+  part-at-reads.Learnt,
   emit-leaf-reads.Asked,
   emit-leaf-reads.Learnt,
+  count-at-reads.Asked,
+  count-at-reads.Learnt,
+  child-at-reads.Asked,
+  child-at-reads.Learnt,
   emit-below-below t,
   emit-below.Post,
   put-left-reads.Asked,
@@ -416,8 +403,14 @@ emit-below-loop-less t c = search needs
 emit-below-loop-again : (t : ℕ) → emit-below-lts.Need-loop-again (
   copy-below-reads.Asked,
   copy-below-reads.Learnt,
+  part-at-reads.Asked,
+  part-at-reads.Learnt,
   emit-leaf-reads.Asked,
   emit-leaf-reads.Learnt,
+  count-at-reads.Asked,
+  count-at-reads.Learnt,
+  child-at-reads.Asked,
+  child-at-reads.Learnt,
   emit-below-below t,
   emit-below.Post,
   put-left-reads.Asked,
@@ -428,8 +421,14 @@ emit-below-loop-again t c = ⊎-elim (λ x. search emit-one) (λ x. search emit-
 emit-below-same-length-3 : (t : ℕ) → emit-below-lts.Need-same-length-3 (
   copy-below-reads.Asked,
   copy-below-reads.Learnt,
+  part-at-reads.Asked,
+  part-at-reads.Learnt,
   emit-leaf-reads.Asked,
   emit-leaf-reads.Learnt,
+  count-at-reads.Asked,
+  count-at-reads.Learnt,
+  child-at-reads.Asked,
+  child-at-reads.Learnt,
   emit-below-below t,
   emit-below.Post,
   put-left-reads.Asked,
@@ -440,8 +439,14 @@ emit-below-same-length-3 t c = search needs
 emit-below-returns-3 : (t : ℕ) → emit-below-lts.Need-returns-3 (
   copy-below-reads.Asked,
   copy-below-reads.Learnt,
+  part-at-reads.Asked,
+  part-at-reads.Learnt,
   emit-leaf-reads.Asked,
   emit-leaf-reads.Learnt,
+  count-at-reads.Asked,
+  count-at-reads.Learnt,
+  child-at-reads.Asked,
+  child-at-reads.Learnt,
   emit-below-below t,
   emit-below.Post,
   put-left-reads.Asked,
@@ -449,59 +454,35 @@ emit-below-returns-3 : (t : ℕ) → emit-below-lts.Need-returns-3 (
 ) (emit-below-at t) emit-below.Post emit-below-Inv-loop emit-below-μ-loop
 emit-below-returns-3 t c = search node-gone
 
-emit-below-mul-put-left : (t : ℕ) → emit-below-lts.Need-mul-put-left (
+emit-below-part-at-requires-2 : (t : ℕ) → emit-below-lts.Need-part-at-requires-2 (
   copy-below-reads.Asked,
   copy-below-reads.Learnt,
+  part-at-reads.Asked,
+  part-at-reads.Learnt,
   emit-leaf-reads.Asked,
   emit-leaf-reads.Learnt,
+  count-at-reads.Asked,
+  count-at-reads.Learnt,
+  child-at-reads.Asked,
+  child-at-reads.Learnt,
   emit-below-below t,
   emit-below.Post,
   put-left-reads.Asked,
   put-left-reads.Learnt,
 ) (emit-below-at t) emit-below.Post emit-below-Inv-loop emit-below-μ-loop
-emit-below-mul-put-left t c = search needs
-
-emit-below-sub-put-left : (t : ℕ) → emit-below-lts.Need-sub-put-left (
-  copy-below-reads.Asked,
-  copy-below-reads.Learnt,
-  emit-leaf-reads.Asked,
-  emit-leaf-reads.Learnt,
-  emit-below-below t,
-  emit-below.Post,
-  put-left-reads.Asked,
-  put-left-reads.Learnt,
-) (emit-below-at t) emit-below.Post emit-below-Inv-loop emit-below-μ-loop
-emit-below-sub-put-left t c = search needs
-
-emit-below-part-put-left-start : (t : ℕ) → emit-below-lts.Need-part-put-left-start (
-  copy-below-reads.Asked,
-  copy-below-reads.Learnt,
-  emit-leaf-reads.Asked,
-  emit-leaf-reads.Learnt,
-  emit-below-below t,
-  emit-below.Post,
-  put-left-reads.Asked,
-  put-left-reads.Learnt,
-) (emit-below-at t) emit-below.Post emit-below-Inv-loop emit-below-μ-loop
-emit-below-part-put-left-start t c = search needs
-
-emit-below-part-put-left-end : (t : ℕ) → emit-below-lts.Need-part-put-left-end (
-  copy-below-reads.Asked,
-  copy-below-reads.Learnt,
-  emit-leaf-reads.Asked,
-  emit-leaf-reads.Learnt,
-  emit-below-below t,
-  emit-below.Post,
-  put-left-reads.Asked,
-  put-left-reads.Learnt,
-) (emit-below-at t) emit-below.Post emit-below-Inv-loop emit-below-μ-loop
-emit-below-part-put-left-end t c = search needs
+emit-below-part-at-requires-2 t c κs = search needs
 
 emit-below-cast-put-left : (t : ℕ) → emit-below-lts.Need-cast-put-left (
   copy-below-reads.Asked,
   copy-below-reads.Learnt,
+  part-at-reads.Asked,
+  part-at-reads.Learnt,
   emit-leaf-reads.Asked,
   emit-leaf-reads.Learnt,
+  count-at-reads.Asked,
+  count-at-reads.Learnt,
+  child-at-reads.Asked,
+  child-at-reads.Learnt,
   emit-below-below t,
   emit-below.Post,
   put-left-reads.Asked,
@@ -512,8 +493,14 @@ emit-below-cast-put-left t c = search needs
 emit-below-array-share-prefix-tops : (t : ℕ) → emit-below-lts.Need-array-share-prefix-tops (
   copy-below-reads.Asked,
   copy-below-reads.Learnt,
+  part-at-reads.Asked,
+  part-at-reads.Learnt,
   emit-leaf-reads.Asked,
   emit-leaf-reads.Learnt,
+  count-at-reads.Asked,
+  count-at-reads.Learnt,
+  child-at-reads.Asked,
+  child-at-reads.Learnt,
   emit-below-below t,
   emit-below.Post,
   put-left-reads.Asked,
@@ -524,8 +511,14 @@ emit-below-array-share-prefix-tops t c = search needs
 emit-below-slice-aggregate-put-left : (t : ℕ) → emit-below-lts.Need-slice-aggregate-put-left (
   copy-below-reads.Asked,
   copy-below-reads.Learnt,
+  part-at-reads.Asked,
+  part-at-reads.Learnt,
   emit-leaf-reads.Asked,
   emit-leaf-reads.Learnt,
+  count-at-reads.Asked,
+  count-at-reads.Learnt,
+  child-at-reads.Asked,
+  child-at-reads.Learnt,
   emit-below-below t,
   emit-below.Post,
   put-left-reads.Asked,
@@ -536,20 +529,32 @@ emit-below-slice-aggregate-put-left t c = search left-count
 emit-below-put-left-requires : (t : ℕ) → emit-below-lts.Need-put-left-requires (
   copy-below-reads.Asked,
   copy-below-reads.Learnt,
+  part-at-reads.Asked,
+  part-at-reads.Learnt,
   emit-leaf-reads.Asked,
   emit-leaf-reads.Learnt,
+  count-at-reads.Asked,
+  count-at-reads.Learnt,
+  child-at-reads.Asked,
+  child-at-reads.Learnt,
   emit-below-below t,
   emit-below.Post,
   put-left-reads.Asked,
   put-left-reads.Learnt,
 ) (emit-below-at t) emit-below.Post emit-below-Inv-loop emit-below-μ-loop
-emit-below-put-left-requires t c κs = (search leaf-part, search left-few, search node-own-room)
+emit-below-put-left-requires t c κs = (search node-part, search left-few, search node-own-room)
 
 emit-below-add-result : (t : ℕ) → emit-below-lts.Need-add-result (
   copy-below-reads.Asked,
   copy-below-reads.Learnt,
+  part-at-reads.Asked,
+  part-at-reads.Learnt,
   emit-leaf-reads.Asked,
   emit-leaf-reads.Learnt,
+  count-at-reads.Asked,
+  count-at-reads.Learnt,
+  child-at-reads.Asked,
+  child-at-reads.Learnt,
   emit-below-below t,
   emit-below.Post,
   put-left-reads.Asked,
@@ -560,8 +565,14 @@ emit-below-add-result t c = search needs
 emit-below-same-length-4 : (t : ℕ) → emit-below-lts.Need-same-length-4 (
   copy-below-reads.Asked,
   copy-below-reads.Learnt,
+  part-at-reads.Asked,
+  part-at-reads.Learnt,
   emit-leaf-reads.Asked,
   emit-leaf-reads.Learnt,
+  count-at-reads.Asked,
+  count-at-reads.Learnt,
+  child-at-reads.Asked,
+  child-at-reads.Learnt,
   emit-below-below t,
   emit-below.Post,
   put-left-reads.Asked,
@@ -572,8 +583,14 @@ emit-below-same-length-4 t c = search needs
 emit-below-returns-4 : (t : ℕ) → emit-below-lts.Need-returns-4 (
   copy-below-reads.Asked,
   copy-below-reads.Learnt,
+  part-at-reads.Asked,
+  part-at-reads.Learnt,
   emit-leaf-reads.Asked,
   emit-leaf-reads.Learnt,
+  count-at-reads.Asked,
+  count-at-reads.Learnt,
+  child-at-reads.Asked,
+  child-at-reads.Learnt,
   emit-below-below t,
   emit-below.Post,
   put-left-reads.Asked,
@@ -585,8 +602,14 @@ pub +emit-below-spec : {M : Type 1} → statement M
 +emit-below-spec = close μ-emit-below λ t. emit-below-lts.spec (
   copy-below-reads.Asked,
   copy-below-reads.Learnt,
+  part-at-reads.Asked,
+  part-at-reads.Learnt,
   emit-leaf-reads.Asked,
   emit-leaf-reads.Learnt,
+  count-at-reads.Asked,
+  count-at-reads.Learnt,
+  child-at-reads.Asked,
+  child-at-reads.Learnt,
   emit-below-below t,
   emit-below.Post,
   put-left-reads.Asked,
@@ -599,25 +622,14 @@ pub +emit-below-spec : {M : Type 1} → statement M
     (emit-below-copy-below-requires t)
     (emit-below-same-length t)
     (emit-below-returns t)
-    (emit-below-mul-a t)
-    (emit-below-add-a t)
-    (emit-below-add-e t)
-    (emit-below-mul-emit-leaf t)
-    (emit-below-sub-emit-leaf t)
-    (emit-below-part-emit-leaf-start t)
-    (emit-below-part-emit-leaf-end t)
+    (emit-below-part-at-requires t)
     (emit-below-emit-leaf-requires t)
     (emit-below-same-length-2 t)
     (emit-below-returns-2 t)
-    (emit-below-add-n t)
-    (emit-below-mul-n t)
-    (emit-below-shared-slice-read-n t)
+    (emit-below-count-at-requires t)
     (emit-below-cast-n t)
     (emit-below-loop-holds t)
-    (emit-below-add-j t)
-    (emit-below-add-j-2 t)
-    (emit-below-mul-j t)
-    (emit-below-shared-slice-read-j t)
+    (emit-below-child-at-requires t)
     (emit-below-sub-emit-below t)
     (emit-below-emit-below-requires t)
     (emit-below-sub-tops t)
@@ -630,10 +642,7 @@ pub +emit-below-spec : {M : Type 1} → statement M
     (emit-below-loop-again t)
     (emit-below-same-length-3 t)
     (emit-below-returns-3 t)
-    (emit-below-mul-put-left t)
-    (emit-below-sub-put-left t)
-    (emit-below-part-put-left-start t)
-    (emit-below-part-put-left-end t)
+    (emit-below-part-at-requires-2 t)
     (emit-below-cast-put-left t)
     (emit-below-array-share-prefix-tops t)
     (emit-below-slice-aggregate-put-left t)

@@ -6,31 +6,16 @@ use Rattle.emission.proofs.beside.count_branches.Statement.{statement}
 use Rattle.emission.proofs.beside.count_branches.Tie as tie
 
 abbrev Inv-loop : tie.InvT-loop
-Inv-loop m level k from to sides start a nodes₀ i₀ nodes i = RangeLoop level m k from to sides nodes₀ i nodes
+Inv-loop m level k from to sides start nodes₀ i₀ nodes i = RangeLoop level m k from to sides nodes₀ i nodes
 
 abbrev μ-loop : tie.MeasureT-loop
-μ-loop m level k from to sides start a nodes₀ i₀ nodes i = to - i
-
-mul-a : tie.Need-mul-a Inv-loop μ-loop
-mul-a c = search needs
-
-add-a : tie.Need-add-a Inv-loop μ-loop
-add-a c = search needs
+μ-loop m level k from to sides start nodes₀ i₀ nodes i = to - i
 
 loop-holds : tie.Need-loop-holds Inv-loop μ-loop
 loop-holds c = search range-start
 
-add-j : tie.Need-add-j Inv-loop μ-loop
-add-j c = search needs
-
-add-j-2 : tie.Need-add-j-2 Inv-loop μ-loop
-add-j-2 c = search needs
-
-mul-j : tie.Need-mul-j Inv-loop μ-loop
-mul-j c = search needs
-
-shared-slice-read-j : tie.Need-shared-slice-read-j Inv-loop μ-loop
-shared-slice-read-j c = search needs
+child-at-requires : tie.Need-child-at-requires Inv-loop μ-loop
+child-at-requires c κs = search needs
 
 count-below-requires : tie.Need-count-below-requires Inv-loop μ-loop
 count-below-requires c κs = search range-walk
@@ -56,13 +41,8 @@ count-branches-spec =
     (tie.spec
     Inv-loop
     μ-loop
-    mul-a
-    add-a
     loop-holds
-    add-j
-    add-j-2
-    mul-j
-    shared-slice-read-j
+    child-at-requires
     count-below-requires
     capped-sum-requires
     add-i

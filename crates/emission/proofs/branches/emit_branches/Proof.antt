@@ -7,31 +7,16 @@ use Rattle.emission.proofs.branches.emit_branches.Statement.{statement}
 use Rattle.emission.proofs.branches.emit_branches.Tie as tie
 
 abbrev Inv-loop : tie.InvT-loop
-Inv-loop m level k from to sides work₀ a out₀ i₀ work out i = BranchLoop level m k from to sides work₀ out₀ i work out
+Inv-loop m level k from to sides work₀ out₀ i₀ work out i = BranchLoop level m k from to sides work₀ out₀ i work out
 
 abbrev μ-loop : tie.MeasureT-loop
-μ-loop m level k from to sides work₀ a out₀ i₀ work out i = to - i
-
-mul-a : tie.Need-mul-a Inv-loop μ-loop
-mul-a c = search needs
-
-add-a : tie.Need-add-a Inv-loop μ-loop
-add-a c = search needs
+μ-loop m level k from to sides work₀ out₀ i₀ work out i = to - i
 
 loop-holds : tie.Need-loop-holds Inv-loop μ-loop
 loop-holds c = search (branch-start, of-map)
 
-add-j : tie.Need-add-j Inv-loop μ-loop
-add-j c = search needs
-
-add-j-2 : tie.Need-add-j-2 Inv-loop μ-loop
-add-j-2 c = search needs
-
-mul-j : tie.Need-mul-j Inv-loop μ-loop
-mul-j c = search needs
-
-shared-slice-read-j : tie.Need-shared-slice-read-j Inv-loop μ-loop
-shared-slice-read-j c = search needs
+child-at-requires : tie.Need-child-at-requires Inv-loop μ-loop
+child-at-requires c κs = search needs
 
 emit-below-requires : tie.Need-emit-below-requires Inv-loop μ-loop
 emit-below-requires c κs = (search branch-walk, search branch-room)
@@ -60,13 +45,8 @@ emit-branches-spec =
     (tie.spec
     Inv-loop
     μ-loop
-    mul-a
-    add-a
     loop-holds
-    add-j
-    add-j-2
-    mul-j
-    shared-slice-read-j
+    child-at-requires
     emit-below-requires
     with-top-requires
     add-i

@@ -2,12 +2,12 @@
 use native.Mathlib.Omega.{arith}
 use borrow.Author.Needs.{needs}
 use mathlib.Core.Logic.{⊎-elim}
-use Rattle.index.proofs.WalkRows.{leaf-part, items-fit}
-use Rattle.emission.proofs.DeepRows.{deep-fits}
-use Rattle.emission.proofs.CountLoop.{CountLoop, count-leaf, count-start, count-child, child-few, count-again, count-dropped, count-top, count-whole}
 use Prim.Native.Nat.{ℕ, _<_, _-_}
 use borrow.Fn.Kinds.{In}
 use borrow.Fn.PlainCycle.{Measures, is, falls, and}
+use Rattle.index.proofs.WalkRows.{node-part}
+use Rattle.emission.proofs.DeepRows.{deep-fits}
+use Rattle.emission.proofs.CountLoop.{CountLoop, count-leaf, count-start, count-child, child-few, count-again, count-dropped, count-top, count-whole}
 use Rattle.emission.proofs.counting.count_below.Reads as count-below
 use Rattle.emission.proofs.counting.count_below.Kinds as count-below-kinds
 use Rattle.emission.proofs.counting.+count_below.Lts-count_below as count-below-lts
@@ -15,6 +15,9 @@ use Rattle.emission.proofs.capped.capped_sum.Reads as capped-sum-reads
 use Rattle.emission.proofs.counting.count_leaf.Reads as count-leaf-reads
 use Rattle.emission.proofs.counting.+count_below.{statement}
 use Rattle.emission.proofs.counting.+count_below.Tie.{close}
+use Rattle.layout.proofs.child_at.Reads as child-at-reads
+use Rattle.layout.proofs.count_at.Reads as count-at-reads
+use Rattle.layout.proofs.part_at.Reads as part-at-reads
 
 abbrev μ-count-below : Measures 2 count-below-kinds.ps ℕ
 μ-count-below κs a = a .1 .0
@@ -28,94 +31,52 @@ count-below-below t =
     and 2 count-below-kinds.ps (falls 2 count-below-kinds.ps _<_ μ-count-below t) count-below.Pre
 
 abbrev count-below-Inv-loop : count-below-lts.InvT-loop
-count-below-Inv-loop m level lo k sides a e n nodes₀ low₀ i₀ nodes low i = CountLoop level m lo k sides i low nodes
+count-below-Inv-loop m level lo k sides n nodes₀ low₀ i₀ nodes low i = CountLoop level m lo k sides n i low nodes
 
 abbrev count-below-μ-loop : count-below-lts.MeasureT-loop
-count-below-μ-loop m level lo k sides a e n nodes₀ low₀ i₀ nodes low i = n - i
+count-below-μ-loop m level lo k sides n nodes₀ low₀ i₀ nodes low i = n - i
 
-count-below-mul-a : (t : ℕ) → count-below-lts.Need-mul-a (
+count-below-part-at-requires : (t : ℕ) → count-below-lts.Need-part-at-requires (
+  part-at-reads.Asked,
+  part-at-reads.Learnt,
   count-leaf-reads.Asked,
   count-leaf-reads.Learnt,
+  count-at-reads.Asked,
+  count-at-reads.Learnt,
+  child-at-reads.Asked,
+  child-at-reads.Learnt,
   count-below-below t,
   count-below.Post,
   capped-sum-reads.Asked,
   capped-sum-reads.Learnt,
 ) (count-below-at t) count-below.Post count-below-Inv-loop count-below-μ-loop
-count-below-mul-a t c = search needs
-
-count-below-add-a : (t : ℕ) → count-below-lts.Need-add-a (
-  count-leaf-reads.Asked,
-  count-leaf-reads.Learnt,
-  count-below-below t,
-  count-below.Post,
-  capped-sum-reads.Asked,
-  capped-sum-reads.Learnt,
-) (count-below-at t) count-below.Post count-below-Inv-loop count-below-μ-loop
-count-below-add-a t c = search needs
-
-count-below-add-e : (t : ℕ) → count-below-lts.Need-add-e (
-  count-leaf-reads.Asked,
-  count-leaf-reads.Learnt,
-  count-below-below t,
-  count-below.Post,
-  capped-sum-reads.Asked,
-  capped-sum-reads.Learnt,
-) (count-below-at t) count-below.Post count-below-Inv-loop count-below-μ-loop
-count-below-add-e t c = search needs
-
-count-below-mul-count-leaf : (t : ℕ) → count-below-lts.Need-mul-count-leaf (
-  count-leaf-reads.Asked,
-  count-leaf-reads.Learnt,
-  count-below-below t,
-  count-below.Post,
-  capped-sum-reads.Asked,
-  capped-sum-reads.Learnt,
-) (count-below-at t) count-below.Post count-below-Inv-loop count-below-μ-loop
-count-below-mul-count-leaf t c = search needs
-
-count-below-sub-count-leaf : (t : ℕ) → count-below-lts.Need-sub-count-leaf (
-  count-leaf-reads.Asked,
-  count-leaf-reads.Learnt,
-  count-below-below t,
-  count-below.Post,
-  capped-sum-reads.Asked,
-  capped-sum-reads.Learnt,
-) (count-below-at t) count-below.Post count-below-Inv-loop count-below-μ-loop
-count-below-sub-count-leaf t c = search needs
-
-count-below-part-count-leaf-start : (t : ℕ) → count-below-lts.Need-part-count-leaf-start (
-  count-leaf-reads.Asked,
-  count-leaf-reads.Learnt,
-  count-below-below t,
-  count-below.Post,
-  capped-sum-reads.Asked,
-  capped-sum-reads.Learnt,
-) (count-below-at t) count-below.Post count-below-Inv-loop count-below-μ-loop
-count-below-part-count-leaf-start t c = search needs
-
-count-below-part-count-leaf-end : (t : ℕ) → count-below-lts.Need-part-count-leaf-end (
-  count-leaf-reads.Asked,
-  count-leaf-reads.Learnt,
-  count-below-below t,
-  count-below.Post,
-  capped-sum-reads.Asked,
-  capped-sum-reads.Learnt,
-) (count-below-at t) count-below.Post count-below-Inv-loop count-below-μ-loop
-count-below-part-count-leaf-end t c = search needs
+count-below-part-at-requires t c κs = search needs
 
 count-below-count-leaf-requires : (t : ℕ) → count-below-lts.Need-count-leaf-requires (
+  part-at-reads.Asked,
+  part-at-reads.Learnt,
   count-leaf-reads.Asked,
   count-leaf-reads.Learnt,
+  count-at-reads.Asked,
+  count-at-reads.Learnt,
+  child-at-reads.Asked,
+  child-at-reads.Learnt,
   count-below-below t,
   count-below.Post,
   capped-sum-reads.Asked,
   capped-sum-reads.Learnt,
 ) (count-below-at t) count-below.Post count-below-Inv-loop count-below-μ-loop
-count-below-count-leaf-requires t c κs = search leaf-part
+count-below-count-leaf-requires t c κs = search node-part
 
 count-below-returns : (t : ℕ) → count-below-lts.Need-returns (
+  part-at-reads.Asked,
+  part-at-reads.Learnt,
   count-leaf-reads.Asked,
   count-leaf-reads.Learnt,
+  count-at-reads.Asked,
+  count-at-reads.Learnt,
+  child-at-reads.Asked,
+  child-at-reads.Learnt,
   count-below-below t,
   count-below.Post,
   capped-sum-reads.Asked,
@@ -123,49 +84,47 @@ count-below-returns : (t : ℕ) → count-below-lts.Need-returns (
 ) (count-below-at t) count-below.Post count-below-Inv-loop count-below-μ-loop
 count-below-returns t c = search count-leaf
 
-count-below-add-n : (t : ℕ) → count-below-lts.Need-add-n (
+count-below-count-at-requires : (t : ℕ) → count-below-lts.Need-count-at-requires (
+  part-at-reads.Asked,
+  part-at-reads.Learnt,
   count-leaf-reads.Asked,
   count-leaf-reads.Learnt,
+  count-at-reads.Asked,
+  count-at-reads.Learnt,
+  child-at-reads.Asked,
+  child-at-reads.Learnt,
   count-below-below t,
   count-below.Post,
   capped-sum-reads.Asked,
   capped-sum-reads.Learnt,
 ) (count-below-at t) count-below.Post count-below-Inv-loop count-below-μ-loop
-count-below-add-n t c = search needs
-
-count-below-mul-n : (t : ℕ) → count-below-lts.Need-mul-n (
-  count-leaf-reads.Asked,
-  count-leaf-reads.Learnt,
-  count-below-below t,
-  count-below.Post,
-  capped-sum-reads.Asked,
-  capped-sum-reads.Learnt,
-) (count-below-at t) count-below.Post count-below-Inv-loop count-below-μ-loop
-count-below-mul-n t c = search needs
-
-count-below-shared-slice-read-n : (t : ℕ) → count-below-lts.Need-shared-slice-read-n (
-  count-leaf-reads.Asked,
-  count-leaf-reads.Learnt,
-  count-below-below t,
-  count-below.Post,
-  capped-sum-reads.Asked,
-  capped-sum-reads.Learnt,
-) (count-below-at t) count-below.Post count-below-Inv-loop count-below-μ-loop
-count-below-shared-slice-read-n t c = search needs
+count-below-count-at-requires t c κs = search needs
 
 count-below-cast-n : (t : ℕ) → count-below-lts.Need-cast-n (
+  part-at-reads.Asked,
+  part-at-reads.Learnt,
   count-leaf-reads.Asked,
   count-leaf-reads.Learnt,
+  count-at-reads.Asked,
+  count-at-reads.Learnt,
+  child-at-reads.Asked,
+  child-at-reads.Learnt,
   count-below-below t,
   count-below.Post,
   capped-sum-reads.Asked,
   capped-sum-reads.Learnt,
 ) (count-below-at t) count-below.Post count-below-Inv-loop count-below-μ-loop
-count-below-cast-n t c = search items-fit
+count-below-cast-n t c = search needs
 
 count-below-loop-holds : (t : ℕ) → count-below-lts.Need-loop-holds (
+  part-at-reads.Asked,
+  part-at-reads.Learnt,
   count-leaf-reads.Asked,
   count-leaf-reads.Learnt,
+  count-at-reads.Asked,
+  count-at-reads.Learnt,
+  child-at-reads.Asked,
+  child-at-reads.Learnt,
   count-below-below t,
   count-below.Post,
   capped-sum-reads.Asked,
@@ -173,49 +132,31 @@ count-below-loop-holds : (t : ℕ) → count-below-lts.Need-loop-holds (
 ) (count-below-at t) count-below.Post count-below-Inv-loop count-below-μ-loop
 count-below-loop-holds t c = search count-start
 
-count-below-add-j : (t : ℕ) → count-below-lts.Need-add-j (
+count-below-child-at-requires : (t : ℕ) → count-below-lts.Need-child-at-requires (
+  part-at-reads.Asked,
+  part-at-reads.Learnt,
   count-leaf-reads.Asked,
   count-leaf-reads.Learnt,
+  count-at-reads.Asked,
+  count-at-reads.Learnt,
+  child-at-reads.Asked,
+  child-at-reads.Learnt,
   count-below-below t,
   count-below.Post,
   capped-sum-reads.Asked,
   capped-sum-reads.Learnt,
 ) (count-below-at t) count-below.Post count-below-Inv-loop count-below-μ-loop
-count-below-add-j t c = search needs
-
-count-below-add-j-2 : (t : ℕ) → count-below-lts.Need-add-j-2 (
-  count-leaf-reads.Asked,
-  count-leaf-reads.Learnt,
-  count-below-below t,
-  count-below.Post,
-  capped-sum-reads.Asked,
-  capped-sum-reads.Learnt,
-) (count-below-at t) count-below.Post count-below-Inv-loop count-below-μ-loop
-count-below-add-j-2 t c = search needs
-
-count-below-mul-j : (t : ℕ) → count-below-lts.Need-mul-j (
-  count-leaf-reads.Asked,
-  count-leaf-reads.Learnt,
-  count-below-below t,
-  count-below.Post,
-  capped-sum-reads.Asked,
-  capped-sum-reads.Learnt,
-) (count-below-at t) count-below.Post count-below-Inv-loop count-below-μ-loop
-count-below-mul-j t c = search needs
-
-count-below-shared-slice-read-j : (t : ℕ) → count-below-lts.Need-shared-slice-read-j (
-  count-leaf-reads.Asked,
-  count-leaf-reads.Learnt,
-  count-below-below t,
-  count-below.Post,
-  capped-sum-reads.Asked,
-  capped-sum-reads.Learnt,
-) (count-below-at t) count-below.Post count-below-Inv-loop count-below-μ-loop
-count-below-shared-slice-read-j t c = search needs
+count-below-child-at-requires t c κs = search needs
 
 count-below-sub-count-below : (t : ℕ) → count-below-lts.Need-sub-count-below (
+  part-at-reads.Asked,
+  part-at-reads.Learnt,
   count-leaf-reads.Asked,
   count-leaf-reads.Learnt,
+  count-at-reads.Asked,
+  count-at-reads.Learnt,
+  child-at-reads.Asked,
+  child-at-reads.Learnt,
   count-below-below t,
   count-below.Post,
   capped-sum-reads.Asked,
@@ -224,8 +165,14 @@ count-below-sub-count-below : (t : ℕ) → count-below-lts.Need-sub-count-below
 count-below-sub-count-below t c = search needs
 
 count-below-count-below-requires : (t : ℕ) → count-below-lts.Need-count-below-requires (
+  part-at-reads.Asked,
+  part-at-reads.Learnt,
   count-leaf-reads.Asked,
   count-leaf-reads.Learnt,
+  count-at-reads.Asked,
+  count-at-reads.Learnt,
+  child-at-reads.Asked,
+  child-at-reads.Learnt,
   count-below-below t,
   count-below.Post,
   capped-sum-reads.Asked,
@@ -234,8 +181,14 @@ count-below-count-below-requires : (t : ℕ) → count-below-lts.Need-count-belo
 count-below-count-below-requires t c κs = (omega arith, search count-child)
 
 count-below-capped-sum-requires : (t : ℕ) → count-below-lts.Need-capped-sum-requires (
+  part-at-reads.Asked,
+  part-at-reads.Learnt,
   count-leaf-reads.Asked,
   count-leaf-reads.Learnt,
+  count-at-reads.Asked,
+  count-at-reads.Learnt,
+  child-at-reads.Asked,
+  child-at-reads.Learnt,
   count-below-below t,
   count-below.Post,
   capped-sum-reads.Asked,
@@ -244,8 +197,14 @@ count-below-capped-sum-requires : (t : ℕ) → count-below-lts.Need-capped-sum-
 count-below-capped-sum-requires t c κs = (search needs, search child-few)
 
 count-below-add-low : (t : ℕ) → count-below-lts.Need-add-low (
+  part-at-reads.Asked,
+  part-at-reads.Learnt,
   count-leaf-reads.Asked,
   count-leaf-reads.Learnt,
+  count-at-reads.Asked,
+  count-at-reads.Learnt,
+  child-at-reads.Asked,
+  child-at-reads.Learnt,
   count-below-below t,
   count-below.Post,
   capped-sum-reads.Asked,
@@ -254,8 +213,14 @@ count-below-add-low : (t : ℕ) → count-below-lts.Need-add-low (
 count-below-add-low t c = search deep-fits
 
 count-below-add-i : (t : ℕ) → count-below-lts.Need-add-i (
+  part-at-reads.Asked,
+  part-at-reads.Learnt,
   count-leaf-reads.Asked,
   count-leaf-reads.Learnt,
+  count-at-reads.Asked,
+  count-at-reads.Learnt,
+  child-at-reads.Asked,
+  child-at-reads.Learnt,
   count-below-below t,
   count-below.Post,
   capped-sum-reads.Asked,
@@ -264,8 +229,14 @@ count-below-add-i : (t : ℕ) → count-below-lts.Need-add-i (
 count-below-add-i t c = search needs
 
 count-below-loop-less : (t : ℕ) → count-below-lts.Need-loop-less (
+  part-at-reads.Asked,
+  part-at-reads.Learnt,
   count-leaf-reads.Asked,
   count-leaf-reads.Learnt,
+  count-at-reads.Asked,
+  count-at-reads.Learnt,
+  child-at-reads.Asked,
+  child-at-reads.Learnt,
   count-below-below t,
   count-below.Post,
   capped-sum-reads.Asked,
@@ -274,8 +245,14 @@ count-below-loop-less : (t : ℕ) → count-below-lts.Need-loop-less (
 count-below-loop-less t c = search needs
 
 count-below-loop-again : (t : ℕ) → count-below-lts.Need-loop-again (
+  part-at-reads.Asked,
+  part-at-reads.Learnt,
   count-leaf-reads.Asked,
   count-leaf-reads.Learnt,
+  count-at-reads.Asked,
+  count-at-reads.Learnt,
+  child-at-reads.Asked,
+  child-at-reads.Learnt,
   count-below-below t,
   count-below.Post,
   capped-sum-reads.Asked,
@@ -284,8 +261,14 @@ count-below-loop-again : (t : ℕ) → count-below-lts.Need-loop-again (
 count-below-loop-again t c = search count-again
 
 count-below-returns-2 : (t : ℕ) → count-below-lts.Need-returns-2 (
+  part-at-reads.Asked,
+  part-at-reads.Learnt,
   count-leaf-reads.Asked,
   count-leaf-reads.Learnt,
+  count-at-reads.Asked,
+  count-at-reads.Learnt,
+  child-at-reads.Asked,
+  child-at-reads.Learnt,
   count-below-below t,
   count-below.Post,
   capped-sum-reads.Asked,
@@ -294,8 +277,14 @@ count-below-returns-2 : (t : ℕ) → count-below-lts.Need-returns-2 (
 count-below-returns-2 t c = search count-dropped
 
 count-below-capped-sum-requires-2 : (t : ℕ) → count-below-lts.Need-capped-sum-requires-2 (
+  part-at-reads.Asked,
+  part-at-reads.Learnt,
   count-leaf-reads.Asked,
   count-leaf-reads.Learnt,
+  count-at-reads.Asked,
+  count-at-reads.Learnt,
+  child-at-reads.Asked,
+  child-at-reads.Learnt,
   count-below-below t,
   count-below.Post,
   capped-sum-reads.Asked,
@@ -304,8 +293,14 @@ count-below-capped-sum-requires-2 : (t : ℕ) → count-below-lts.Need-capped-su
 count-below-capped-sum-requires-2 t c κs = search needs
 
 count-below-returns-3 : (t : ℕ) → count-below-lts.Need-returns-3 (
+  part-at-reads.Asked,
+  part-at-reads.Learnt,
   count-leaf-reads.Asked,
   count-leaf-reads.Learnt,
+  count-at-reads.Asked,
+  count-at-reads.Learnt,
+  child-at-reads.Asked,
+  child-at-reads.Learnt,
   count-below-below t,
   count-below.Post,
   capped-sum-reads.Asked,
@@ -315,8 +310,14 @@ count-below-returns-3 t c = ⊎-elim (λ x. search count-whole) (λ x. search co
 
 pub +count-below-spec : {M : Type 1} → statement M
 +count-below-spec = close μ-count-below λ t. count-below-lts.spec (
+  part-at-reads.Asked,
+  part-at-reads.Learnt,
   count-leaf-reads.Asked,
   count-leaf-reads.Learnt,
+  count-at-reads.Asked,
+  count-at-reads.Learnt,
+  child-at-reads.Asked,
+  child-at-reads.Learnt,
   count-below-below t,
   count-below.Post,
   capped-sum-reads.Asked,
@@ -326,24 +327,13 @@ pub +count-below-spec : {M : Type 1} → statement M
     count-below.Post
     count-below-Inv-loop
     count-below-μ-loop
-    (count-below-mul-a t)
-    (count-below-add-a t)
-    (count-below-add-e t)
-    (count-below-mul-count-leaf t)
-    (count-below-sub-count-leaf t)
-    (count-below-part-count-leaf-start t)
-    (count-below-part-count-leaf-end t)
+    (count-below-part-at-requires t)
     (count-below-count-leaf-requires t)
     (count-below-returns t)
-    (count-below-add-n t)
-    (count-below-mul-n t)
-    (count-below-shared-slice-read-n t)
+    (count-below-count-at-requires t)
     (count-below-cast-n t)
     (count-below-loop-holds t)
-    (count-below-add-j t)
-    (count-below-add-j-2 t)
-    (count-below-mul-j t)
-    (count-below-shared-slice-read-j t)
+    (count-below-child-at-requires t)
     (count-below-sub-count-below t)
     (count-below-count-below-requires t)
     (count-below-capped-sum-requires t)

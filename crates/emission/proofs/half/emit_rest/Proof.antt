@@ -1,9 +1,9 @@
 -- `half::emit_rest` meets its contract; the laws are in RestLaws.
 use mathlib.Core.Path.{sym}
 use lib.Seq.{length-take-le}
+use borrow.Author.Needs.{needs}
 use Rattle.geometry.proofs.ArrayLaws.{of-map}
 use Rattle.emission.proofs.RestLaws.{behind-few, behind-fits, all-fit, rest-top-room, rest-written}
-use borrow.Author.Needs.{needs}
 use Rattle.emission.proofs.half.emit_rest.Statement.{statement}
 use Rattle.emission.proofs.half.emit_rest.Tie as tie
 
@@ -31,23 +31,8 @@ cast-from c = search needs
 add-from-2 : tie.Need-add-from-2
 add-from-2 c = search needs
 
-cast-a : tie.Need-cast-a
-cast-a c = search needs
-
-mul-a : tie.Need-mul-a
-mul-a c = search needs
-
-add-a : tie.Need-add-a
-add-a c = search needs
-
-add-to : tie.Need-add-to
-add-to c = search needs
-
-mul-to : tie.Need-mul-to
-mul-to c = search needs
-
-shared-slice-read-to : tie.Need-shared-slice-read-to
-shared-slice-read-to c = search needs
+count-at-requires : tie.Need-count-at-requires
+count-at-requires c κs = search needs
 
 cast-to : tie.Need-cast-to
 cast-to c = search needs
@@ -62,19 +47,27 @@ path-polygon-requires : tie.Need-path-polygon-requires
 path-polygon-requires c κs = search needs
 
 array-share-prefix-parts : tie.Need-array-share-prefix-parts
-array-share-prefix-parts c = all-fit _ _ _ (c .before .before .before .before .before .before .before .before .before .before .before .before .before .pre .0) _ (c .before .before .before .before .before .before .before .before .before .before .before .before .before .pre .1) _ _ _ _ (c .before .before .before .before .emit-branches .ensures) (search of-map)
+array-share-prefix-parts c = all-fit _ _ _ (c .before .before .before .before .before .before .before .before .before .before .before .before .before .pre .0) _ (c .before .before .before .before .before .before .count-at .ensures) _ (c .before .before .before .before .before .before .before .before .before .before .before .before .before .pre .1) _ _ _ _ (c .before .before .before .before .emit-branches .ensures) (search of-map)
 
 slice-aggregate-emit-top : tie.Need-slice-aggregate-emit-top
-slice-aggregate-emit-top c = sym (length-take-le _ _ (all-fit _ _ _ (c .before .before .before .before .before .before .before .before .before .before .before .before .before .before .pre .0) _ (c .before .before .before .before .before .before .before .before .before .before .before .before .before .before .pre .1) _ _ _ _ (c .before .before .before .before .before .emit-branches .ensures) (search of-map)))
+slice-aggregate-emit-top c = sym (length-take-le _ _ (all-fit _ _ _ (c .before .before .before .before .before .before .before .before .before .before .before .before .before .before .pre .0) _ (c .before .before .before .before .before .before .before .count-at .ensures) _ (c .before .before .before .before .before .before .before .before .before .before .before .before .before .before .pre .1) _ _ _ _ (c .before .before .before .before .before .emit-branches .ensures) (search of-map)))
 
 emit-top-requires : tie.Need-emit-top-requires
-emit-top-requires c κs = (search needs, rest-top-room _ _ _ (c .before .before .before .before .before .before .before .before .before .before .before .before .before .before .before .pre .0) _ (c .before .before .before .before .before .before .before .before .before .before .before .before .before .before .before .pre .1) _ _ _ _ (c .before .before .before .before .before .before .emit-branches .ensures) (c .before .before .before .before .before .before .before .before .before .before .before .before .before .before .before .pre .2))
+emit-top-requires c κs =
+    let b = c .before .before .before .before .before .before in
+    let n = b .before .before in
+    let s = n .before .before .before .before .before .before .before in
+    (search needs, rest-top-room _ _ _ (s .pre .0) _ (n .count-at .ensures) _ (s .pre .1) _ _ _ _ (b .emit-branches .ensures) (s .pre .2))
 
 same-length : tie.Need-same-length
 same-length c = search needs
 
 returns : tie.Need-returns
-returns c = rest-written _ _ _ (c .before .before .before .before .before .before .before .before .before .before .before .before .before .before .before .before .before .before .pre .0) _ (c .before .before .before .before .before .before .before .before .before .before .before .before .before .before .before .before .before .before .pre .1) _ _ _ _ (c .before .before .before .before .before .before .before .before .before .emit-branches .ensures) _ _ _ (c .before .before .before .before .before .before .path-polygon .ensures) (c .before .before .emit-top .ensures)
+returns c =
+    let b = c .before .before .before .before .before .before .before .before .before in
+    let n = b .before .before in
+    let s = n .before .before .before .before .before .before .before in
+    rest-written _ _ _ (s .pre .0) _ (n .count-at .ensures) _ (s .pre .1) _ _ _ _ (b .emit-branches .ensures) _ _ _ (c .before .before .before .before .before .before .path-polygon .ensures) (c .before .before .emit-top .ensures)
 
 pub emit-rest-spec : {M : Type 1} → statement M
 emit-rest-spec =
@@ -88,12 +81,7 @@ emit-rest-spec =
     shared-slice-read-from
     cast-from
     add-from-2
-    cast-a
-    mul-a
-    add-a
-    add-to
-    mul-to
-    shared-slice-read-to
+    count-at-requires
     cast-to
     sub-emit-branches
     emit-branches-requires

@@ -2,23 +2,23 @@
 use borrow.Author.Needs.{needs}
 use Prim.Native.Nat.{_-_}
 use mathlib.Core.List.{[]}
-use Rattle.index.proofs.WalkLeaf.{AtEntry, leaf-count-fits, entry-start, entry-miss}
+use Rattle.index.proofs.WalkLeaf.{AtEntry, entry-start, entry-miss}
 use Rattle.emission.specs.Leaves.{onTest}
 use Rattle.emission.proofs.LeafLoop.{left-found, left-nothing}
 use Rattle.emission.proofs.leaf.any_left.Statement.{statement}
 use Rattle.emission.proofs.leaf.any_left.Tie as tie
 
 abbrev Inv-loop : tie.InvT-loop
-Inv-loop p sides n i₀ i = AtEntry (onTest sides) p i []
+Inv-loop p sides n i₀ i = AtEntry (onTest sides) p n i []
 
 abbrev μ-loop : tie.MeasureT-loop
 μ-loop p sides n i₀ i = n - i
 
-shared-slice-read-n : tie.Need-shared-slice-read-n Inv-loop μ-loop
-shared-slice-read-n c = search needs
+item-count-requires : tie.Need-item-count-requires Inv-loop μ-loop
+item-count-requires c κs = search needs
 
 cast-n : tie.Need-cast-n Inv-loop μ-loop
-cast-n c = search leaf-count-fits
+cast-n c = search needs
 
 loop-holds : tie.Need-loop-holds Inv-loop μ-loop
 loop-holds c = search entry-start
@@ -47,7 +47,7 @@ any-left-spec =
     (tie.spec
     Inv-loop
     μ-loop
-    shared-slice-read-n
+    item-count-requires
     cast-n
     loop-holds
     is-left-requires

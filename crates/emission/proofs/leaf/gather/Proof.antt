@@ -2,22 +2,21 @@
 use borrow.Author.Needs.{needs}
 use Prim.Native.Nat.{_-_}
 use mathlib.Core.Logic.{⊎-elim}
-use Rattle.index.proofs.WalkLeaf.{leaf-count-fits}
 use Rattle.emission.proofs.LeafLoop.{GatherLoop, gather-start, gather-hit, gather-miss, gather-end}
 use Rattle.emission.proofs.leaf.gather.Statement.{statement}
 use Rattle.emission.proofs.leaf.gather.Tie as tie
 
 abbrev Inv-loop : tie.InvT-loop
-Inv-loop p sides list₀ n count₀ i₀ list count i = GatherLoop sides p list₀ i list count
+Inv-loop p sides list₀ n count₀ i₀ list count i = GatherLoop sides p list₀ n i list count
 
 abbrev μ-loop : tie.MeasureT-loop
 μ-loop p sides list₀ n count₀ i₀ list count i = n - i
 
-shared-slice-read-n : tie.Need-shared-slice-read-n Inv-loop μ-loop
-shared-slice-read-n c = search needs
+item-count-requires : tie.Need-item-count-requires Inv-loop μ-loop
+item-count-requires c κs = search needs
 
 cast-n : tie.Need-cast-n Inv-loop μ-loop
-cast-n c = search leaf-count-fits
+cast-n c = search needs
 
 loop-holds : tie.Need-loop-holds Inv-loop μ-loop
 loop-holds c = search gather-start
@@ -52,7 +51,7 @@ gather-spec =
     (tie.spec
     Inv-loop
     μ-loop
-    shared-slice-read-n
+    item-count-requires
     cast-n
     loop-holds
     is-left-requires

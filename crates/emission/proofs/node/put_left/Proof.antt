@@ -1,26 +1,22 @@
 -- `node::put_left` meets its contract.
 use borrow.Author.Needs.{needs}
-use Rattle.emission.proofs.NodeStore.{left-put}
+use Rattle.emission.proofs.LeftNode.{polygon-long, left-put}
 use Rattle.emission.proofs.node.put_left.Statement.{statement}
 use Rattle.emission.proofs.node.put_left.Tie as tie
 
-shared-slice-read-n : tie.Need-shared-slice-read-n
-shared-slice-read-n c = search needs
+-- `node::put_left` meets its contract.
 
-cast-n : tie.Need-cast-n
-cast-n c = search needs
+rects-requires : tie.Need-rects-requires
+rects-requires c κs = search needs
 
-sub-load : tie.Need-sub-load
-sub-load c = search needs
+rect-count-requires : tie.Need-rect-count-requires
+rect-count-requires c κs = search needs
 
-part-load-start : tie.Need-part-load-start
-part-load-start c = search needs
-
-part-load-end : tie.Need-part-load-end
-part-load-end c = search needs
+cast-load : tie.Need-cast-load
+cast-load c = search needs
 
 load-requires : tie.Need-load-requires
-load-requires c κs = search needs
+load-requires c κs = (search needs, search polygon-long)
 
 clipped-requires : tie.Need-clipped-requires
 clipped-requires c κs = search needs
@@ -38,11 +34,9 @@ pub put-left-spec : {M : Type 1} → statement M
 put-left-spec =
     tie.close
     (tie.spec
-    shared-slice-read-n
-    cast-n
-    sub-load
-    part-load-start
-    part-load-end
+    rects-requires
+    rect-count-requires
+    cast-load
     load-requires
     clipped-requires
     put-node-requires

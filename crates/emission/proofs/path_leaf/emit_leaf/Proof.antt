@@ -2,37 +2,16 @@
 use native.Mathlib.Omega.{arith}
 use mathlib.Core.Path.{sym}
 use lib.Seq.{length-take-le}
-use Rattle.emission.proofs.PathLeaf.{leaf-in, leaf-few, leaf-top-room, leaf-emits}
 use borrow.Author.Needs.{needs}
+use Rattle.emission.proofs.PathLeaf.{leaf-in, leaf-few, leaf-top-room, leaf-emits}
 use Rattle.emission.proofs.path_leaf.emit_leaf.Statement.{statement}
 use Rattle.emission.proofs.path_leaf.emit_leaf.Tie as tie
 
-shared-slice-read-a : tie.Need-shared-slice-read-a
-shared-slice-read-a c = search needs
+shared-slice-read-part-at : tie.Need-shared-slice-read-part-at
+shared-slice-read-part-at c = search needs
 
-cast-a : tie.Need-cast-a
-cast-a c = search needs
-
-mul-a : tie.Need-mul-a
-mul-a c = search needs
-
-add-a : tie.Need-add-a
-add-a c = search needs
-
-add-e : tie.Need-add-e
-add-e c = search needs
-
-mul-gather-with : tie.Need-mul-gather-with
-mul-gather-with c = search needs
-
-sub-gather-with : tie.Need-sub-gather-with
-sub-gather-with c = search needs
-
-part-gather-with-start : tie.Need-part-gather-with-start
-part-gather-with-start c = search needs
-
-part-gather-with-end : tie.Need-part-gather-with-end
-part-gather-with-end c = search needs
+part-at-requires : tie.Need-part-at-requires
+part-at-requires c κs = search needs
 
 slice-aggregate-gather-with : tie.Need-slice-aggregate-gather-with
 slice-aggregate-gather-with c = search needs
@@ -44,16 +23,16 @@ path-polygon-requires : tie.Need-path-polygon-requires
 path-polygon-requires c κs = search needs
 
 mul-items : tie.Need-mul-items
-mul-items c = (let f = leaf-few _ _ _ _ (c .before .before .before .before .before .before .before .before .before .before .pre .0) _ _ (c .before .before .gather-with .ensures) in omega arith)
+mul-items c = (let f = leaf-few _ _ _ _ (c .before .before .before .before .before .before .before .before .before .before .pre .0) _ (c .before .before .before .before .part-at .ensures .0) _ _ (c .before .before .gather-with .ensures) in omega arith)
 
 array-share-prefix-items : tie.Need-array-share-prefix-items
-array-share-prefix-items c = (let f = leaf-few _ _ _ _ (c .before .before .before .before .before .before .before .before .before .before .pre .0) _ _ (c .before .before .gather-with .ensures) in omega arith)
+array-share-prefix-items c = (let f = leaf-few _ _ _ _ (c .before .before .before .before .before .before .before .before .before .before .pre .0) _ (c .before .before .before .before .part-at .ensures .0) _ _ (c .before .before .gather-with .ensures) in omega arith)
 
 slice-aggregate-emit-top : tie.Need-slice-aggregate-emit-top
-slice-aggregate-emit-top c = (let f = leaf-few _ _ _ _ (c .before .before .before .before .before .before .before .before .before .before .before .pre .0) _ _ (c .before .before .before .gather-with .ensures) in sym (length-take-le _ _ (omega arith)))
+slice-aggregate-emit-top c = (let f = leaf-few _ _ _ _ (c .before .before .before .before .before .before .before .before .before .before .before .pre .0) _ (c .before .before .before .before .before .part-at .ensures .0) _ _ (c .before .before .before .gather-with .ensures) in sym (length-take-le _ _ (omega arith)))
 
 emit-top-requires : tie.Need-emit-top-requires
-emit-top-requires c κs = (search needs, leaf-top-room _ _ _ _ (c .before .before .before .before .before .before .before .before .before .before .before .before .pre .0) _ _ (c .before .before .before .before .gather-with .ensures) _ _ (c .before .before .before .before .before .before .before .before .before .before .before .before .pre .1))
+emit-top-requires c κs = (search needs, leaf-top-room _ _ _ _ (c .before .before .before .before .before .before .before .before .before .before .before .before .pre .0) _ (c .before .before .before .before .before .before .part-at .ensures .0) _ _ (c .before .before .before .before .gather-with .ensures) _ _ (c .before .before .before .before .before .before .before .before .before .before .before .before .pre .1))
 
 same-length : tie.Need-same-length
 same-length c = search needs
@@ -65,15 +44,8 @@ pub emit-leaf-spec : {M : Type 1} → statement M
 emit-leaf-spec =
     tie.close
     (tie.spec
-    shared-slice-read-a
-    cast-a
-    mul-a
-    add-a
-    add-e
-    mul-gather-with
-    sub-gather-with
-    part-gather-with-start
-    part-gather-with-end
+    shared-slice-read-part-at
+    part-at-requires
     slice-aggregate-gather-with
     gather-with-requires
     path-polygon-requires

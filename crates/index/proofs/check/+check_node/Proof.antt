@@ -1,11 +1,10 @@
+-- `check::check_node` meets its contract, with the level as its measure; its loop is in CheckLoops.
 use Prim.Native.Nat.{ℕ, _+_, _-_, _≤_, _<_}
 use native.Mathlib.Omega.{arith}
 use borrow.Author.Needs.{needs}
 use borrow.Author.Tests.{not-true, not-false}
 use lib.ListN.{length}
-use Rattle.memory.specs.Layout.{partsOf}
-use Rattle.index.specs.Check.{NodePart}
-use Rattle.index.proofs.CheckLoops.{lentPart, leaf-any, node-unfit, sound-below, sound-part, Rowing, rowing-start, rowing-low, rowing-high, rowing-lost, rowing-fits, rowing-child, rowing-outside, rowing-on, rowing-parts, rowing-sound, rowing-meet}
+use Rattle.index.proofs.CheckLoops.{leaf-any, node-unfit, sound-in, sound-few, Rowing, rowing-start, rowing-low, rowing-high, rowing-lost, rowing-fits, rowing-child, rowing-outside, rowing-on, rowing-parts, rowing-sound, rowing-meet}
 use borrow.Fn.Kinds.{In}
 use borrow.Fn.PlainCycle.{Measures, is, falls, and}
 use Rattle.index.proofs.check.check_node.Reads as check-node
@@ -15,6 +14,8 @@ use Rattle.index.proofs.check.check_leaf.Reads as check-leaf-reads
 use Rattle.index.proofs.check.child_inside.Reads as child-inside-reads
 use Rattle.index.proofs.check.head_fits.Reads as head-fits-reads
 use Rattle.index.proofs.check.siblings_apart.Reads as siblings-apart-reads
+use Rattle.layout.proofs.children.Reads as children-reads
+use Rattle.layout.proofs.part_at.Reads as part-at-reads
 use Rattle.index.proofs.check.+check_node.{statement}
 use Rattle.index.proofs.check.+check_node.Tie.{close}
 
@@ -30,16 +31,20 @@ check-node-below t =
     and 1 check-node-kinds.ps (falls 1 check-node-kinds.ps _<_ μ-check-node t) check-node.Pre
 
 abbrev check-node-Inv-loop : check-node-lts.InvT-loop
-check-node-Inv-loop m level lo k at end ks low₀ sum₀ i₀ low sum i = Rowing level m lo k ks low sum i
+check-node-Inv-loop m level lo k ks low₀ sum₀ i₀ low sum i = Rowing level m lo k ks low sum i
 
 abbrev check-node-μ-loop : check-node-lts.MeasureT-loop
-check-node-μ-loop m level lo k at end ks low₀ sum₀ i₀ low sum i = length ks - i
+check-node-μ-loop m level lo k ks low₀ sum₀ i₀ low sum i = length ks - i
 
 check-node-check-leaf-requires : (t : ℕ) → check-node-lts.Need-check-leaf-requires (
   check-leaf-reads.Asked,
   check-leaf-reads.Learnt,
   head-fits-reads.Asked,
   head-fits-reads.Learnt,
+  part-at-reads.Asked,
+  part-at-reads.Learnt,
+  children-reads.Asked,
+  children-reads.Learnt,
   check-node-below t,
   check-node.Post,
   child-inside-reads.Asked,
@@ -54,6 +59,10 @@ check-node-returns : (t : ℕ) → check-node-lts.Need-returns (
   check-leaf-reads.Learnt,
   head-fits-reads.Asked,
   head-fits-reads.Learnt,
+  part-at-reads.Asked,
+  part-at-reads.Learnt,
+  children-reads.Asked,
+  children-reads.Learnt,
   check-node-below t,
   check-node.Post,
   child-inside-reads.Asked,
@@ -68,6 +77,10 @@ check-node-head-fits-requires : (t : ℕ) → check-node-lts.Need-head-fits-requ
   check-leaf-reads.Learnt,
   head-fits-reads.Asked,
   head-fits-reads.Learnt,
+  part-at-reads.Asked,
+  part-at-reads.Learnt,
+  children-reads.Asked,
+  children-reads.Learnt,
   check-node-below t,
   check-node.Post,
   child-inside-reads.Asked,
@@ -82,6 +95,10 @@ check-node-returns-2 : (t : ℕ) → check-node-lts.Need-returns-2 (
   check-leaf-reads.Learnt,
   head-fits-reads.Asked,
   head-fits-reads.Learnt,
+  part-at-reads.Asked,
+  part-at-reads.Learnt,
+  children-reads.Asked,
+  children-reads.Learnt,
   check-node-below t,
   check-node.Post,
   child-inside-reads.Asked,
@@ -91,11 +108,15 @@ check-node-returns-2 : (t : ℕ) → check-node-lts.Need-returns-2 (
 ) (check-node-at t) check-node.Post check-node-Inv-loop check-node-μ-loop
 check-node-returns-2 t c = search (node-unfit, not-true)
 
-check-node-mul-at : (t : ℕ) → check-node-lts.Need-mul-at (
+check-node-part-at-requires : (t : ℕ) → check-node-lts.Need-part-at-requires (
   check-leaf-reads.Asked,
   check-leaf-reads.Learnt,
   head-fits-reads.Asked,
   head-fits-reads.Learnt,
+  part-at-reads.Asked,
+  part-at-reads.Learnt,
+  children-reads.Asked,
+  children-reads.Learnt,
   check-node-below t,
   check-node.Post,
   child-inside-reads.Asked,
@@ -103,13 +124,17 @@ check-node-mul-at : (t : ℕ) → check-node-lts.Need-mul-at (
   siblings-apart-reads.Asked,
   siblings-apart-reads.Learnt,
 ) (check-node-at t) check-node.Post check-node-Inv-loop check-node-μ-loop
-check-node-mul-at t c = let h : c .before .before .before .before .args .k < partsOf (c .before .before .before .before .args .m .now) = search (sound-below, not-false) in search needs
+check-node-part-at-requires t c κs = search (sound-in, not-false)
 
-check-node-add-at : (t : ℕ) → check-node-lts.Need-add-at (
+check-node-children-requires : (t : ℕ) → check-node-lts.Need-children-requires (
   check-leaf-reads.Asked,
   check-leaf-reads.Learnt,
   head-fits-reads.Asked,
   head-fits-reads.Learnt,
+  part-at-reads.Asked,
+  part-at-reads.Learnt,
+  children-reads.Asked,
+  children-reads.Learnt,
   check-node-below t,
   check-node.Post,
   child-inside-reads.Asked,
@@ -117,167 +142,17 @@ check-node-add-at : (t : ℕ) → check-node-lts.Need-add-at (
   siblings-apart-reads.Asked,
   siblings-apart-reads.Learnt,
 ) (check-node-at t) check-node.Post check-node-Inv-loop check-node-μ-loop
-check-node-add-at t c = let h : c .before .before .before .before .args .k < partsOf (c .before .before .before .before .args .m .now) = search (sound-below, not-false) in search needs
-
-check-node-add-p : (t : ℕ) → check-node-lts.Need-add-p (
-  check-leaf-reads.Asked,
-  check-leaf-reads.Learnt,
-  head-fits-reads.Asked,
-  head-fits-reads.Learnt,
-  check-node-below t,
-  check-node.Post,
-  child-inside-reads.Asked,
-  child-inside-reads.Learnt,
-  siblings-apart-reads.Asked,
-  siblings-apart-reads.Learnt,
-) (check-node-at t) check-node.Post check-node-Inv-loop check-node-μ-loop
-check-node-add-p t c = let h : c .before .before .before .before .args .k < partsOf (c .before .before .before .before .args .m .now) = search (sound-below, not-false) in search needs
-
-check-node-mul-p : (t : ℕ) → check-node-lts.Need-mul-p (
-  check-leaf-reads.Asked,
-  check-leaf-reads.Learnt,
-  head-fits-reads.Asked,
-  head-fits-reads.Learnt,
-  check-node-below t,
-  check-node.Post,
-  child-inside-reads.Asked,
-  child-inside-reads.Learnt,
-  siblings-apart-reads.Asked,
-  siblings-apart-reads.Learnt,
-) (check-node-at t) check-node.Post check-node-Inv-loop check-node-μ-loop
-check-node-mul-p t c = let h : c .before .before .before .before .args .k < partsOf (c .before .before .before .before .args .m .now) = search (sound-below, not-false) in search needs
-
-check-node-sub-p : (t : ℕ) → check-node-lts.Need-sub-p (
-  check-leaf-reads.Asked,
-  check-leaf-reads.Learnt,
-  head-fits-reads.Asked,
-  head-fits-reads.Learnt,
-  check-node-below t,
-  check-node.Post,
-  child-inside-reads.Asked,
-  child-inside-reads.Learnt,
-  siblings-apart-reads.Asked,
-  siblings-apart-reads.Learnt,
-) (check-node-at t) check-node.Post check-node-Inv-loop check-node-μ-loop
-check-node-sub-p t c = search needs
-
-check-node-part-p-start : (t : ℕ) → check-node-lts.Need-part-p-start (
-  check-leaf-reads.Asked,
-  check-leaf-reads.Learnt,
-  head-fits-reads.Asked,
-  head-fits-reads.Learnt,
-  check-node-below t,
-  check-node.Post,
-  child-inside-reads.Asked,
-  child-inside-reads.Learnt,
-  siblings-apart-reads.Asked,
-  siblings-apart-reads.Learnt,
-) (check-node-at t) check-node.Post check-node-Inv-loop check-node-μ-loop
-check-node-part-p-start t c = search needs
-
-check-node-part-p-end : (t : ℕ) → check-node-lts.Need-part-p-end (
-  check-leaf-reads.Asked,
-  check-leaf-reads.Learnt,
-  head-fits-reads.Asked,
-  head-fits-reads.Learnt,
-  check-node-below t,
-  check-node.Post,
-  child-inside-reads.Asked,
-  child-inside-reads.Learnt,
-  siblings-apart-reads.Asked,
-  siblings-apart-reads.Learnt,
-) (check-node-at t) check-node.Post check-node-Inv-loop check-node-μ-loop
-check-node-part-p-end t c = let h : c .before .before .before .before .args .k < partsOf (c .before .before .before .before .args .m .now) = search (sound-below, not-false) in search needs
-
-check-node-shared-slice-read-end : (t : ℕ) → check-node-lts.Need-shared-slice-read-end (
-  check-leaf-reads.Asked,
-  check-leaf-reads.Learnt,
-  head-fits-reads.Asked,
-  head-fits-reads.Learnt,
-  check-node-below t,
-  check-node.Post,
-  child-inside-reads.Asked,
-  child-inside-reads.Learnt,
-  siblings-apart-reads.Asked,
-  siblings-apart-reads.Learnt,
-) (check-node-at t) check-node.Post check-node-Inv-loop check-node-μ-loop
-check-node-shared-slice-read-end t c = let h : NodePart (lentPart (c .before .before .before .before .before .before .args .m .now) (c .before .before .before .before .before .before .args .k)) = search (sound-part, not-false) in search needs
-
-check-node-cast-end : (t : ℕ) → check-node-lts.Need-cast-end (
-  check-leaf-reads.Asked,
-  check-leaf-reads.Learnt,
-  head-fits-reads.Asked,
-  head-fits-reads.Learnt,
-  check-node-below t,
-  check-node.Post,
-  child-inside-reads.Asked,
-  child-inside-reads.Learnt,
-  siblings-apart-reads.Asked,
-  siblings-apart-reads.Learnt,
-) (check-node-at t) check-node.Post check-node-Inv-loop check-node-μ-loop
-check-node-cast-end t c = omega (arith, c .shared-slice-known2 .given 1)
-
-check-node-add-end : (t : ℕ) → check-node-lts.Need-add-end (
-  check-leaf-reads.Asked,
-  check-leaf-reads.Learnt,
-  head-fits-reads.Asked,
-  head-fits-reads.Learnt,
-  check-node-below t,
-  check-node.Post,
-  child-inside-reads.Asked,
-  child-inside-reads.Learnt,
-  siblings-apart-reads.Asked,
-  siblings-apart-reads.Learnt,
-) (check-node-at t) check-node.Post check-node-Inv-loop check-node-μ-loop
-check-node-add-end t c = let h : NodePart (lentPart (c .before .before .before .before .before .before .args .m .now) (c .before .before .before .before .before .before .args .k)) = search (sound-part, not-false) in search needs
-
-check-node-sub-ks : (t : ℕ) → check-node-lts.Need-sub-ks (
-  check-leaf-reads.Asked,
-  check-leaf-reads.Learnt,
-  head-fits-reads.Asked,
-  head-fits-reads.Learnt,
-  check-node-below t,
-  check-node.Post,
-  child-inside-reads.Asked,
-  child-inside-reads.Learnt,
-  siblings-apart-reads.Asked,
-  siblings-apart-reads.Learnt,
-) (check-node-at t) check-node.Post check-node-Inv-loop check-node-μ-loop
-check-node-sub-ks t c = search needs
-
-check-node-part-ks-start : (t : ℕ) → check-node-lts.Need-part-ks-start (
-  check-leaf-reads.Asked,
-  check-leaf-reads.Learnt,
-  head-fits-reads.Asked,
-  head-fits-reads.Learnt,
-  check-node-below t,
-  check-node.Post,
-  child-inside-reads.Asked,
-  child-inside-reads.Learnt,
-  siblings-apart-reads.Asked,
-  siblings-apart-reads.Learnt,
-) (check-node-at t) check-node.Post check-node-Inv-loop check-node-μ-loop
-check-node-part-ks-start t c = search needs
-
-check-node-part-ks-end : (t : ℕ) → check-node-lts.Need-part-ks-end (
-  check-leaf-reads.Asked,
-  check-leaf-reads.Learnt,
-  head-fits-reads.Asked,
-  head-fits-reads.Learnt,
-  check-node-below t,
-  check-node.Post,
-  child-inside-reads.Asked,
-  child-inside-reads.Learnt,
-  siblings-apart-reads.Asked,
-  siblings-apart-reads.Learnt,
-) (check-node-at t) check-node.Post check-node-Inv-loop check-node-μ-loop
-check-node-part-ks-end t c = let h : NodePart (lentPart (c .before .before .before .before .before .before .args .m .now) (c .before .before .before .before .before .before .args .k)) = search (sound-part, not-false) in search needs
+check-node-children-requires t c κs = (search needs, search (sound-few, not-false))
 
 check-node-loop-holds : (t : ℕ) → check-node-lts.Need-loop-holds (
   check-leaf-reads.Asked,
   check-leaf-reads.Learnt,
   head-fits-reads.Asked,
   head-fits-reads.Learnt,
+  part-at-reads.Asked,
+  part-at-reads.Learnt,
+  children-reads.Asked,
+  children-reads.Learnt,
   check-node-below t,
   check-node.Post,
   child-inside-reads.Asked,
@@ -292,6 +167,10 @@ check-node-mul-j : (t : ℕ) → check-node-lts.Need-mul-j (
   check-leaf-reads.Learnt,
   head-fits-reads.Asked,
   head-fits-reads.Learnt,
+  part-at-reads.Asked,
+  part-at-reads.Learnt,
+  children-reads.Asked,
+  children-reads.Learnt,
   check-node-below t,
   check-node.Post,
   child-inside-reads.Asked,
@@ -306,6 +185,10 @@ check-node-shared-slice-read-j : (t : ℕ) → check-node-lts.Need-shared-slice-
   check-leaf-reads.Learnt,
   head-fits-reads.Asked,
   head-fits-reads.Learnt,
+  part-at-reads.Asked,
+  part-at-reads.Learnt,
+  children-reads.Asked,
+  children-reads.Learnt,
   check-node-below t,
   check-node.Post,
   child-inside-reads.Asked,
@@ -315,25 +198,15 @@ check-node-shared-slice-read-j : (t : ℕ) → check-node-lts.Need-shared-slice-
 ) (check-node-at t) check-node.Post check-node-Inv-loop check-node-μ-loop
 check-node-shared-slice-read-j t c = search needs
 
-check-node-cast-j : (t : ℕ) → check-node-lts.Need-cast-j (
-  check-leaf-reads.Asked,
-  check-leaf-reads.Learnt,
-  head-fits-reads.Asked,
-  head-fits-reads.Learnt,
-  check-node-below t,
-  check-node.Post,
-  child-inside-reads.Asked,
-  child-inside-reads.Learnt,
-  siblings-apart-reads.Asked,
-  siblings-apart-reads.Learnt,
-) (check-node-at t) check-node.Post check-node-Inv-loop check-node-μ-loop
-check-node-cast-j t c = omega (arith, c .shared-slice-known3 .given (c .before .before .loop .i))
-
 check-node-returns-3 : (t : ℕ) → check-node-lts.Need-returns-3 (
   check-leaf-reads.Asked,
   check-leaf-reads.Learnt,
   head-fits-reads.Asked,
   head-fits-reads.Learnt,
+  part-at-reads.Asked,
+  part-at-reads.Learnt,
+  children-reads.Asked,
+  children-reads.Learnt,
   check-node-below t,
   check-node.Post,
   child-inside-reads.Asked,
@@ -348,6 +221,10 @@ check-node-returns-4 : (t : ℕ) → check-node-lts.Need-returns-4 (
   check-leaf-reads.Learnt,
   head-fits-reads.Asked,
   head-fits-reads.Learnt,
+  part-at-reads.Asked,
+  part-at-reads.Learnt,
+  children-reads.Asked,
+  children-reads.Learnt,
   check-node-below t,
   check-node.Post,
   child-inside-reads.Asked,
@@ -362,6 +239,10 @@ check-node-sub-check-node : (t : ℕ) → check-node-lts.Need-sub-check-node (
   check-leaf-reads.Learnt,
   head-fits-reads.Asked,
   head-fits-reads.Learnt,
+  part-at-reads.Asked,
+  part-at-reads.Learnt,
+  children-reads.Asked,
+  children-reads.Learnt,
   check-node-below t,
   check-node.Post,
   child-inside-reads.Asked,
@@ -376,6 +257,10 @@ check-node-check-node-requires : (t : ℕ) → check-node-lts.Need-check-node-re
   check-leaf-reads.Learnt,
   head-fits-reads.Asked,
   head-fits-reads.Learnt,
+  part-at-reads.Asked,
+  part-at-reads.Learnt,
+  children-reads.Asked,
+  children-reads.Learnt,
   check-node-below t,
   check-node.Post,
   child-inside-reads.Asked,
@@ -390,6 +275,10 @@ check-node-returns-5 : (t : ℕ) → check-node-lts.Need-returns-5 (
   check-leaf-reads.Learnt,
   head-fits-reads.Asked,
   head-fits-reads.Learnt,
+  part-at-reads.Asked,
+  part-at-reads.Learnt,
+  children-reads.Asked,
+  children-reads.Learnt,
   check-node-below t,
   check-node.Post,
   child-inside-reads.Asked,
@@ -404,6 +293,10 @@ check-node-child-inside-requires : (t : ℕ) → check-node-lts.Need-child-insid
   check-leaf-reads.Learnt,
   head-fits-reads.Asked,
   head-fits-reads.Learnt,
+  part-at-reads.Asked,
+  part-at-reads.Learnt,
+  children-reads.Asked,
+  children-reads.Learnt,
   check-node-below t,
   check-node.Post,
   child-inside-reads.Asked,
@@ -411,15 +304,17 @@ check-node-child-inside-requires : (t : ℕ) → check-node-lts.Need-child-insid
   siblings-apart-reads.Asked,
   siblings-apart-reads.Learnt,
 ) (check-node-at t) check-node.Post check-node-Inv-loop check-node-μ-loop
-check-node-child-inside-requires t c κs =
-    let v = c .before .before .before .before .before .before .loop .inv in
-    (v .node, rowing-child _ _ _ _ _ _ _ _ v (omega arith) (omega arith) (omega arith) _ (c .before .check-node .ensures) (c .if5 .left))
+check-node-child-inside-requires t c κs = let v = c .before .before .before .before .before .before .loop .inv in (v .node, rowing-child _ _ _ _ _ _ _ _ v (omega arith) (omega arith) (omega arith) _ (c .before .check-node .ensures) (c .if5 .left))
 
 check-node-returns-6 : (t : ℕ) → check-node-lts.Need-returns-6 (
   check-leaf-reads.Asked,
   check-leaf-reads.Learnt,
   head-fits-reads.Asked,
   head-fits-reads.Learnt,
+  part-at-reads.Asked,
+  part-at-reads.Learnt,
+  children-reads.Asked,
+  children-reads.Learnt,
   check-node-below t,
   check-node.Post,
   child-inside-reads.Asked,
@@ -434,6 +329,10 @@ check-node-add-sum : (t : ℕ) → check-node-lts.Need-add-sum (
   check-leaf-reads.Learnt,
   head-fits-reads.Asked,
   head-fits-reads.Learnt,
+  part-at-reads.Asked,
+  part-at-reads.Learnt,
+  children-reads.Asked,
+  children-reads.Learnt,
   check-node-below t,
   check-node.Post,
   child-inside-reads.Asked,
@@ -448,6 +347,10 @@ check-node-add-low : (t : ℕ) → check-node-lts.Need-add-low (
   check-leaf-reads.Learnt,
   head-fits-reads.Asked,
   head-fits-reads.Learnt,
+  part-at-reads.Asked,
+  part-at-reads.Learnt,
+  children-reads.Asked,
+  children-reads.Learnt,
   check-node-below t,
   check-node.Post,
   child-inside-reads.Asked,
@@ -462,6 +365,10 @@ check-node-add-i : (t : ℕ) → check-node-lts.Need-add-i (
   check-leaf-reads.Learnt,
   head-fits-reads.Asked,
   head-fits-reads.Learnt,
+  part-at-reads.Asked,
+  part-at-reads.Learnt,
+  children-reads.Asked,
+  children-reads.Learnt,
   check-node-below t,
   check-node.Post,
   child-inside-reads.Asked,
@@ -476,6 +383,10 @@ check-node-loop-less : (t : ℕ) → check-node-lts.Need-loop-less (
   check-leaf-reads.Learnt,
   head-fits-reads.Asked,
   head-fits-reads.Learnt,
+  part-at-reads.Asked,
+  part-at-reads.Learnt,
+  children-reads.Asked,
+  children-reads.Learnt,
   check-node-below t,
   check-node.Post,
   child-inside-reads.Asked,
@@ -490,6 +401,10 @@ check-node-loop-again : (t : ℕ) → check-node-lts.Need-loop-again (
   check-leaf-reads.Learnt,
   head-fits-reads.Asked,
   head-fits-reads.Learnt,
+  part-at-reads.Asked,
+  part-at-reads.Learnt,
+  children-reads.Asked,
+  children-reads.Learnt,
   check-node-below t,
   check-node.Post,
   child-inside-reads.Asked,
@@ -504,6 +419,10 @@ check-node-siblings-apart-requires : (t : ℕ) → check-node-lts.Need-siblings-
   check-leaf-reads.Learnt,
   head-fits-reads.Asked,
   head-fits-reads.Learnt,
+  part-at-reads.Asked,
+  part-at-reads.Learnt,
+  children-reads.Asked,
+  children-reads.Learnt,
   check-node-below t,
   check-node.Post,
   child-inside-reads.Asked,
@@ -518,6 +437,10 @@ check-node-returns-7 : (t : ℕ) → check-node-lts.Need-returns-7 (
   check-leaf-reads.Learnt,
   head-fits-reads.Asked,
   head-fits-reads.Learnt,
+  part-at-reads.Asked,
+  part-at-reads.Learnt,
+  children-reads.Asked,
+  children-reads.Learnt,
   check-node-below t,
   check-node.Post,
   child-inside-reads.Asked,
@@ -532,6 +455,10 @@ check-node-returns-8 : (t : ℕ) → check-node-lts.Need-returns-8 (
   check-leaf-reads.Learnt,
   head-fits-reads.Asked,
   head-fits-reads.Learnt,
+  part-at-reads.Asked,
+  part-at-reads.Learnt,
+  children-reads.Asked,
+  children-reads.Learnt,
   check-node-below t,
   check-node.Post,
   child-inside-reads.Asked,
@@ -547,6 +474,10 @@ pub +check-node-spec : {M : Type 1} → statement M
   check-leaf-reads.Learnt,
   head-fits-reads.Asked,
   head-fits-reads.Learnt,
+  part-at-reads.Asked,
+  part-at-reads.Learnt,
+  children-reads.Asked,
+  children-reads.Learnt,
   check-node-below t,
   check-node.Post,
   child-inside-reads.Asked,
@@ -562,23 +493,11 @@ pub +check-node-spec : {M : Type 1} → statement M
     (check-node-returns t)
     (check-node-head-fits-requires t)
     (check-node-returns-2 t)
-    (check-node-mul-at t)
-    (check-node-add-at t)
-    (check-node-add-p t)
-    (check-node-mul-p t)
-    (check-node-sub-p t)
-    (check-node-part-p-start t)
-    (check-node-part-p-end t)
-    (check-node-shared-slice-read-end t)
-    (check-node-cast-end t)
-    (check-node-add-end t)
-    (check-node-sub-ks t)
-    (check-node-part-ks-start t)
-    (check-node-part-ks-end t)
+    (check-node-part-at-requires t)
+    (check-node-children-requires t)
     (check-node-loop-holds t)
     (check-node-mul-j t)
     (check-node-shared-slice-read-j t)
-    (check-node-cast-j t)
     (check-node-returns-3 t)
     (check-node-returns-4 t)
     (check-node-sub-check-node t)

@@ -1,7 +1,5 @@
 use borrow.Author.Tests.{not-true, not-false}
-use Prim.Native.Nat.{_<_}
-use Rattle.memory.specs.Layout.{partsOf}
-use Rattle.index.proofs.CheckLoops.{leaf-unfit, leaf-outside, leaf-double, leaf-sound, sound-below, sound-part}
+use Rattle.index.proofs.CheckLoops.{leaf-unfit, leaf-outside, leaf-double, leaf-sound, sound-in, sound-part}
 use borrow.Author.Needs.{needs}
 use Rattle.index.proofs.check.check_leaf.Statement.{statement}
 use Rattle.index.proofs.check.check_leaf.Tie as tie
@@ -12,26 +10,8 @@ head-fits-requires c κs = search needs
 returns : tie.Need-returns
 returns c = search (leaf-unfit, not-true)
 
-mul-at : tie.Need-mul-at
-mul-at c = let h : c .before .before .before .args .k < partsOf (c .before .before .before .args .m .now) = search (sound-below, not-false) in search needs
-
-add-at : tie.Need-add-at
-add-at c = let h : c .before .before .before .args .k < partsOf (c .before .before .before .args .m .now) = search (sound-below, not-false) in search needs
-
-add-p : tie.Need-add-p
-add-p c = let h : c .before .before .before .args .k < partsOf (c .before .before .before .args .m .now) = search (sound-below, not-false) in search needs
-
-mul-p : tie.Need-mul-p
-mul-p c = let h : c .before .before .before .args .k < partsOf (c .before .before .before .args .m .now) = search (sound-below, not-false) in search needs
-
-sub-p : tie.Need-sub-p
-sub-p c = search needs
-
-part-p-start : tie.Need-part-p-start
-part-p-start c = search needs
-
-part-p-end : tie.Need-part-p-end
-part-p-end c = let h : c .before .before .before .args .k < partsOf (c .before .before .before .args .m .now) = search (sound-below, not-false) in search needs
+part-at-requires : tie.Need-part-at-requires
+part-at-requires c κs = search (sound-in, not-false)
 
 entries-inside-requires : tie.Need-entries-inside-requires
 entries-inside-requires c κs = search (sound-part, not-false)
@@ -54,13 +34,7 @@ check-leaf-spec =
     (tie.spec
     head-fits-requires
     returns
-    mul-at
-    add-at
-    add-p
-    mul-p
-    sub-p
-    part-p-start
-    part-p-end
+    part-at-requires
     entries-inside-requires
     returns-2
     entries-apart-requires

@@ -1,11 +1,10 @@
+use borrow.Author.Needs.{needs}
 use Prim.Native.Nat.{_-_, _+_}
 use lib.ListN.{drop, getD, length}
 use borrow.Author.Tests.{not-true, not-false}
-use native.Mathlib.Omega.{arith}
 use Rattle.memory.specs.SoundTest.{allPass}
 use Rattle.index.specs.Check.{partsApart}
 use Rattle.index.proofs.CheckLoops.{Meeting, meet-start, meet-place, meet-other, meet-stop, meet-on, meet-end}
-use borrow.Author.Needs.{needs}
 use Rattle.index.proofs.check.none_meets.Statement.{statement}
 use Rattle.index.proofs.check.none_meets.Tie as tie
 
@@ -21,23 +20,17 @@ mul-k c = search needs
 shared-slice-read-k : tie.Need-shared-slice-read-k Inv-loop μ-loop
 shared-slice-read-k c = search needs
 
-cast-k : tie.Need-cast-k Inv-loop μ-loop
-cast-k c = omega (arith, c .shared-slice-known3 .given (c .before .before .before .args .i))
-
 add-j : tie.Need-add-j Inv-loop μ-loop
 add-j c = search needs
 
 loop-holds : tie.Need-loop-holds Inv-loop μ-loop
 loop-holds c = search meet-start
 
-mul-other : tie.Need-mul-other Inv-loop μ-loop
-mul-other c = search needs
+mul-parts-apart : tie.Need-mul-parts-apart Inv-loop μ-loop
+mul-parts-apart c = search needs
 
-shared-slice-read-other : tie.Need-shared-slice-read-other Inv-loop μ-loop
-shared-slice-read-other c = search needs
-
-cast-other : tie.Need-cast-other Inv-loop μ-loop
-cast-other c = omega (arith, c .shared-slice-known4 .given (c .before .before .loop .j))
+shared-slice-read-parts-apart : tie.Need-shared-slice-read-parts-apart Inv-loop μ-loop
+shared-slice-read-parts-apart c = search needs
 
 parts-apart-requires : tie.Need-parts-apart-requires Inv-loop μ-loop
 parts-apart-requires c κs = (search meet-place, search meet-other)
@@ -65,12 +58,10 @@ none-meets-spec =
     μ-loop
     mul-k
     shared-slice-read-k
-    cast-k
     add-j
     loop-holds
-    mul-other
-    shared-slice-read-other
-    cast-other
+    mul-parts-apart
+    shared-slice-read-parts-apart
     parts-apart-requires
     returns
     add-j-2

@@ -2,7 +2,6 @@
 use Prim.Native.Nat.{ℕ, _<_, _-_}
 use native.Mathlib.Omega.{arith}
 use borrow.Author.Needs.{needs}
-use Rattle.index.proofs.WalkRows.{items-fit}
 use Rattle.index.proofs.WalkLoop.{child-walkable, child-fits}
 use Rattle.index.proofs.CountWalk.{CountHeld, held-leaf, held-start, held-next, held-fits, held-end}
 use borrow.Fn.Kinds.{In}
@@ -10,6 +9,8 @@ use borrow.Fn.PlainCycle.{Measures, is, falls, and}
 use Rattle.index.proofs.count.entries_below.Reads as entries-below
 use Rattle.index.proofs.count.entries_below.Kinds as entries-below-kinds
 use Rattle.index.proofs.count.+entries_below.Lts-entries_below as entries-below-lts
+use Rattle.layout.proofs.child_at.Reads as child-at-reads
+use Rattle.layout.proofs.count_at.Reads as count-at-reads
 use Rattle.index.proofs.count.+entries_below.{statement}
 use Rattle.index.proofs.count.+entries_below.Tie.{close}
 
@@ -29,126 +30,136 @@ entries-below-below t =
     entries-below.Pre
 
 abbrev entries-below-Inv-loop : entries-below-lts.InvT-loop
-entries-below-Inv-loop m level lo k a items n sum₀ low₀ i₀ sum low i = CountHeld level m lo k i low sum
+entries-below-Inv-loop m level lo k items n sum₀ low₀ i₀ sum low i = CountHeld level m lo k n i low sum
 
 abbrev entries-below-μ-loop : entries-below-lts.MeasureT-loop
-entries-below-μ-loop m level lo k a items n sum₀ low₀ i₀ sum low i = n - i
+entries-below-μ-loop m level lo k items n sum₀ low₀ i₀ sum low i = n - i
 
-entries-below-mul-a : (t : ℕ) → entries-below-lts.Need-mul-a (
+entries-below-count-at-requires : (t : ℕ) → entries-below-lts.Need-count-at-requires (
+  count-at-reads.Asked,
+  count-at-reads.Learnt,
+  child-at-reads.Asked,
+  child-at-reads.Learnt,
   entries-below-below t,
   entries-below.Post,
 ) (entries-below-at t) entries-below.Post entries-below-Inv-loop entries-below-μ-loop
-entries-below-mul-a t c = search needs
-
-entries-below-add-a : (t : ℕ) → entries-below-lts.Need-add-a (
-  entries-below-below t,
-  entries-below.Post,
-) (entries-below-at t) entries-below.Post entries-below-Inv-loop entries-below-μ-loop
-entries-below-add-a t c = search needs
-
-entries-below-add-items : (t : ℕ) → entries-below-lts.Need-add-items (
-  entries-below-below t,
-  entries-below.Post,
-) (entries-below-at t) entries-below.Post entries-below-Inv-loop entries-below-μ-loop
-entries-below-add-items t c = search needs
-
-entries-below-mul-items : (t : ℕ) → entries-below-lts.Need-mul-items (
-  entries-below-below t,
-  entries-below.Post,
-) (entries-below-at t) entries-below.Post entries-below-Inv-loop entries-below-μ-loop
-entries-below-mul-items t c = search needs
-
-entries-below-shared-slice-read-items : (t : ℕ) → entries-below-lts.Need-shared-slice-read-items (
-  entries-below-below t,
-  entries-below.Post,
-) (entries-below-at t) entries-below.Post entries-below-Inv-loop entries-below-μ-loop
-entries-below-shared-slice-read-items t c = search needs
+entries-below-count-at-requires t c κs = search needs
 
 entries-below-returns : (t : ℕ) → entries-below-lts.Need-returns (
+  count-at-reads.Asked,
+  count-at-reads.Learnt,
+  child-at-reads.Asked,
+  child-at-reads.Learnt,
   entries-below-below t,
   entries-below.Post,
 ) (entries-below-at t) entries-below.Post entries-below-Inv-loop entries-below-μ-loop
 entries-below-returns t c = search held-leaf
 
 entries-below-cast-n : (t : ℕ) → entries-below-lts.Need-cast-n (
+  count-at-reads.Asked,
+  count-at-reads.Learnt,
+  child-at-reads.Asked,
+  child-at-reads.Learnt,
   entries-below-below t,
   entries-below.Post,
 ) (entries-below-at t) entries-below.Post entries-below-Inv-loop entries-below-μ-loop
-entries-below-cast-n t c = search items-fit
+entries-below-cast-n t c = search needs
 
 entries-below-loop-holds : (t : ℕ) → entries-below-lts.Need-loop-holds (
+  count-at-reads.Asked,
+  count-at-reads.Learnt,
+  child-at-reads.Asked,
+  child-at-reads.Learnt,
   entries-below-below t,
   entries-below.Post,
 ) (entries-below-at t) entries-below.Post entries-below-Inv-loop entries-below-μ-loop
 entries-below-loop-holds t c = search held-start
 
-entries-below-add-j : (t : ℕ) → entries-below-lts.Need-add-j (
+entries-below-child-at-requires : (t : ℕ) → entries-below-lts.Need-child-at-requires (
+  count-at-reads.Asked,
+  count-at-reads.Learnt,
+  child-at-reads.Asked,
+  child-at-reads.Learnt,
   entries-below-below t,
   entries-below.Post,
 ) (entries-below-at t) entries-below.Post entries-below-Inv-loop entries-below-μ-loop
-entries-below-add-j t c = search needs
-
-entries-below-add-j-2 : (t : ℕ) → entries-below-lts.Need-add-j-2 (
-  entries-below-below t,
-  entries-below.Post,
-) (entries-below-at t) entries-below.Post entries-below-Inv-loop entries-below-μ-loop
-entries-below-add-j-2 t c = search needs
-
-entries-below-mul-j : (t : ℕ) → entries-below-lts.Need-mul-j (
-  entries-below-below t,
-  entries-below.Post,
-) (entries-below-at t) entries-below.Post entries-below-Inv-loop entries-below-μ-loop
-entries-below-mul-j t c = search needs
-
-entries-below-shared-slice-read-j : (t : ℕ) → entries-below-lts.Need-shared-slice-read-j (
-  entries-below-below t,
-  entries-below.Post,
-) (entries-below-at t) entries-below.Post entries-below-Inv-loop entries-below-μ-loop
-entries-below-shared-slice-read-j t c = search needs
+entries-below-child-at-requires t c κs = search needs
 
 entries-below-sub-entries-below : (t : ℕ) → entries-below-lts.Need-sub-entries-below (
+  count-at-reads.Asked,
+  count-at-reads.Learnt,
+  child-at-reads.Asked,
+  child-at-reads.Learnt,
   entries-below-below t,
   entries-below.Post,
 ) (entries-below-at t) entries-below.Post entries-below-Inv-loop entries-below-μ-loop
 entries-below-sub-entries-below t c = search needs
 
 entries-below-entries-below-requires : (t : ℕ) → entries-below-lts.Need-entries-below-requires (
+  count-at-reads.Asked,
+  count-at-reads.Learnt,
+  child-at-reads.Asked,
+  child-at-reads.Learnt,
   entries-below-below t,
   entries-below.Post,
 ) (entries-below-at t) entries-below.Post entries-below-Inv-loop entries-below-μ-loop
-entries-below-entries-below-requires t c κs = let l = c .before in (omega arith, child-walkable _ _ _ _ _ _ _ _ _ _ (l .before .loop .inv .at) (l .loop-test .taken))
+entries-below-entries-below-requires t c κs = let l = c .before in (omega arith, child-walkable _ _ _ _ _ _ _ _ _ _ _ (l .before .loop .inv .at) (l .loop-test .taken) _ (c .child-at .ensures))
 
 entries-below-add-sum : (t : ℕ) → entries-below-lts.Need-add-sum (
+  count-at-reads.Asked,
+  count-at-reads.Learnt,
+  child-at-reads.Asked,
+  child-at-reads.Learnt,
   entries-below-below t,
   entries-below.Post,
 ) (entries-below-at t) entries-below.Post entries-below-Inv-loop entries-below-μ-loop
 entries-below-add-sum t c = search held-fits
 
 entries-below-add-low : (t : ℕ) → entries-below-lts.Need-add-low (
+  count-at-reads.Asked,
+  count-at-reads.Learnt,
+  child-at-reads.Asked,
+  child-at-reads.Learnt,
   entries-below-below t,
   entries-below.Post,
 ) (entries-below-at t) entries-below.Post entries-below-Inv-loop entries-below-μ-loop
 entries-below-add-low t c = search child-fits
 
 entries-below-add-i : (t : ℕ) → entries-below-lts.Need-add-i (
+  count-at-reads.Asked,
+  count-at-reads.Learnt,
+  child-at-reads.Asked,
+  child-at-reads.Learnt,
   entries-below-below t,
   entries-below.Post,
 ) (entries-below-at t) entries-below.Post entries-below-Inv-loop entries-below-μ-loop
 entries-below-add-i t c = search needs
 
 entries-below-loop-less : (t : ℕ) → entries-below-lts.Need-loop-less (
+  count-at-reads.Asked,
+  count-at-reads.Learnt,
+  child-at-reads.Asked,
+  child-at-reads.Learnt,
   entries-below-below t,
   entries-below.Post,
 ) (entries-below-at t) entries-below.Post entries-below-Inv-loop entries-below-μ-loop
 entries-below-loop-less t c = search needs
 
 entries-below-loop-again : (t : ℕ) → entries-below-lts.Need-loop-again (
+  count-at-reads.Asked,
+  count-at-reads.Learnt,
+  child-at-reads.Asked,
+  child-at-reads.Learnt,
   entries-below-below t,
   entries-below.Post,
 ) (entries-below-at t) entries-below.Post entries-below-Inv-loop entries-below-μ-loop
 entries-below-loop-again t c = search held-next
 
 entries-below-returns-2 : (t : ℕ) → entries-below-lts.Need-returns-2 (
+  count-at-reads.Asked,
+  count-at-reads.Learnt,
+  child-at-reads.Asked,
+  child-at-reads.Learnt,
   entries-below-below t,
   entries-below.Post,
 ) (entries-below-at t) entries-below.Post entries-below-Inv-loop entries-below-μ-loop
@@ -156,6 +167,10 @@ entries-below-returns-2 t c = search held-end
 
 pub +entries-below-spec : {M : Type 1} → statement M
 +entries-below-spec = close μ-entries-below λ t. entries-below-lts.spec (
+  count-at-reads.Asked,
+  count-at-reads.Learnt,
+  child-at-reads.Asked,
+  child-at-reads.Learnt,
   entries-below-below t,
   entries-below.Post,
 )
@@ -163,18 +178,11 @@ pub +entries-below-spec : {M : Type 1} → statement M
     entries-below.Post
     entries-below-Inv-loop
     entries-below-μ-loop
-    (entries-below-mul-a t)
-    (entries-below-add-a t)
-    (entries-below-add-items t)
-    (entries-below-mul-items t)
-    (entries-below-shared-slice-read-items t)
+    (entries-below-count-at-requires t)
     (entries-below-returns t)
     (entries-below-cast-n t)
     (entries-below-loop-holds t)
-    (entries-below-add-j t)
-    (entries-below-add-j-2 t)
-    (entries-below-mul-j t)
-    (entries-below-shared-slice-read-j t)
+    (entries-below-child-at-requires t)
     (entries-below-sub-entries-below t)
     (entries-below-entries-below-requires t)
     (entries-below-add-sum t)

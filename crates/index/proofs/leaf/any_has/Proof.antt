@@ -8,10 +8,10 @@ use Rattle.index.proofs.leaf.any_has.Statement.{statement}
 use Rattle.index.proofs.leaf.any_has.Tie as tie
 
 abbrev Inv-loop : tie.InvT-loop
-Inv-loop rects n c i₀ i = Scan (cellIn c) rects n i (anyHas (rectsIn rects n) c)
+Inv-loop list n c i₀ i = Scan (cellIn c) list n i (anyHas (rectsIn list n) c)
 
 abbrev μ-loop : tie.MeasureT-loop
-μ-loop rects n c i₀ i = n - i
+μ-loop list n c i₀ i = n - i
 
 loop-holds : tie.Need-loop-holds Inv-loop μ-loop
 loop-holds c = search has-start

@@ -1,21 +1,21 @@
 use borrow.Author.Needs.{needs}
 use Prim.Native.Nat.{_-_}
 use borrow.Author.Tests.{not-true, not-false}
+use Rattle.memory.specs.Fanout.{fanout}
 use Rattle.memory.specs.Layout.{itemCount, entriesIn}
 use Rattle.memory.specs.SoundTest.{pairsPass, apartTest}
-use Rattle.index.specs.Answers.{fanout}
 use Rattle.index.proofs.LeafLaws.{Differing, differ-start, differ-stop, differ-on, differ-end, differ-all}
 use Rattle.index.proofs.leaf.entries_apart.Statement.{statement}
 use Rattle.index.proofs.leaf.entries_apart.Tie as tie
 
 abbrev Inv-loop : tie.InvT-loop
-Inv-loop p count i₀ i = Differing p i (pairsPass (apartTest fanout 0) (entriesIn p (itemCount p)))
+Inv-loop p count i₀ i = Differing p count i (pairsPass (apartTest fanout 0) (entriesIn p (itemCount p)))
 
 abbrev μ-loop : tie.MeasureT-loop
 μ-loop p count i₀ i = 8 - i
 
-shared-slice-read-count : tie.Need-shared-slice-read-count Inv-loop μ-loop
-shared-slice-read-count c = search needs
+item-count-requires : tie.Need-item-count-requires Inv-loop μ-loop
+item-count-requires c κs = search needs
 
 cast-count : tie.Need-cast-count Inv-loop μ-loop
 cast-count c = search needs
@@ -50,7 +50,7 @@ entries-apart-spec =
     (tie.spec
     Inv-loop
     μ-loop
-    shared-slice-read-count
+    item-count-requires
     cast-count
     loop-holds
     returns

@@ -1,15 +1,14 @@
-use Prim.Native.Nat.{_<_}
+-- `opening::open` meets its contract; its ways out are in OpenLaws.
 use native.Mathlib.Omega.{arith}
 use borrow.Author.Tests.{not-true, not-false}
-use Rattle.memory.specs.Layout.{partsOf, rootIn}
 use Rattle.memory.proofs.ReadingLaws.{length-right}
-use Rattle.index.proofs.OpenLaws.{open-empty, open-zero, open-deep, open-head, open-unsound, open-bits, open-wide, open-unused, open-below, open-tree}
+use Rattle.index.proofs.OpenLaws.{right-head, right-bits, open-empty, open-zero, open-deep, open-head, open-unsound, open-bits, open-in, open-wide, open-unused, open-tree}
 use borrow.Author.Needs.{needs}
 use Rattle.index.proofs.opening.open.Statement.{statement}
 use Rattle.index.proofs.opening.open.Tie as tie
 
-shared-slice-read-height : tie.Need-shared-slice-read-height
-shared-slice-read-height c = let r = length-right (c .before .before .args .m .now) (c .before .before .pre) in omega arith
+tree-height-requires : tie.Need-tree-height-requires
+tree-height-requires c κs = search right-head
 
 all-zero-requires : tie.Need-all-zero-requires
 all-zero-requires c κs = search needs
@@ -23,91 +22,92 @@ returns-2 c = search open-zero
 sub-level : tie.Need-sub-level
 sub-level c = search needs
 
-shared-slice-read-root : tie.Need-shared-slice-read-root
-shared-slice-read-root c = let r = length-right (c .before .before .before .before .args .m .now) (c .before .before .before .before .pre) in omega arith
+root-part-requires : tie.Need-root-part-requires
+root-part-requires c κs = search right-head
 
 returns-3 : tie.Need-returns-3
 returns-3 c = search open-deep
 
-sub-all-zero : tie.Need-sub-all-zero
-sub-all-zero c = search needs
-
-part-all-zero-start : tie.Need-part-all-zero-start
-part-all-zero-start c = search needs
-
-part-all-zero-end : tie.Need-part-all-zero-end
-part-all-zero-end c = let r = length-right (c .before .before .before .before .before .args .m .now) (c .before .before .before .before .before .pre) in omega arith
-
-all-zero-requires-2 : tie.Need-all-zero-requires-2
-all-zero-requires-2 c κs = search needs
+head-rest-zero-requires : tie.Need-head-rest-zero-requires
+head-rest-zero-requires c κs = search right-head
 
 returns-4 : tie.Need-returns-4
 returns-4 c = search (open-head, not-true)
 
-cast-k : tie.Need-cast-k
-cast-k c = omega (arith, c .before .before .before .before .shared-slice-known3 .given 9)
-
 check-node-requires : tie.Need-check-node-requires
-check-node-requires c κs = let r = length-right (c .before .before .before .before .before .before .before .before .args .m .now) (c .before .before .before .before .before .before .before .before .pre) in (r, omega arith)
+check-node-requires c κs = (search length-right, omega arith)
 
 returns-5 : tie.Need-returns-5
 returns-5 c = search open-unsound
 
 bits-set-requires : tie.Need-bits-set-requires
-bits-set-requires c κs = let r = length-right (c .before .before .before .before .before .before .before .before .before .before .args .m .now) (c .before .before .before .before .before .before .before .before .before .before .pre) in omega arith
+bits-set-requires c κs = search right-bits
 
 returns-6 : tie.Need-returns-6
 returns-6 c = search open-bits
 
-mul-if7 : tie.Need-mul-if7
-mul-if7 c = let r = length-right (c .before .before .before .before .before .before .before .before .before .before .before .before .args .m .now) (c .before .before .before .before .before .before .before .before .before .before .before .before .pre) in let h : rootIn (c .before .before .before .before .before .before .before .before .before .before .before .before .args .m .now) < partsOf (c .before .before .before .before .before .before .before .before .before .before .before .before .args .m .now) = search open-below in omega arith
+part-at-requires : tie.Need-part-at-requires
+part-at-requires c κs = search open-in
 
-add-if7 : tie.Need-add-if7
-add-if7 c = let r = length-right (c .before .before .before .before .before .before .before .before .before .before .before .before .args .m .now) (c .before .before .before .before .before .before .before .before .before .before .before .before .pre) in let h : rootIn (c .before .before .before .before .before .before .before .before .before .before .before .before .args .m .now) < partsOf (c .before .before .before .before .before .before .before .before .before .before .before .before .args .m .now) = search open-below in omega arith
-
-mul-if7-2 : tie.Need-mul-if7-2
-mul-if7-2 c = let r = length-right (c .before .before .before .before .before .before .before .before .before .before .before .before .args .m .now) (c .before .before .before .before .before .before .before .before .before .before .before .before .pre) in let h : rootIn (c .before .before .before .before .before .before .before .before .before .before .before .before .args .m .now) < partsOf (c .before .before .before .before .before .before .before .before .before .before .before .before .args .m .now) = search open-below in omega arith
-
-shared-slice-read-if7 : tie.Need-shared-slice-read-if7
-shared-slice-read-if7 c = let r = length-right (c .before .before .before .before .before .before .before .before .before .before .before .before .before .args .m .now) (c .before .before .before .before .before .before .before .before .before .before .before .before .before .pre) in let h : rootIn (c .before .before .before .before .before .before .before .before .before .before .before .before .before .args .m .now) < partsOf (c .before .before .before .before .before .before .before .before .before .before .before .before .before .args .m .now) = search open-below in omega arith
+rect-count-requires : tie.Need-rect-count-requires
+rect-count-requires c κs = search needs
 
 returns-7 : tie.Need-returns-7
 returns-7 c = search open-wide
 
 others-zero-requires : tie.Need-others-zero-requires
-others-zero-requires c κs = length-right (c .before .before .before .before .before .before .before .before .before .before .before .before .before .before .args .m .now) (c .before .before .before .before .before .before .before .before .before .before .before .before .before .before .pre)
+others-zero-requires c κs = search length-right
 
 returns-8 : tie.Need-returns-8
 returns-8 c = search (open-unused, not-true)
 
 returns-9 : tie.Need-returns-9
-returns-9 c = search (open-tree, not-false)
+returns-9 c =
+    let p = c .before .before .before in
+    let b = p .before .before .before in
+    let n = b .before .before in
+    let h = n .before .before in
+    let k = h .before .before in
+    let t = k .before .before in
+    search (
+      open-tree,
+      not-false,
+      t .before .before .pre,
+      t .tree-height .ensures,
+      k .before .if1 .left,
+      k .root-part .ensures,
+      h .head-rest-zero .ensures,
+      n .before .if4 .left,
+      n .check-node .ensures,
+      b .before .if5 .left,
+      b .bits-set .ensures,
+      p .before .before .if6 .left,
+      p .before .part-at .ensures .0,
+      p .rect-count .ensures,
+      c .before .before .if7 .left,
+      c .before .others-zero .ensures,
+      c .if8 .left,
+    )
 
 pub open-spec : {M : Type 1} → statement M
 open-spec =
     tie.close
     (tie.spec
-    shared-slice-read-height
+    tree-height-requires
     all-zero-requires
     returns
     returns-2
     sub-level
-    shared-slice-read-root
+    root-part-requires
     returns-3
-    sub-all-zero
-    part-all-zero-start
-    part-all-zero-end
-    all-zero-requires-2
+    head-rest-zero-requires
     returns-4
-    cast-k
     check-node-requires
     returns-5
     bits-set-requires
     returns-6
-    mul-if7
-    add-if7
-    mul-if7-2
-    shared-slice-read-if7
+    part-at-requires
+    rect-count-requires
     returns-7
     others-zero-requires
     returns-8

@@ -3,7 +3,7 @@ use Prim.Native.Nat.{ℕ, _<_, _-_}
 use mathlib.Core.Logic.{⊎-elim}
 use native.Mathlib.Omega.{arith}
 use borrow.Author.Needs.{needs}
-use Rattle.index.proofs.WalkRows.{leaf-part, items-fit}
+use Rattle.index.proofs.WalkRows.{node-part}
 use Rattle.index.proofs.WalkLoop.{child-walkable, child-polygon, child-fits}
 use Rattle.index.proofs.PointWalk.{PointLoop, point-leaf, point-start, point-miss, point-hit, point-room, point-end}
 use borrow.Fn.Kinds.{In}
@@ -14,6 +14,9 @@ use Rattle.index.proofs.point_query.+point_below.Lts-point_below as poi
 use Rattle.index.proofs.point_query.point_in_leaf.Reads as point-in-leaf-reads
 use Rattle.index.proofs.walk.Found.then.Reads as then-reads
 use Rattle.index.proofs.walk.polygon_has.Reads as polygon-has-reads
+use Rattle.layout.proofs.child_at.Reads as child-at-reads
+use Rattle.layout.proofs.count_at.Reads as count-at-reads
+use Rattle.layout.proofs.part_at.Reads as part-at-reads
 use Rattle.index.proofs.point_query.+point_below.{statement}
 use Rattle.index.proofs.point_query.+point_below.Tie.{close}
 
@@ -29,14 +32,20 @@ point-below-below t =
     and 1 point-below-kinds.ps (falls 1 point-below-kinds.ps _<_ μ-point-below t) point-below.Pre
 
 abbrev point-below-Inv-loop : point-below-lts.InvT-loop
-point-below-Inv-loop m level lo k c a e n so-far₀ low₀ i₀ so-far low i = PointLoop c level m lo k i low so-far
+point-below-Inv-loop m level lo k c n so-far₀ low₀ i₀ so-far low i = PointLoop c level m lo k n i low so-far
 
 abbrev point-below-μ-loop : point-below-lts.MeasureT-loop
-point-below-μ-loop m level lo k c a e n so-far₀ low₀ i₀ so-far low i = n - i
+point-below-μ-loop m level lo k c n so-far₀ low₀ i₀ so-far low i = n - i
 
-point-below-mul-a : (t : ℕ) → point-below-lts.Need-mul-a (
+point-below-part-at-requires : (t : ℕ) → point-below-lts.Need-part-at-requires (
+  part-at-reads.Asked,
+  part-at-reads.Learnt,
   point-in-leaf-reads.Asked,
   point-in-leaf-reads.Learnt,
+  count-at-reads.Asked,
+  count-at-reads.Learnt,
+  child-at-reads.Asked,
+  child-at-reads.Learnt,
   polygon-has-reads.Asked,
   polygon-has-reads.Learnt,
   point-below-below t,
@@ -44,83 +53,17 @@ point-below-mul-a : (t : ℕ) → point-below-lts.Need-mul-a (
   then-reads.Asked,
   then-reads.Learnt,
 ) (point-below-at t) point-below.Post point-below-Inv-loop point-below-μ-loop
-point-below-mul-a t c = search needs
-
-point-below-add-a : (t : ℕ) → point-below-lts.Need-add-a (
-  point-in-leaf-reads.Asked,
-  point-in-leaf-reads.Learnt,
-  polygon-has-reads.Asked,
-  polygon-has-reads.Learnt,
-  point-below-below t,
-  point-below.Post,
-  then-reads.Asked,
-  then-reads.Learnt,
-) (point-below-at t) point-below.Post point-below-Inv-loop point-below-μ-loop
-point-below-add-a t c = search needs
-
-point-below-add-e : (t : ℕ) → point-below-lts.Need-add-e (
-  point-in-leaf-reads.Asked,
-  point-in-leaf-reads.Learnt,
-  polygon-has-reads.Asked,
-  polygon-has-reads.Learnt,
-  point-below-below t,
-  point-below.Post,
-  then-reads.Asked,
-  then-reads.Learnt,
-) (point-below-at t) point-below.Post point-below-Inv-loop point-below-μ-loop
-point-below-add-e t c = search needs
-
-point-below-mul-point-in-leaf : (t : ℕ) → point-below-lts.Need-mul-point-in-leaf (
-  point-in-leaf-reads.Asked,
-  point-in-leaf-reads.Learnt,
-  polygon-has-reads.Asked,
-  polygon-has-reads.Learnt,
-  point-below-below t,
-  point-below.Post,
-  then-reads.Asked,
-  then-reads.Learnt,
-) (point-below-at t) point-below.Post point-below-Inv-loop point-below-μ-loop
-point-below-mul-point-in-leaf t c = search needs
-
-point-below-sub-point-in-leaf : (t : ℕ) → point-below-lts.Need-sub-point-in-leaf (
-  point-in-leaf-reads.Asked,
-  point-in-leaf-reads.Learnt,
-  polygon-has-reads.Asked,
-  polygon-has-reads.Learnt,
-  point-below-below t,
-  point-below.Post,
-  then-reads.Asked,
-  then-reads.Learnt,
-) (point-below-at t) point-below.Post point-below-Inv-loop point-below-μ-loop
-point-below-sub-point-in-leaf t c = search needs
-
-point-below-part-point-in-leaf-start : (t : ℕ) → point-below-lts.Need-part-point-in-leaf-start (
-  point-in-leaf-reads.Asked,
-  point-in-leaf-reads.Learnt,
-  polygon-has-reads.Asked,
-  polygon-has-reads.Learnt,
-  point-below-below t,
-  point-below.Post,
-  then-reads.Asked,
-  then-reads.Learnt,
-) (point-below-at t) point-below.Post point-below-Inv-loop point-below-μ-loop
-point-below-part-point-in-leaf-start t c = search needs
-
-point-below-part-point-in-leaf-end : (t : ℕ) → point-below-lts.Need-part-point-in-leaf-end (
-  point-in-leaf-reads.Asked,
-  point-in-leaf-reads.Learnt,
-  polygon-has-reads.Asked,
-  polygon-has-reads.Learnt,
-  point-below-below t,
-  point-below.Post,
-  then-reads.Asked,
-  then-reads.Learnt,
-) (point-below-at t) point-below.Post point-below-Inv-loop point-below-μ-loop
-point-below-part-point-in-leaf-end t c = search needs
+point-below-part-at-requires t c κs = search needs
 
 point-below-point-in-leaf-requires : (t : ℕ) → point-below-lts.Need-point-in-leaf-requires (
+  part-at-reads.Asked,
+  part-at-reads.Learnt,
   point-in-leaf-reads.Asked,
   point-in-leaf-reads.Learnt,
+  count-at-reads.Asked,
+  count-at-reads.Learnt,
+  child-at-reads.Asked,
+  child-at-reads.Learnt,
   polygon-has-reads.Asked,
   polygon-has-reads.Learnt,
   point-below-below t,
@@ -128,11 +71,17 @@ point-below-point-in-leaf-requires : (t : ℕ) → point-below-lts.Need-point-in
   then-reads.Asked,
   then-reads.Learnt,
 ) (point-below-at t) point-below.Post point-below-Inv-loop point-below-μ-loop
-point-below-point-in-leaf-requires t c κs = search leaf-part
+point-below-point-in-leaf-requires t c κs = search node-part
 
 point-below-returns : (t : ℕ) → point-below-lts.Need-returns (
+  part-at-reads.Asked,
+  part-at-reads.Learnt,
   point-in-leaf-reads.Asked,
   point-in-leaf-reads.Learnt,
+  count-at-reads.Asked,
+  count-at-reads.Learnt,
+  child-at-reads.Asked,
+  child-at-reads.Learnt,
   polygon-has-reads.Asked,
   polygon-has-reads.Learnt,
   point-below-below t,
@@ -142,9 +91,15 @@ point-below-returns : (t : ℕ) → point-below-lts.Need-returns (
 ) (point-below-at t) point-below.Post point-below-Inv-loop point-below-μ-loop
 point-below-returns t c = search point-leaf
 
-point-below-add-n : (t : ℕ) → point-below-lts.Need-add-n (
+point-below-count-at-requires : (t : ℕ) → point-below-lts.Need-count-at-requires (
+  part-at-reads.Asked,
+  part-at-reads.Learnt,
   point-in-leaf-reads.Asked,
   point-in-leaf-reads.Learnt,
+  count-at-reads.Asked,
+  count-at-reads.Learnt,
+  child-at-reads.Asked,
+  child-at-reads.Learnt,
   polygon-has-reads.Asked,
   polygon-has-reads.Learnt,
   point-below-below t,
@@ -152,35 +107,17 @@ point-below-add-n : (t : ℕ) → point-below-lts.Need-add-n (
   then-reads.Asked,
   then-reads.Learnt,
 ) (point-below-at t) point-below.Post point-below-Inv-loop point-below-μ-loop
-point-below-add-n t c = search needs
-
-point-below-mul-n : (t : ℕ) → point-below-lts.Need-mul-n (
-  point-in-leaf-reads.Asked,
-  point-in-leaf-reads.Learnt,
-  polygon-has-reads.Asked,
-  polygon-has-reads.Learnt,
-  point-below-below t,
-  point-below.Post,
-  then-reads.Asked,
-  then-reads.Learnt,
-) (point-below-at t) point-below.Post point-below-Inv-loop point-below-μ-loop
-point-below-mul-n t c = search needs
-
-point-below-shared-slice-read-n : (t : ℕ) → point-below-lts.Need-shared-slice-read-n (
-  point-in-leaf-reads.Asked,
-  point-in-leaf-reads.Learnt,
-  polygon-has-reads.Asked,
-  polygon-has-reads.Learnt,
-  point-below-below t,
-  point-below.Post,
-  then-reads.Asked,
-  then-reads.Learnt,
-) (point-below-at t) point-below.Post point-below-Inv-loop point-below-μ-loop
-point-below-shared-slice-read-n t c = search needs
+point-below-count-at-requires t c κs = search needs
 
 point-below-cast-n : (t : ℕ) → point-below-lts.Need-cast-n (
+  part-at-reads.Asked,
+  part-at-reads.Learnt,
   point-in-leaf-reads.Asked,
   point-in-leaf-reads.Learnt,
+  count-at-reads.Asked,
+  count-at-reads.Learnt,
+  child-at-reads.Asked,
+  child-at-reads.Learnt,
   polygon-has-reads.Asked,
   polygon-has-reads.Learnt,
   point-below-below t,
@@ -188,11 +125,17 @@ point-below-cast-n : (t : ℕ) → point-below-lts.Need-cast-n (
   then-reads.Asked,
   then-reads.Learnt,
 ) (point-below-at t) point-below.Post point-below-Inv-loop point-below-μ-loop
-point-below-cast-n t c = search items-fit
+point-below-cast-n t c = search needs
 
 point-below-loop-holds : (t : ℕ) → point-below-lts.Need-loop-holds (
+  part-at-reads.Asked,
+  part-at-reads.Learnt,
   point-in-leaf-reads.Asked,
   point-in-leaf-reads.Learnt,
+  count-at-reads.Asked,
+  count-at-reads.Learnt,
+  child-at-reads.Asked,
+  child-at-reads.Learnt,
   polygon-has-reads.Asked,
   polygon-has-reads.Learnt,
   point-below-below t,
@@ -202,9 +145,15 @@ point-below-loop-holds : (t : ℕ) → point-below-lts.Need-loop-holds (
 ) (point-below-at t) point-below.Post point-below-Inv-loop point-below-μ-loop
 point-below-loop-holds t c = search point-start
 
-point-below-add-j : (t : ℕ) → point-below-lts.Need-add-j (
+point-below-child-at-requires : (t : ℕ) → point-below-lts.Need-child-at-requires (
+  part-at-reads.Asked,
+  part-at-reads.Learnt,
   point-in-leaf-reads.Asked,
   point-in-leaf-reads.Learnt,
+  count-at-reads.Asked,
+  count-at-reads.Learnt,
+  child-at-reads.Asked,
+  child-at-reads.Learnt,
   polygon-has-reads.Asked,
   polygon-has-reads.Learnt,
   point-below-below t,
@@ -212,47 +161,17 @@ point-below-add-j : (t : ℕ) → point-below-lts.Need-add-j (
   then-reads.Asked,
   then-reads.Learnt,
 ) (point-below-at t) point-below.Post point-below-Inv-loop point-below-μ-loop
-point-below-add-j t c = search needs
-
-point-below-add-j-2 : (t : ℕ) → point-below-lts.Need-add-j-2 (
-  point-in-leaf-reads.Asked,
-  point-in-leaf-reads.Learnt,
-  polygon-has-reads.Asked,
-  polygon-has-reads.Learnt,
-  point-below-below t,
-  point-below.Post,
-  then-reads.Asked,
-  then-reads.Learnt,
-) (point-below-at t) point-below.Post point-below-Inv-loop point-below-μ-loop
-point-below-add-j-2 t c = search needs
-
-point-below-mul-j : (t : ℕ) → point-below-lts.Need-mul-j (
-  point-in-leaf-reads.Asked,
-  point-in-leaf-reads.Learnt,
-  polygon-has-reads.Asked,
-  polygon-has-reads.Learnt,
-  point-below-below t,
-  point-below.Post,
-  then-reads.Asked,
-  then-reads.Learnt,
-) (point-below-at t) point-below.Post point-below-Inv-loop point-below-μ-loop
-point-below-mul-j t c = search needs
-
-point-below-shared-slice-read-j : (t : ℕ) → point-below-lts.Need-shared-slice-read-j (
-  point-in-leaf-reads.Asked,
-  point-in-leaf-reads.Learnt,
-  polygon-has-reads.Asked,
-  polygon-has-reads.Learnt,
-  point-below-below t,
-  point-below.Post,
-  then-reads.Asked,
-  then-reads.Learnt,
-) (point-below-at t) point-below.Post point-below-Inv-loop point-below-μ-loop
-point-below-shared-slice-read-j t c = search needs
+point-below-child-at-requires t c κs = search needs
 
 point-below-polygon-has-requires : (t : ℕ) → point-below-lts.Need-polygon-has-requires (
+  part-at-reads.Asked,
+  part-at-reads.Learnt,
   point-in-leaf-reads.Asked,
   point-in-leaf-reads.Learnt,
+  count-at-reads.Asked,
+  count-at-reads.Learnt,
+  child-at-reads.Asked,
+  child-at-reads.Learnt,
   polygon-has-reads.Asked,
   polygon-has-reads.Learnt,
   point-below-below t,
@@ -263,8 +182,14 @@ point-below-polygon-has-requires : (t : ℕ) → point-below-lts.Need-polygon-ha
 point-below-polygon-has-requires t c κs = search child-polygon
 
 point-below-sub-point-below : (t : ℕ) → point-below-lts.Need-sub-point-below (
+  part-at-reads.Asked,
+  part-at-reads.Learnt,
   point-in-leaf-reads.Asked,
   point-in-leaf-reads.Learnt,
+  count-at-reads.Asked,
+  count-at-reads.Learnt,
+  child-at-reads.Asked,
+  child-at-reads.Learnt,
   polygon-has-reads.Asked,
   polygon-has-reads.Learnt,
   point-below-below t,
@@ -275,8 +200,14 @@ point-below-sub-point-below : (t : ℕ) → point-below-lts.Need-sub-point-below
 point-below-sub-point-below t c = search needs
 
 point-below-point-below-requires : (t : ℕ) → point-below-lts.Need-point-below-requires (
+  part-at-reads.Asked,
+  part-at-reads.Learnt,
   point-in-leaf-reads.Asked,
   point-in-leaf-reads.Learnt,
+  count-at-reads.Asked,
+  count-at-reads.Learnt,
+  child-at-reads.Asked,
+  child-at-reads.Learnt,
   polygon-has-reads.Asked,
   polygon-has-reads.Learnt,
   point-below-below t,
@@ -287,8 +218,14 @@ point-below-point-below-requires : (t : ℕ) → point-below-lts.Need-point-belo
 point-below-point-below-requires t c κs = (omega arith, search child-walkable)
 
 point-below-then-requires : (t : ℕ) → point-below-lts.Need-then-requires (
+  part-at-reads.Asked,
+  part-at-reads.Learnt,
   point-in-leaf-reads.Asked,
   point-in-leaf-reads.Learnt,
+  count-at-reads.Asked,
+  count-at-reads.Learnt,
+  child-at-reads.Asked,
+  child-at-reads.Learnt,
   polygon-has-reads.Asked,
   polygon-has-reads.Learnt,
   point-below-below t,
@@ -299,8 +236,14 @@ point-below-then-requires : (t : ℕ) → point-below-lts.Need-then-requires (
 point-below-then-requires t c κs = search point-room
 
 point-below-add-low : (t : ℕ) → point-below-lts.Need-add-low (
+  part-at-reads.Asked,
+  part-at-reads.Learnt,
   point-in-leaf-reads.Asked,
   point-in-leaf-reads.Learnt,
+  count-at-reads.Asked,
+  count-at-reads.Learnt,
+  child-at-reads.Asked,
+  child-at-reads.Learnt,
   polygon-has-reads.Asked,
   polygon-has-reads.Learnt,
   point-below-below t,
@@ -311,8 +254,14 @@ point-below-add-low : (t : ℕ) → point-below-lts.Need-add-low (
 point-below-add-low t c = search child-fits
 
 point-below-add-i : (t : ℕ) → point-below-lts.Need-add-i (
+  part-at-reads.Asked,
+  part-at-reads.Learnt,
   point-in-leaf-reads.Asked,
   point-in-leaf-reads.Learnt,
+  count-at-reads.Asked,
+  count-at-reads.Learnt,
+  child-at-reads.Asked,
+  child-at-reads.Learnt,
   polygon-has-reads.Asked,
   polygon-has-reads.Learnt,
   point-below-below t,
@@ -323,8 +272,14 @@ point-below-add-i : (t : ℕ) → point-below-lts.Need-add-i (
 point-below-add-i t c = search needs
 
 point-below-loop-less : (t : ℕ) → point-below-lts.Need-loop-less (
+  part-at-reads.Asked,
+  part-at-reads.Learnt,
   point-in-leaf-reads.Asked,
   point-in-leaf-reads.Learnt,
+  count-at-reads.Asked,
+  count-at-reads.Learnt,
+  child-at-reads.Asked,
+  child-at-reads.Learnt,
   polygon-has-reads.Asked,
   polygon-has-reads.Learnt,
   point-below-below t,
@@ -335,8 +290,14 @@ point-below-loop-less : (t : ℕ) → point-below-lts.Need-loop-less (
 point-below-loop-less t c = search needs
 
 point-below-loop-again : (t : ℕ) → point-below-lts.Need-loop-again (
+  part-at-reads.Asked,
+  part-at-reads.Learnt,
   point-in-leaf-reads.Asked,
   point-in-leaf-reads.Learnt,
+  count-at-reads.Asked,
+  count-at-reads.Learnt,
+  child-at-reads.Asked,
+  child-at-reads.Learnt,
   polygon-has-reads.Asked,
   polygon-has-reads.Learnt,
   point-below-below t,
@@ -347,8 +308,14 @@ point-below-loop-again : (t : ℕ) → point-below-lts.Need-loop-again (
 point-below-loop-again t c = ⊎-elim (λ w. search point-hit) (λ w. search point-miss) (c .if2 .came)
 
 point-below-returns-2 : (t : ℕ) → point-below-lts.Need-returns-2 (
+  part-at-reads.Asked,
+  part-at-reads.Learnt,
   point-in-leaf-reads.Asked,
   point-in-leaf-reads.Learnt,
+  count-at-reads.Asked,
+  count-at-reads.Learnt,
+  child-at-reads.Asked,
+  child-at-reads.Learnt,
   polygon-has-reads.Asked,
   polygon-has-reads.Learnt,
   point-below-below t,
@@ -360,8 +327,14 @@ point-below-returns-2 t c = search point-end
 
 pub +point-below-spec : {M : Type 1} → statement M
 +point-below-spec = close μ-point-below λ t. point-below-lts.spec (
+  part-at-reads.Asked,
+  part-at-reads.Learnt,
   point-in-leaf-reads.Asked,
   point-in-leaf-reads.Learnt,
+  count-at-reads.Asked,
+  count-at-reads.Learnt,
+  child-at-reads.Asked,
+  child-at-reads.Learnt,
   polygon-has-reads.Asked,
   polygon-has-reads.Learnt,
   point-below-below t,
@@ -373,24 +346,13 @@ pub +point-below-spec : {M : Type 1} → statement M
     point-below.Post
     point-below-Inv-loop
     point-below-μ-loop
-    (point-below-mul-a t)
-    (point-below-add-a t)
-    (point-below-add-e t)
-    (point-below-mul-point-in-leaf t)
-    (point-below-sub-point-in-leaf t)
-    (point-below-part-point-in-leaf-start t)
-    (point-below-part-point-in-leaf-end t)
+    (point-below-part-at-requires t)
     (point-below-point-in-leaf-requires t)
     (point-below-returns t)
-    (point-below-add-n t)
-    (point-below-mul-n t)
-    (point-below-shared-slice-read-n t)
+    (point-below-count-at-requires t)
     (point-below-cast-n t)
     (point-below-loop-holds t)
-    (point-below-add-j t)
-    (point-below-add-j-2 t)
-    (point-below-mul-j t)
-    (point-below-shared-slice-read-j t)
+    (point-below-child-at-requires t)
     (point-below-polygon-has-requires t)
     (point-below-sub-point-below t)
     (point-below-point-below-requires t)

@@ -1,24 +1,23 @@
--- `point_query::point_in_leaf` meets its contract; its loop is in WalkLeaf.
+use borrow.Author.Needs.{needs}
 use Prim.Native.Nat.{_-_}
 use mathlib.Core.List.{[]}
-use borrow.Author.Needs.{needs}
 use Rattle.index.specs.Walks.{cellTest}
-use Rattle.index.proofs.WalkLeaf.{AtEntry, leaf-count-fits, entry-start, entry-miss, entry-end}
+use Rattle.index.proofs.WalkLeaf.{AtEntry, entry-start, entry-miss, entry-end}
 use Rattle.index.proofs.PointWalk.{leaf-held, leaf-not-held}
 use Rattle.index.proofs.point_query.point_in_leaf.Statement.{statement}
 use Rattle.index.proofs.point_query.point_in_leaf.Tie as tie
 
 abbrev Inv-loop : tie.InvT-loop
-Inv-loop p c n i₀ i = AtEntry (cellTest c) p i []
+Inv-loop p c n i₀ i = AtEntry (cellTest c) p n i []
 
 abbrev μ-loop : tie.MeasureT-loop
 μ-loop p c n i₀ i = n - i
 
-shared-slice-read-n : tie.Need-shared-slice-read-n Inv-loop μ-loop
-shared-slice-read-n c = search needs
+item-count-requires : tie.Need-item-count-requires Inv-loop μ-loop
+item-count-requires c κs = search needs
 
 cast-n : tie.Need-cast-n Inv-loop μ-loop
-cast-n c = search leaf-count-fits
+cast-n c = search needs
 
 loop-holds : tie.Need-loop-holds Inv-loop μ-loop
 loop-holds c = search entry-start
@@ -26,20 +25,8 @@ loop-holds c = search entry-start
 is-of-cell-requires : tie.Need-is-of-cell-requires Inv-loop μ-loop
 is-of-cell-requires c κs = search needs
 
-mul-tag : tie.Need-mul-tag Inv-loop μ-loop
-mul-tag c = search needs
-
-add-tag : tie.Need-add-tag Inv-loop μ-loop
-add-tag c = search needs
-
-add-tag-2 : tie.Need-add-tag-2 Inv-loop μ-loop
-add-tag-2 c = search needs
-
-mul-tag-2 : tie.Need-mul-tag-2 Inv-loop μ-loop
-mul-tag-2 c = search needs
-
-shared-slice-read-tag : tie.Need-shared-slice-read-tag Inv-loop μ-loop
-shared-slice-read-tag c = search needs
+entry-tag-requires : tie.Need-entry-tag-requires Inv-loop μ-loop
+entry-tag-requires c κs = search needs
 
 returns : tie.Need-returns Inv-loop μ-loop
 returns c = search leaf-held
@@ -62,15 +49,11 @@ point-in-leaf-spec =
     (tie.spec
     Inv-loop
     μ-loop
-    shared-slice-read-n
+    item-count-requires
     cast-n
     loop-holds
     is-of-cell-requires
-    mul-tag
-    add-tag
-    add-tag-2
-    mul-tag-2
-    shared-slice-read-tag
+    entry-tag-requires
     returns
     add-i
     loop-less

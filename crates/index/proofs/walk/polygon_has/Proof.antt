@@ -1,44 +1,23 @@
--- `walk::polygon_has` meets its contract; what it reads of the part is in WalkParts.
-use Rattle.index.proofs.WalkParts.{count-fits, rects-fit, polygon-has}
+use Rattle.layout.proofs.NodeLaws.{polygon-few}
+use Rattle.index.proofs.WalkParts.{polygon-has}
 use borrow.Author.Needs.{needs}
 use Rattle.index.proofs.walk.polygon_has.Statement.{statement}
 use Rattle.index.proofs.walk.polygon_has.Tie as tie
 
-mul-a : tie.Need-mul-a
-mul-a c = search needs
+part-at-requires : tie.Need-part-at-requires
+part-at-requires c κs = search needs
 
-add-a : tie.Need-add-a
-add-a c = search needs
+rects-requires : tie.Need-rects-requires
+rects-requires c κs = search needs
 
-mul-n : tie.Need-mul-n
-mul-n c = search needs
+rect-count-requires : tie.Need-rect-count-requires
+rect-count-requires c κs = search needs
 
-shared-slice-read-n : tie.Need-shared-slice-read-n
-shared-slice-read-n c = search needs
-
-cast-n : tie.Need-cast-n
-cast-n c = search count-fits
-
-add-from : tie.Need-add-from
-add-from c = search needs
-
-add-to : tie.Need-add-to
-add-to c = search needs
-
-mul-any-has : tie.Need-mul-any-has
-mul-any-has c = search needs
-
-sub-any-has : tie.Need-sub-any-has
-sub-any-has c = search needs
-
-part-any-has-start : tie.Need-part-any-has-start
-part-any-has-start c = search needs
-
-part-any-has-end : tie.Need-part-any-has-end
-part-any-has-end c = search needs
+cast-any-has : tie.Need-cast-any-has
+cast-any-has c = search needs
 
 any-has-requires : tie.Need-any-has-requires
-any-has-requires c κs = search rects-fit
+any-has-requires c κs = search polygon-few
 
 returns : tie.Need-returns
 returns c = search polygon-has
@@ -47,16 +26,9 @@ pub polygon-has-spec : {M : Type 1} → statement M
 polygon-has-spec =
     tie.close
     (tie.spec
-    mul-a
-    add-a
-    mul-n
-    shared-slice-read-n
-    cast-n
-    add-from
-    add-to
-    mul-any-has
-    sub-any-has
-    part-any-has-start
-    part-any-has-end
+    part-at-requires
+    rects-requires
+    rect-count-requires
+    cast-any-has
     any-has-requires
     returns)

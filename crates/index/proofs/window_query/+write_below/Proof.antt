@@ -4,7 +4,7 @@ use mathlib.Core.Logic.{⊎-elim}
 use native.Mathlib.Omega.{arith}
 use borrow.Author.Needs.{needs}
 use Rattle.index.proofs.WalkLoop.{child-polygon, child-fits}
-use Rattle.index.proofs.WindowWrite.{WriteLoop, written-leaf-room, written-leaf, room-items-fit, writing-start, writing-room, writing-miss, writing-hit, writing-end}
+use Rattle.index.proofs.WindowWrite.{WriteLoop, written-leaf-room, written-leaf, writing-start, writing-room, writing-miss, writing-hit, writing-end}
 use borrow.Fn.Kinds.{In}
 use borrow.Fn.PlainCycle.{Measures, is, falls, and}
 use Rattle.index.proofs.window_query.write_below.Reads as write-below
@@ -12,6 +12,9 @@ use Rattle.index.proofs.window_query.write_below.Kinds as write-below-k
 use Rattle.index.proofs.window_query.+write_below.Lts-write_below as write-below-lts
 use Rattle.index.proofs.walk.polygon_meets.Reads as polygon-meets-reads
 use Rattle.index.proofs.window_query.write_leaf.Reads as write-leaf-reads
+use Rattle.layout.proofs.child_at.Reads as child-at-reads
+use Rattle.layout.proofs.count_at.Reads as count-at-reads
+use Rattle.layout.proofs.part_at.Reads as part-at-reads
 use Rattle.index.proofs.window_query.+write_below.{statement}
 use Rattle.index.proofs.window_query.+write_below.Tie.{close}
 
@@ -27,84 +30,36 @@ write-below-below t =
     and 2 write-below-kinds.ps (falls 2 write-below-kinds.ps _<_ μ-write-below t) write-below.Pre
 
 abbrev write-below-Inv-loop : write-below-lts.InvT-loop
-write-below-Inv-loop m level lo k w list₀ at a e n next₀ low₀ i₀ list next low i = WriteLoop w level m lo k list₀ at i low list next
+write-below-Inv-loop m level lo k w list₀ at n next₀ low₀ i₀ list next low i = WriteLoop w level m lo k n list₀ at i low list next
 
 abbrev write-below-μ-loop : write-below-lts.MeasureT-loop
-write-below-μ-loop m level lo k w list₀ at a e n next₀ low₀ i₀ list next low i = n - i
+write-below-μ-loop m level lo k w list₀ at n next₀ low₀ i₀ list next low i = n - i
 
-write-below-mul-a : (t : ℕ) → write-below-lts.Need-mul-a (
+write-below-part-at-requires : (t : ℕ) → write-below-lts.Need-part-at-requires (
+  part-at-reads.Asked,
+  part-at-reads.Learnt,
   write-leaf-reads.Asked,
   write-leaf-reads.Learnt,
+  count-at-reads.Asked,
+  count-at-reads.Learnt,
+  child-at-reads.Asked,
+  child-at-reads.Learnt,
   polygon-meets-reads.Asked,
   polygon-meets-reads.Learnt,
   write-below-below t,
   write-below.Post,
 ) (write-below-at t) write-below.Post write-below-Inv-loop write-below-μ-loop
-write-below-mul-a t c = search needs
-
-write-below-add-a : (t : ℕ) → write-below-lts.Need-add-a (
-  write-leaf-reads.Asked,
-  write-leaf-reads.Learnt,
-  polygon-meets-reads.Asked,
-  polygon-meets-reads.Learnt,
-  write-below-below t,
-  write-below.Post,
-) (write-below-at t) write-below.Post write-below-Inv-loop write-below-μ-loop
-write-below-add-a t c = search needs
-
-write-below-add-e : (t : ℕ) → write-below-lts.Need-add-e (
-  write-leaf-reads.Asked,
-  write-leaf-reads.Learnt,
-  polygon-meets-reads.Asked,
-  polygon-meets-reads.Learnt,
-  write-below-below t,
-  write-below.Post,
-) (write-below-at t) write-below.Post write-below-Inv-loop write-below-μ-loop
-write-below-add-e t c = search needs
-
-write-below-mul-write-leaf : (t : ℕ) → write-below-lts.Need-mul-write-leaf (
-  write-leaf-reads.Asked,
-  write-leaf-reads.Learnt,
-  polygon-meets-reads.Asked,
-  polygon-meets-reads.Learnt,
-  write-below-below t,
-  write-below.Post,
-) (write-below-at t) write-below.Post write-below-Inv-loop write-below-μ-loop
-write-below-mul-write-leaf t c = search needs
-
-write-below-sub-write-leaf : (t : ℕ) → write-below-lts.Need-sub-write-leaf (
-  write-leaf-reads.Asked,
-  write-leaf-reads.Learnt,
-  polygon-meets-reads.Asked,
-  polygon-meets-reads.Learnt,
-  write-below-below t,
-  write-below.Post,
-) (write-below-at t) write-below.Post write-below-Inv-loop write-below-μ-loop
-write-below-sub-write-leaf t c = search needs
-
-write-below-part-write-leaf-start : (t : ℕ) → write-below-lts.Need-part-write-leaf-start (
-  write-leaf-reads.Asked,
-  write-leaf-reads.Learnt,
-  polygon-meets-reads.Asked,
-  polygon-meets-reads.Learnt,
-  write-below-below t,
-  write-below.Post,
-) (write-below-at t) write-below.Post write-below-Inv-loop write-below-μ-loop
-write-below-part-write-leaf-start t c = search needs
-
-write-below-part-write-leaf-end : (t : ℕ) → write-below-lts.Need-part-write-leaf-end (
-  write-leaf-reads.Asked,
-  write-leaf-reads.Learnt,
-  polygon-meets-reads.Asked,
-  polygon-meets-reads.Learnt,
-  write-below-below t,
-  write-below.Post,
-) (write-below-at t) write-below.Post write-below-Inv-loop write-below-μ-loop
-write-below-part-write-leaf-end t c = search needs
+write-below-part-at-requires t c κs = search needs
 
 write-below-write-leaf-requires : (t : ℕ) → write-below-lts.Need-write-leaf-requires (
+  part-at-reads.Asked,
+  part-at-reads.Learnt,
   write-leaf-reads.Asked,
   write-leaf-reads.Learnt,
+  count-at-reads.Asked,
+  count-at-reads.Learnt,
+  child-at-reads.Asked,
+  child-at-reads.Learnt,
   polygon-meets-reads.Asked,
   polygon-meets-reads.Learnt,
   write-below-below t,
@@ -113,8 +68,14 @@ write-below-write-leaf-requires : (t : ℕ) → write-below-lts.Need-write-leaf-
 write-below-write-leaf-requires t c κs = search written-leaf-room
 
 write-below-same-length : (t : ℕ) → write-below-lts.Need-same-length (
+  part-at-reads.Asked,
+  part-at-reads.Learnt,
   write-leaf-reads.Asked,
   write-leaf-reads.Learnt,
+  count-at-reads.Asked,
+  count-at-reads.Learnt,
+  child-at-reads.Asked,
+  child-at-reads.Learnt,
   polygon-meets-reads.Asked,
   polygon-meets-reads.Learnt,
   write-below-below t,
@@ -123,8 +84,14 @@ write-below-same-length : (t : ℕ) → write-below-lts.Need-same-length (
 write-below-same-length t c = search needs
 
 write-below-returns : (t : ℕ) → write-below-lts.Need-returns (
+  part-at-reads.Asked,
+  part-at-reads.Learnt,
   write-leaf-reads.Asked,
   write-leaf-reads.Learnt,
+  count-at-reads.Asked,
+  count-at-reads.Learnt,
+  child-at-reads.Asked,
+  child-at-reads.Learnt,
   polygon-meets-reads.Asked,
   polygon-meets-reads.Learnt,
   write-below-below t,
@@ -132,49 +99,47 @@ write-below-returns : (t : ℕ) → write-below-lts.Need-returns (
 ) (write-below-at t) write-below.Post write-below-Inv-loop write-below-μ-loop
 write-below-returns t c = search written-leaf
 
-write-below-add-n : (t : ℕ) → write-below-lts.Need-add-n (
+write-below-count-at-requires : (t : ℕ) → write-below-lts.Need-count-at-requires (
+  part-at-reads.Asked,
+  part-at-reads.Learnt,
   write-leaf-reads.Asked,
   write-leaf-reads.Learnt,
+  count-at-reads.Asked,
+  count-at-reads.Learnt,
+  child-at-reads.Asked,
+  child-at-reads.Learnt,
   polygon-meets-reads.Asked,
   polygon-meets-reads.Learnt,
   write-below-below t,
   write-below.Post,
 ) (write-below-at t) write-below.Post write-below-Inv-loop write-below-μ-loop
-write-below-add-n t c = search needs
-
-write-below-mul-n : (t : ℕ) → write-below-lts.Need-mul-n (
-  write-leaf-reads.Asked,
-  write-leaf-reads.Learnt,
-  polygon-meets-reads.Asked,
-  polygon-meets-reads.Learnt,
-  write-below-below t,
-  write-below.Post,
-) (write-below-at t) write-below.Post write-below-Inv-loop write-below-μ-loop
-write-below-mul-n t c = search needs
-
-write-below-shared-slice-read-n : (t : ℕ) → write-below-lts.Need-shared-slice-read-n (
-  write-leaf-reads.Asked,
-  write-leaf-reads.Learnt,
-  polygon-meets-reads.Asked,
-  polygon-meets-reads.Learnt,
-  write-below-below t,
-  write-below.Post,
-) (write-below-at t) write-below.Post write-below-Inv-loop write-below-μ-loop
-write-below-shared-slice-read-n t c = search needs
+write-below-count-at-requires t c κs = search needs
 
 write-below-cast-n : (t : ℕ) → write-below-lts.Need-cast-n (
+  part-at-reads.Asked,
+  part-at-reads.Learnt,
   write-leaf-reads.Asked,
   write-leaf-reads.Learnt,
+  count-at-reads.Asked,
+  count-at-reads.Learnt,
+  child-at-reads.Asked,
+  child-at-reads.Learnt,
   polygon-meets-reads.Asked,
   polygon-meets-reads.Learnt,
   write-below-below t,
   write-below.Post,
 ) (write-below-at t) write-below.Post write-below-Inv-loop write-below-μ-loop
-write-below-cast-n t c = search room-items-fit
+write-below-cast-n t c = search needs
 
 write-below-loop-holds : (t : ℕ) → write-below-lts.Need-loop-holds (
+  part-at-reads.Asked,
+  part-at-reads.Learnt,
   write-leaf-reads.Asked,
   write-leaf-reads.Learnt,
+  count-at-reads.Asked,
+  count-at-reads.Learnt,
+  child-at-reads.Asked,
+  child-at-reads.Learnt,
   polygon-meets-reads.Asked,
   polygon-meets-reads.Learnt,
   write-below-below t,
@@ -182,49 +147,31 @@ write-below-loop-holds : (t : ℕ) → write-below-lts.Need-loop-holds (
 ) (write-below-at t) write-below.Post write-below-Inv-loop write-below-μ-loop
 write-below-loop-holds t c = search writing-start
 
-write-below-add-j : (t : ℕ) → write-below-lts.Need-add-j (
+write-below-child-at-requires : (t : ℕ) → write-below-lts.Need-child-at-requires (
+  part-at-reads.Asked,
+  part-at-reads.Learnt,
   write-leaf-reads.Asked,
   write-leaf-reads.Learnt,
+  count-at-reads.Asked,
+  count-at-reads.Learnt,
+  child-at-reads.Asked,
+  child-at-reads.Learnt,
   polygon-meets-reads.Asked,
   polygon-meets-reads.Learnt,
   write-below-below t,
   write-below.Post,
 ) (write-below-at t) write-below.Post write-below-Inv-loop write-below-μ-loop
-write-below-add-j t c = search needs
-
-write-below-add-j-2 : (t : ℕ) → write-below-lts.Need-add-j-2 (
-  write-leaf-reads.Asked,
-  write-leaf-reads.Learnt,
-  polygon-meets-reads.Asked,
-  polygon-meets-reads.Learnt,
-  write-below-below t,
-  write-below.Post,
-) (write-below-at t) write-below.Post write-below-Inv-loop write-below-μ-loop
-write-below-add-j-2 t c = search needs
-
-write-below-mul-j : (t : ℕ) → write-below-lts.Need-mul-j (
-  write-leaf-reads.Asked,
-  write-leaf-reads.Learnt,
-  polygon-meets-reads.Asked,
-  polygon-meets-reads.Learnt,
-  write-below-below t,
-  write-below.Post,
-) (write-below-at t) write-below.Post write-below-Inv-loop write-below-μ-loop
-write-below-mul-j t c = search needs
-
-write-below-shared-slice-read-j : (t : ℕ) → write-below-lts.Need-shared-slice-read-j (
-  write-leaf-reads.Asked,
-  write-leaf-reads.Learnt,
-  polygon-meets-reads.Asked,
-  polygon-meets-reads.Learnt,
-  write-below-below t,
-  write-below.Post,
-) (write-below-at t) write-below.Post write-below-Inv-loop write-below-μ-loop
-write-below-shared-slice-read-j t c = search needs
+write-below-child-at-requires t c κs = search needs
 
 write-below-polygon-meets-requires : (t : ℕ) → write-below-lts.Need-polygon-meets-requires (
+  part-at-reads.Asked,
+  part-at-reads.Learnt,
   write-leaf-reads.Asked,
   write-leaf-reads.Learnt,
+  count-at-reads.Asked,
+  count-at-reads.Learnt,
+  child-at-reads.Asked,
+  child-at-reads.Learnt,
   polygon-meets-reads.Asked,
   polygon-meets-reads.Learnt,
   write-below-below t,
@@ -233,8 +180,14 @@ write-below-polygon-meets-requires : (t : ℕ) → write-below-lts.Need-polygon-
 write-below-polygon-meets-requires t c κs = search child-polygon
 
 write-below-sub-write-below : (t : ℕ) → write-below-lts.Need-sub-write-below (
+  part-at-reads.Asked,
+  part-at-reads.Learnt,
   write-leaf-reads.Asked,
   write-leaf-reads.Learnt,
+  count-at-reads.Asked,
+  count-at-reads.Learnt,
+  child-at-reads.Asked,
+  child-at-reads.Learnt,
   polygon-meets-reads.Asked,
   polygon-meets-reads.Learnt,
   write-below-below t,
@@ -243,21 +196,30 @@ write-below-sub-write-below : (t : ℕ) → write-below-lts.Need-sub-write-below
 write-below-sub-write-below t c = search needs
 
 write-below-write-below-requires : (t : ℕ) → write-below-lts.Need-write-below-requires (
+  part-at-reads.Asked,
+  part-at-reads.Learnt,
   write-leaf-reads.Asked,
   write-leaf-reads.Learnt,
+  count-at-reads.Asked,
+  count-at-reads.Learnt,
+  child-at-reads.Asked,
+  child-at-reads.Learnt,
   polygon-meets-reads.Asked,
   polygon-meets-reads.Learnt,
   write-below-below t,
   write-below.Post,
 ) (write-below-at t) write-below.Post write-below-Inv-loop write-below-μ-loop
-write-below-write-below-requires t c κs =
-    let p = c .before .before in
-    let l = p .before .before in
-    (omega arith, writing-room _ _ _ _ _ _ _ _ _ _ _ (l .before .loop .inv) (l .loop-test .taken) _ (p .polygon-meets .ensures) (c .before .if2 .taken))
+write-below-write-below-requires t c κs = (omega arith, search writing-room)
 
 write-below-add-low : (t : ℕ) → write-below-lts.Need-add-low (
+  part-at-reads.Asked,
+  part-at-reads.Learnt,
   write-leaf-reads.Asked,
   write-leaf-reads.Learnt,
+  count-at-reads.Asked,
+  count-at-reads.Learnt,
+  child-at-reads.Asked,
+  child-at-reads.Learnt,
   polygon-meets-reads.Asked,
   polygon-meets-reads.Learnt,
   write-below-below t,
@@ -266,8 +228,14 @@ write-below-add-low : (t : ℕ) → write-below-lts.Need-add-low (
 write-below-add-low t c = search child-fits
 
 write-below-add-i : (t : ℕ) → write-below-lts.Need-add-i (
+  part-at-reads.Asked,
+  part-at-reads.Learnt,
   write-leaf-reads.Asked,
   write-leaf-reads.Learnt,
+  count-at-reads.Asked,
+  count-at-reads.Learnt,
+  child-at-reads.Asked,
+  child-at-reads.Learnt,
   polygon-meets-reads.Asked,
   polygon-meets-reads.Learnt,
   write-below-below t,
@@ -276,8 +244,14 @@ write-below-add-i : (t : ℕ) → write-below-lts.Need-add-i (
 write-below-add-i t c = search needs
 
 write-below-loop-less : (t : ℕ) → write-below-lts.Need-loop-less (
+  part-at-reads.Asked,
+  part-at-reads.Learnt,
   write-leaf-reads.Asked,
   write-leaf-reads.Learnt,
+  count-at-reads.Asked,
+  count-at-reads.Learnt,
+  child-at-reads.Asked,
+  child-at-reads.Learnt,
   polygon-meets-reads.Asked,
   polygon-meets-reads.Learnt,
   write-below-below t,
@@ -286,8 +260,14 @@ write-below-loop-less : (t : ℕ) → write-below-lts.Need-loop-less (
 write-below-loop-less t c = search needs
 
 write-below-loop-again : (t : ℕ) → write-below-lts.Need-loop-again (
+  part-at-reads.Asked,
+  part-at-reads.Learnt,
   write-leaf-reads.Asked,
   write-leaf-reads.Learnt,
+  count-at-reads.Asked,
+  count-at-reads.Learnt,
+  child-at-reads.Asked,
+  child-at-reads.Learnt,
   polygon-meets-reads.Asked,
   polygon-meets-reads.Learnt,
   write-below-below t,
@@ -296,8 +276,14 @@ write-below-loop-again : (t : ℕ) → write-below-lts.Need-loop-again (
 write-below-loop-again t c = ⊎-elim (λ x. search writing-hit) (λ x. search writing-miss) (c .if2 .came)
 
 write-below-same-length-2 : (t : ℕ) → write-below-lts.Need-same-length-2 (
+  part-at-reads.Asked,
+  part-at-reads.Learnt,
   write-leaf-reads.Asked,
   write-leaf-reads.Learnt,
+  count-at-reads.Asked,
+  count-at-reads.Learnt,
+  child-at-reads.Asked,
+  child-at-reads.Learnt,
   polygon-meets-reads.Asked,
   polygon-meets-reads.Learnt,
   write-below-below t,
@@ -306,8 +292,14 @@ write-below-same-length-2 : (t : ℕ) → write-below-lts.Need-same-length-2 (
 write-below-same-length-2 t c = search needs
 
 write-below-returns-2 : (t : ℕ) → write-below-lts.Need-returns-2 (
+  part-at-reads.Asked,
+  part-at-reads.Learnt,
   write-leaf-reads.Asked,
   write-leaf-reads.Learnt,
+  count-at-reads.Asked,
+  count-at-reads.Learnt,
+  child-at-reads.Asked,
+  child-at-reads.Learnt,
   polygon-meets-reads.Asked,
   polygon-meets-reads.Learnt,
   write-below-below t,
@@ -317,8 +309,14 @@ write-below-returns-2 t c = search writing-end
 
 pub +write-below-spec : {M : Type 1} → statement M
 +write-below-spec = close μ-write-below λ t. write-below-lts.spec (
+  part-at-reads.Asked,
+  part-at-reads.Learnt,
   write-leaf-reads.Asked,
   write-leaf-reads.Learnt,
+  count-at-reads.Asked,
+  count-at-reads.Learnt,
+  child-at-reads.Asked,
+  child-at-reads.Learnt,
   polygon-meets-reads.Asked,
   polygon-meets-reads.Learnt,
   write-below-below t,
@@ -328,25 +326,14 @@ pub +write-below-spec : {M : Type 1} → statement M
     write-below.Post
     write-below-Inv-loop
     write-below-μ-loop
-    (write-below-mul-a t)
-    (write-below-add-a t)
-    (write-below-add-e t)
-    (write-below-mul-write-leaf t)
-    (write-below-sub-write-leaf t)
-    (write-below-part-write-leaf-start t)
-    (write-below-part-write-leaf-end t)
+    (write-below-part-at-requires t)
     (write-below-write-leaf-requires t)
     (write-below-same-length t)
     (write-below-returns t)
-    (write-below-add-n t)
-    (write-below-mul-n t)
-    (write-below-shared-slice-read-n t)
+    (write-below-count-at-requires t)
     (write-below-cast-n t)
     (write-below-loop-holds t)
-    (write-below-add-j t)
-    (write-below-add-j-2 t)
-    (write-below-mul-j t)
-    (write-below-shared-slice-read-j t)
+    (write-below-child-at-requires t)
     (write-below-polygon-meets-requires t)
     (write-below-sub-write-below t)
     (write-below-write-below-requires t)

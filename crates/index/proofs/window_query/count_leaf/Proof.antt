@@ -1,23 +1,21 @@
--- `window_query::count_leaf` meets its contract; its loop is in WindowWalk.
+use borrow.Author.Needs.{needs}
 use Prim.Native.Nat.{_-_}
 use mathlib.Core.Logic.{⊎-elim}
-use borrow.Author.Needs.{needs}
-use Rattle.index.proofs.WalkLeaf.{leaf-count-fits}
 use Rattle.index.proofs.WindowWalk.{CountLeaf, count-start, count-miss, count-hit, count-end}
 use Rattle.index.proofs.window_query.count_leaf.Statement.{statement}
 use Rattle.index.proofs.window_query.count_leaf.Tie as tie
 
 abbrev Inv-loop : tie.InvT-loop
-Inv-loop p w n matches₀ i₀ matches i = CountLeaf w p i matches
+Inv-loop p w n matches₀ i₀ matches i = CountLeaf w p n i matches
 
 abbrev μ-loop : tie.MeasureT-loop
 μ-loop p w n matches₀ i₀ matches i = n - i
 
-shared-slice-read-n : tie.Need-shared-slice-read-n Inv-loop μ-loop
-shared-slice-read-n c = search needs
+item-count-requires : tie.Need-item-count-requires Inv-loop μ-loop
+item-count-requires c κs = search needs
 
 cast-n : tie.Need-cast-n Inv-loop μ-loop
-cast-n c = search leaf-count-fits
+cast-n c = search needs
 
 loop-holds : tie.Need-loop-holds Inv-loop μ-loop
 loop-holds c = search count-start
@@ -46,7 +44,7 @@ count-leaf-spec =
     (tie.spec
     Inv-loop
     μ-loop
-    shared-slice-read-n
+    item-count-requires
     cast-n
     loop-holds
     is-inside-requires

@@ -1,22 +1,21 @@
--- `window_query::write_leaf` meets its contract; its loop is in WindowWrite.
+use borrow.Author.Needs.{needs}
 use Prim.Native.Nat.{_-_}
 use mathlib.Core.Logic.{⊎-elim}
-use borrow.Author.Needs.{needs}
-use Rattle.index.proofs.WindowWrite.{WriteLeaf, leaf-room-fits, write-start, write-room, write-miss, write-hit, write-end}
+use Rattle.index.proofs.WindowWrite.{WriteLeaf, write-start, write-room, write-miss, write-hit, write-end}
 use Rattle.index.proofs.window_query.write_leaf.Statement.{statement}
 use Rattle.index.proofs.window_query.write_leaf.Tie as tie
 
 abbrev Inv-loop : tie.InvT-loop
-Inv-loop p w list₀ at n next₀ i₀ list next i = WriteLeaf w p list₀ at i list next
+Inv-loop p w list₀ at n next₀ i₀ list next i = WriteLeaf w p n list₀ at i list next
 
 abbrev μ-loop : tie.MeasureT-loop
 μ-loop p w list₀ at n next₀ i₀ list next i = n - i
 
-shared-slice-read-n : tie.Need-shared-slice-read-n Inv-loop μ-loop
-shared-slice-read-n c = search needs
+item-count-requires : tie.Need-item-count-requires Inv-loop μ-loop
+item-count-requires c κs = search needs
 
 cast-n : tie.Need-cast-n Inv-loop μ-loop
-cast-n c = search leaf-room-fits
+cast-n c = search needs
 
 loop-holds : tie.Need-loop-holds Inv-loop μ-loop
 loop-holds c = search write-start
@@ -51,7 +50,7 @@ write-leaf-spec =
     (tie.spec
     Inv-loop
     μ-loop
-    shared-slice-read-n
+    item-count-requires
     cast-n
     loop-holds
     is-inside-requires

@@ -1,7 +1,7 @@
 use borrow.Author.Needs.{needs}
 use native.Mathlib.Omega.{arith}
 use Rattle.insertion.proofs.DescentLaws.{at-leaf}
-use Rattle.insertion.proofs.DescentWays.{descend-routing, descend-stop, descend-few, place-cast, child-add, child-mul, child-in, child-room, descend-child, descend-on, descend-length}
+use Rattle.insertion.proofs.DescentWays.{descend-routing, descend-stop, descend-few, place-cast, place-few, child-room, descend-child, descend-on, descend-length}
 use Prim.Native.Nat.{ℕ, _<_}
 use borrow.Fn.Kinds.{In}
 use borrow.Fn.PlainCycle.{Measures, is, falls, and}
@@ -13,6 +13,7 @@ use Rattle.step2.proofs.choose.Reads as choose-reads
 use Rattle.emission.proofs.path_polygon.Reads as path-polygon-reads
 use Rattle.insertion.proofs.descent.+descend.{statement}
 use Rattle.insertion.proofs.descent.+descend.Tie.{close}
+use Rattle.layout.proofs.child_at.Reads as child-at-reads
 
 abbrev μ-descend : Measures 2 descend-kinds.ps ℕ
 μ-descend κs a = a .1 .0
@@ -28,6 +29,8 @@ descend-returns : (t : ℕ) → descend-lts.Need-returns (
   path-polygon-reads.Learnt,
   choose-reads.Asked,
   choose-reads.Learnt,
+  child-at-reads.Asked,
+  child-at-reads.Learnt,
   put-level-reads.Asked,
   put-level-reads.Learnt,
   descend-below t,
@@ -40,6 +43,8 @@ descend-mul-at : (t : ℕ) → descend-lts.Need-mul-at (
   path-polygon-reads.Learnt,
   choose-reads.Asked,
   choose-reads.Learnt,
+  child-at-reads.Asked,
+  child-at-reads.Learnt,
   put-level-reads.Asked,
   put-level-reads.Learnt,
   descend-below t,
@@ -52,6 +57,8 @@ descend-mul-k : (t : ℕ) → descend-lts.Need-mul-k (
   path-polygon-reads.Learnt,
   choose-reads.Asked,
   choose-reads.Learnt,
+  child-at-reads.Asked,
+  child-at-reads.Learnt,
   put-level-reads.Asked,
   put-level-reads.Learnt,
   descend-below t,
@@ -64,6 +71,8 @@ descend-slice-read-k : (t : ℕ) → descend-lts.Need-slice-read-k (
   path-polygon-reads.Learnt,
   choose-reads.Asked,
   choose-reads.Learnt,
+  child-at-reads.Asked,
+  child-at-reads.Learnt,
   put-level-reads.Asked,
   put-level-reads.Learnt,
   descend-below t,
@@ -76,6 +85,8 @@ descend-path-polygon-requires : (t : ℕ) → descend-lts.Need-path-polygon-requ
   path-polygon-reads.Learnt,
   choose-reads.Asked,
   choose-reads.Learnt,
+  child-at-reads.Asked,
+  child-at-reads.Learnt,
   put-level-reads.Asked,
   put-level-reads.Learnt,
   descend-below t,
@@ -88,6 +99,8 @@ descend-choose-requires : (t : ℕ) → descend-lts.Need-choose-requires (
   path-polygon-reads.Learnt,
   choose-reads.Asked,
   choose-reads.Learnt,
+  child-at-reads.Asked,
+  child-at-reads.Learnt,
   put-level-reads.Asked,
   put-level-reads.Learnt,
   descend-below t,
@@ -100,6 +113,8 @@ descend-enum-known-taken : (t : ℕ) → descend-lts.Need-enum-known-taken (
   path-polygon-reads.Learnt,
   choose-reads.Asked,
   choose-reads.Learnt,
+  child-at-reads.Asked,
+  child-at-reads.Learnt,
   put-level-reads.Asked,
   put-level-reads.Learnt,
   descend-below t,
@@ -112,6 +127,8 @@ descend-enum-told : (t : ℕ) → descend-lts.Need-enum-told (
   path-polygon-reads.Learnt,
   choose-reads.Asked,
   choose-reads.Learnt,
+  child-at-reads.Asked,
+  child-at-reads.Learnt,
   put-level-reads.Asked,
   put-level-reads.Learnt,
   descend-below t,
@@ -124,6 +141,8 @@ descend-same-length : (t : ℕ) → descend-lts.Need-same-length (
   path-polygon-reads.Learnt,
   choose-reads.Asked,
   choose-reads.Learnt,
+  child-at-reads.Asked,
+  child-at-reads.Learnt,
   put-level-reads.Asked,
   put-level-reads.Learnt,
   descend-below t,
@@ -136,6 +155,8 @@ descend-returns-2 : (t : ℕ) → descend-lts.Need-returns-2 (
   path-polygon-reads.Learnt,
   choose-reads.Asked,
   choose-reads.Learnt,
+  child-at-reads.Asked,
+  child-at-reads.Learnt,
   put-level-reads.Asked,
   put-level-reads.Learnt,
   descend-below t,
@@ -148,6 +169,8 @@ descend-cast-path : (t : ℕ) → descend-lts.Need-cast-path (
   path-polygon-reads.Learnt,
   choose-reads.Asked,
   choose-reads.Learnt,
+  child-at-reads.Asked,
+  child-at-reads.Learnt,
   put-level-reads.Asked,
   put-level-reads.Learnt,
   descend-below t,
@@ -160,6 +183,8 @@ descend-add-path : (t : ℕ) → descend-lts.Need-add-path (
   path-polygon-reads.Learnt,
   choose-reads.Asked,
   choose-reads.Learnt,
+  child-at-reads.Asked,
+  child-at-reads.Learnt,
   put-level-reads.Asked,
   put-level-reads.Learnt,
   descend-below t,
@@ -172,6 +197,8 @@ descend-mul-path : (t : ℕ) → descend-lts.Need-mul-path (
   path-polygon-reads.Learnt,
   choose-reads.Asked,
   choose-reads.Learnt,
+  child-at-reads.Asked,
+  child-at-reads.Learnt,
   put-level-reads.Asked,
   put-level-reads.Learnt,
   descend-below t,
@@ -184,6 +211,8 @@ descend-slice-write-path : (t : ℕ) → descend-lts.Need-slice-write-path (
   path-polygon-reads.Learnt,
   choose-reads.Asked,
   choose-reads.Learnt,
+  child-at-reads.Asked,
+  child-at-reads.Learnt,
   put-level-reads.Asked,
   put-level-reads.Learnt,
   descend-below t,
@@ -191,95 +220,27 @@ descend-slice-write-path : (t : ℕ) → descend-lts.Need-slice-write-path (
 ) (descend-at t) descend.Post
 descend-slice-write-path t c = search needs
 
-descend-cast-child : (t : ℕ) → descend-lts.Need-cast-child (
+descend-child-at-requires : (t : ℕ) → descend-lts.Need-child-at-requires (
   path-polygon-reads.Asked,
   path-polygon-reads.Learnt,
   choose-reads.Asked,
   choose-reads.Learnt,
+  child-at-reads.Asked,
+  child-at-reads.Learnt,
   put-level-reads.Asked,
   put-level-reads.Learnt,
   descend-below t,
   descend.Post,
 ) (descend-at t) descend.Post
-descend-cast-child t c = search needs
-
-descend-mul-child : (t : ℕ) → descend-lts.Need-mul-child (
-  path-polygon-reads.Asked,
-  path-polygon-reads.Learnt,
-  choose-reads.Asked,
-  choose-reads.Learnt,
-  put-level-reads.Asked,
-  put-level-reads.Learnt,
-  descend-below t,
-  descend.Post,
-) (descend-at t) descend.Post
-descend-mul-child t c = search needs
-
-descend-add-child : (t : ℕ) → descend-lts.Need-add-child (
-  path-polygon-reads.Asked,
-  path-polygon-reads.Learnt,
-  choose-reads.Asked,
-  choose-reads.Learnt,
-  put-level-reads.Asked,
-  put-level-reads.Learnt,
-  descend-below t,
-  descend.Post,
-) (descend-at t) descend.Post
-descend-add-child t c = search needs
-
-descend-add-child-2 : (t : ℕ) → descend-lts.Need-add-child-2 (
-  path-polygon-reads.Asked,
-  path-polygon-reads.Learnt,
-  choose-reads.Asked,
-  choose-reads.Learnt,
-  put-level-reads.Asked,
-  put-level-reads.Learnt,
-  descend-below t,
-  descend.Post,
-) (descend-at t) descend.Post
-descend-add-child-2 t c = search needs
-
-descend-add-child-3 : (t : ℕ) → descend-lts.Need-add-child-3 (
-  path-polygon-reads.Asked,
-  path-polygon-reads.Learnt,
-  choose-reads.Asked,
-  choose-reads.Learnt,
-  put-level-reads.Asked,
-  put-level-reads.Learnt,
-  descend-below t,
-  descend.Post,
-) (descend-at t) descend.Post
-descend-add-child-3 t c = search child-add
-
-descend-mul-child-2 : (t : ℕ) → descend-lts.Need-mul-child-2 (
-  path-polygon-reads.Asked,
-  path-polygon-reads.Learnt,
-  choose-reads.Asked,
-  choose-reads.Learnt,
-  put-level-reads.Asked,
-  put-level-reads.Learnt,
-  descend-below t,
-  descend.Post,
-) (descend-at t) descend.Post
-descend-mul-child-2 t c = search child-mul
-
-descend-shared-slice-read-child : (t : ℕ) → descend-lts.Need-shared-slice-read-child (
-  path-polygon-reads.Asked,
-  path-polygon-reads.Learnt,
-  choose-reads.Asked,
-  choose-reads.Learnt,
-  put-level-reads.Asked,
-  put-level-reads.Learnt,
-  descend-below t,
-  descend.Post,
-) (descend-at t) descend.Post
-descend-shared-slice-read-child t c = search child-in
+descend-child-at-requires t c κs = (search needs, search place-few)
 
 descend-sub-put-level : (t : ℕ) → descend-lts.Need-sub-put-level (
   path-polygon-reads.Asked,
   path-polygon-reads.Learnt,
   choose-reads.Asked,
   choose-reads.Learnt,
+  child-at-reads.Asked,
+  child-at-reads.Learnt,
   put-level-reads.Asked,
   put-level-reads.Learnt,
   descend-below t,
@@ -292,6 +253,8 @@ descend-put-level-requires : (t : ℕ) → descend-lts.Need-put-level-requires (
   path-polygon-reads.Learnt,
   choose-reads.Asked,
   choose-reads.Learnt,
+  child-at-reads.Asked,
+  child-at-reads.Learnt,
   put-level-reads.Asked,
   put-level-reads.Learnt,
   descend-below t,
@@ -304,6 +267,8 @@ descend-sub-descend : (t : ℕ) → descend-lts.Need-sub-descend (
   path-polygon-reads.Learnt,
   choose-reads.Asked,
   choose-reads.Learnt,
+  child-at-reads.Asked,
+  child-at-reads.Learnt,
   put-level-reads.Asked,
   put-level-reads.Learnt,
   descend-below t,
@@ -316,18 +281,22 @@ descend-descend-requires : (t : ℕ) → descend-lts.Need-descend-requires (
   path-polygon-reads.Learnt,
   choose-reads.Asked,
   choose-reads.Learnt,
+  child-at-reads.Asked,
+  child-at-reads.Learnt,
   put-level-reads.Asked,
   put-level-reads.Learnt,
   descend-below t,
   descend.Post,
 ) (descend-at t) descend.Post
-descend-descend-requires t c κs = (omega arith, search descend-child)
+descend-descend-requires t c κs = (omega arith, search (descend-child, c .before .before .before .put-level .ensures, c .before .before .before .before .before .child-at .ensures))
 
 descend-same-length-2 : (t : ℕ) → descend-lts.Need-same-length-2 (
   path-polygon-reads.Asked,
   path-polygon-reads.Learnt,
   choose-reads.Asked,
   choose-reads.Learnt,
+  child-at-reads.Asked,
+  child-at-reads.Learnt,
   put-level-reads.Asked,
   put-level-reads.Learnt,
   descend-below t,
@@ -340,6 +309,8 @@ descend-returns-3 : (t : ℕ) → descend-lts.Need-returns-3 (
   path-polygon-reads.Learnt,
   choose-reads.Asked,
   choose-reads.Learnt,
+  child-at-reads.Asked,
+  child-at-reads.Learnt,
   put-level-reads.Asked,
   put-level-reads.Learnt,
   descend-below t,
@@ -353,6 +324,8 @@ pub +descend-spec : {M : Type 1} → statement M
   path-polygon-reads.Learnt,
   choose-reads.Asked,
   choose-reads.Learnt,
+  child-at-reads.Asked,
+  child-at-reads.Learnt,
   put-level-reads.Asked,
   put-level-reads.Learnt,
   descend-below t,
@@ -374,13 +347,7 @@ pub +descend-spec : {M : Type 1} → statement M
     (descend-add-path t)
     (descend-mul-path t)
     (descend-slice-write-path t)
-    (descend-cast-child t)
-    (descend-mul-child t)
-    (descend-add-child t)
-    (descend-add-child-2 t)
-    (descend-add-child-3 t)
-    (descend-mul-child-2 t)
-    (descend-shared-slice-read-child t)
+    (descend-child-at-requires t)
     (descend-sub-put-level t)
     (descend-put-level-requires t)
     (descend-sub-descend t)

@@ -1,32 +1,11 @@
 use borrow.Author.Tests.{not-true, not-false}
-use Rattle.insertion.proofs.RootLaws.{root-in, root-rect, cell-x, cell-y, find-start, find-refused, find-length, find-plannable, find-planned, plan-length}
+use Rattle.insertion.proofs.RootLaws.{root-in, cell-x, cell-y, find-start, find-refused, find-length, find-plannable, find-planned, plan-length}
 use borrow.Author.Needs.{needs}
 use Rattle.insertion.proofs.insert_call.find_path.Statement.{statement}
 use Rattle.insertion.proofs.insert_call.find_path.Tie as tie
 
-mul-from : tie.Need-mul-from
-mul-from c = search needs
-
-add-from : tie.Need-add-from
-add-from c = search needs
-
-add-from-2 : tie.Need-add-from-2
-add-from-2 c = search needs
-
-mul-rect-at : tie.Need-mul-rect-at
-mul-rect-at c = search needs
-
-sub-rect-at : tie.Need-sub-rect-at
-sub-rect-at c = search root-in
-
-part-rect-at-start : tie.Need-part-rect-at-start
-part-rect-at-start c = search root-in
-
-part-rect-at-end : tie.Need-part-rect-at-end
-part-rect-at-end c = search needs
-
-rect-at-requires : tie.Need-rect-at-requires
-rect-at-requires c κs = search root-rect
+first-rect-requires : tie.Need-first-rect-requires
+first-rect-requires c κs = search root-in
 
 grow-requires : tie.Need-grow-requires
 grow-requires c κs = (search cell-x, search cell-y)
@@ -47,7 +26,7 @@ returns : tie.Need-returns
 returns c = (search (find-refused, not-true), search find-length)
 
 plan-requires : tie.Need-plan-requires
-plan-requires c κs = find-plannable _ _ _ _ (c .before .before .before .before .before .before .before .before .before .before .before .before .before .before .before .before .pre .0) _ _ _ _ (c .before .before .before .before .before .before .before .before .before .before .before .before .before .before .before .before .pre .1) (c .before .before .before .before .before .before .before .before .before .before .before .before .rect-at .ensures) (c .before .before .before .before .before .before .before .before .before .before .grow .ensures) _ (c .before .before .before .before .before .before .before .before .before .of .ensures) (c .before .before .before .before .before .before .before .before .put-level .ensures) _ _ (c .before .before .before .before .descend .ensures) (not-false _ (c .before .if1 .left))
+plan-requires c κs = find-plannable _ _ _ _ (c .before .before .before .before .before .before .before .before .before .before .before .before .before .before .before .pre .0) _ _ (c .before .before .before .before .before .before .before .before .before .before .before .before .before .before .before .pre .1) _ (c .before .before .before .before .before .before .before .before .put-level .ensures) _ (c .before .before .before .before .before .before .before .before .before .of .ensures) _ (c .before .before .before .before .before .before .before .before .before .before .grow .ensures) (c .before .before .before .before .before .before .before .before .before .before .before .before .first-rect .ensures) _ _ (c .before .before .before .before .descend .ensures) (not-false _ (c .before .if1 .left))
 
 same-length-2 : tie.Need-same-length-2
 same-length-2 c = search needs
@@ -59,14 +38,7 @@ pub find-path-spec : {M : Type 1} → statement M
 find-path-spec =
     tie.close
     (tie.spec
-    mul-from
-    add-from
-    add-from-2
-    mul-rect-at
-    sub-rect-at
-    part-rect-at-start
-    part-rect-at-end
-    rect-at-requires
+    first-rect-requires
     grow-requires
     of-requires
     put-level-requires

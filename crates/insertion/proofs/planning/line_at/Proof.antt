@@ -1,5 +1,4 @@
-use native.Mathlib.Omega.{arith}
-use Rattle.insertion.proofs.NodeBounds.{part-in, place-at, part-cast, part-mul, part-start, part-stop, part-bytes, part-ends, full-node, below-in}
+use Rattle.insertion.proofs.NodeBounds.{part-in, place-at, part-ends, full-node, below-in}
 use Rattle.insertion.proofs.LineLaws.{leaf-ready, leaf-found, node-ready, node-found}
 use borrow.Author.Needs.{needs}
 use Rattle.insertion.proofs.planning.line_at.Statement.{statement}
@@ -14,29 +13,8 @@ mul-k c = search needs
 shared-slice-read-k : tie.Need-shared-slice-read-k
 shared-slice-read-k c = search (part-in, full-node)
 
-cast-a : tie.Need-cast-a
-cast-a c = search (part-cast, full-node)
-
-mul-a : tie.Need-mul-a
-mul-a c = search (part-mul, full-node)
-
-add-a : tie.Need-add-a
-add-a c = search (part-start, full-node)
-
-add-e : tie.Need-add-e
-add-e c = search (part-stop, full-node)
-
-mul-leaf-line : tie.Need-mul-leaf-line
-mul-leaf-line c = search (part-bytes, full-node)
-
-sub-leaf-line : tie.Need-sub-leaf-line
-sub-leaf-line c = search needs
-
-part-leaf-line-start : tie.Need-part-leaf-line-start
-part-leaf-line-start c = search needs
-
-part-leaf-line-end : tie.Need-part-leaf-line-end
-part-leaf-line-end c = search (part-ends, full-node)
+part-at-requires : tie.Need-part-at-requires
+part-at-requires c κs = search (part-ends, full-node)
 
 leaf-line-requires : tie.Need-leaf-line-requires
 leaf-line-requires c κs = search leaf-ready
@@ -84,14 +62,7 @@ line-at-spec =
     mul-at
     mul-k
     shared-slice-read-k
-    cast-a
-    mul-a
-    add-a
-    add-e
-    mul-leaf-line
-    sub-leaf-line
-    part-leaf-line-start
-    part-leaf-line-end
+    part-at-requires
     leaf-line-requires
     returns
     add-place

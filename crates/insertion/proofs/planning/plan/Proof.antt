@@ -1,8 +1,7 @@
 use borrow.Author.Needs.{needs}
-use native.Mathlib.Omega.{arith}
 use Prim.Native.Nat.{_+_, _-_}
-use Rattle.insertion.proofs.PlanBounds.{plan-part, plan-line, plan-cast, plan-mul, plan-from, plan-count, plan-bytes, plan-in, plan-next}
-use Rattle.insertion.proofs.PlanLoop.{Planning, plan-start, plan-node, plan-full, plan-again, plan-stop, plan-end}
+use Rattle.insertion.proofs.PlanBounds.{plan-part, plan-line, plan-in, plan-next}
+use Rattle.insertion.proofs.PlanLoop.{Planning, plan-start, plan-full, plan-again, plan-stop, plan-end}
 use Rattle.insertion.proofs.planning.plan.Statement.{statement}
 use Rattle.insertion.proofs.planning.plan.Tie as tie
 
@@ -27,23 +26,8 @@ mul-k c = search needs
 slice-read-k : tie.Need-slice-read-k Inv-loop μ-loop
 slice-read-k c = search plan-part
 
-cast-if1 : tie.Need-cast-if1 Inv-loop μ-loop
-cast-if1 c = search plan-cast
-
-mul-if1 : tie.Need-mul-if1 Inv-loop μ-loop
-mul-if1 c = search plan-mul
-
-add-if1 : tie.Need-add-if1 Inv-loop μ-loop
-add-if1 c = search plan-from
-
-add-if1-2 : tie.Need-add-if1-2 Inv-loop μ-loop
-add-if1-2 c = search plan-count
-
-mul-if1-2 : tie.Need-mul-if1-2 Inv-loop μ-loop
-mul-if1-2 c = search plan-bytes
-
-shared-slice-read-if1 : tie.Need-shared-slice-read-if1 Inv-loop μ-loop
-shared-slice-read-if1 c = search plan-in
+count-at-requires : tie.Need-count-at-requires Inv-loop μ-loop
+count-at-requires c κs = search plan-in
 
 same-length : tie.Need-same-length Inv-loop μ-loop
 same-length c = search needs
@@ -89,12 +73,7 @@ plan-spec =
     mul-at
     mul-k
     slice-read-k
-    cast-if1
-    mul-if1
-    add-if1
-    add-if1-2
-    mul-if1-2
-    shared-slice-read-if1
+    count-at-requires
     same-length
     returns
     line-at-requires

@@ -8,6 +8,7 @@ use borrow.Fn.PlainCycle.{Measures, is, falls, and}
 use Rattle.removal.proofs.below.remove_below.Reads as remove-below
 use Rattle.removal.proofs.below.remove_below.Kinds as remove-below-kinds
 use Rattle.removal.proofs.below.+remove_below.Lts-remove_below as remove-below-lts
+use Rattle.layout.proofs.part_at.Reads as part-at-reads
 use Rattle.removal.proofs.below.take_branch.Reads as take-branch-reads
 use Rattle.removal.proofs.below.take_entry.Reads as take-entry-reads
 use Rattle.removal.proofs.place.child_place.Reads as child-place-reads
@@ -30,7 +31,9 @@ remove-below-below t =
     (falls 1 remove-below-kinds.ps _<_ μ-remove-below t)
     remove-below.Pre
 
-remove-below-mul-a : (t : ℕ) → remove-below-lts.Need-mul-a (
+remove-below-part-at-requires : (t : ℕ) → remove-below-lts.Need-part-at-requires (
+  part-at-reads.Asked,
+  part-at-reads.Learnt,
   entry-place-reads.Asked,
   entry-place-reads.Learnt,
   take-entry-reads.Asked,
@@ -42,93 +45,11 @@ remove-below-mul-a : (t : ℕ) → remove-below-lts.Need-mul-a (
   take-branch-reads.Asked,
   take-branch-reads.Learnt,
 ) (remove-below-at t) remove-below.Post
-remove-below-mul-a t c = search needs
-
-remove-below-add-a : (t : ℕ) → remove-below-lts.Need-add-a (
-  entry-place-reads.Asked,
-  entry-place-reads.Learnt,
-  take-entry-reads.Asked,
-  take-entry-reads.Learnt,
-  child-place-reads.Asked,
-  child-place-reads.Learnt,
-  remove-below-below t,
-  remove-below.Post,
-  take-branch-reads.Asked,
-  take-branch-reads.Learnt,
-) (remove-below-at t) remove-below.Post
-remove-below-add-a t c = search needs
-
-remove-below-add-e : (t : ℕ) → remove-below-lts.Need-add-e (
-  entry-place-reads.Asked,
-  entry-place-reads.Learnt,
-  take-entry-reads.Asked,
-  take-entry-reads.Learnt,
-  child-place-reads.Asked,
-  child-place-reads.Learnt,
-  remove-below-below t,
-  remove-below.Post,
-  take-branch-reads.Asked,
-  take-branch-reads.Learnt,
-) (remove-below-at t) remove-below.Post
-remove-below-add-e t c = search needs
-
-remove-below-mul-entry-place : (t : ℕ) → remove-below-lts.Need-mul-entry-place (
-  entry-place-reads.Asked,
-  entry-place-reads.Learnt,
-  take-entry-reads.Asked,
-  take-entry-reads.Learnt,
-  child-place-reads.Asked,
-  child-place-reads.Learnt,
-  remove-below-below t,
-  remove-below.Post,
-  take-branch-reads.Asked,
-  take-branch-reads.Learnt,
-) (remove-below-at t) remove-below.Post
-remove-below-mul-entry-place t c = search needs
-
-remove-below-sub-entry-place : (t : ℕ) → remove-below-lts.Need-sub-entry-place (
-  entry-place-reads.Asked,
-  entry-place-reads.Learnt,
-  take-entry-reads.Asked,
-  take-entry-reads.Learnt,
-  child-place-reads.Asked,
-  child-place-reads.Learnt,
-  remove-below-below t,
-  remove-below.Post,
-  take-branch-reads.Asked,
-  take-branch-reads.Learnt,
-) (remove-below-at t) remove-below.Post
-remove-below-sub-entry-place t c = search needs
-
-remove-below-part-entry-place-start : (t : ℕ) → remove-below-lts.Need-part-entry-place-start (
-  entry-place-reads.Asked,
-  entry-place-reads.Learnt,
-  take-entry-reads.Asked,
-  take-entry-reads.Learnt,
-  child-place-reads.Asked,
-  child-place-reads.Learnt,
-  remove-below-below t,
-  remove-below.Post,
-  take-branch-reads.Asked,
-  take-branch-reads.Learnt,
-) (remove-below-at t) remove-below.Post
-remove-below-part-entry-place-start t c = search needs
-
-remove-below-part-entry-place-end : (t : ℕ) → remove-below-lts.Need-part-entry-place-end (
-  entry-place-reads.Asked,
-  entry-place-reads.Learnt,
-  take-entry-reads.Asked,
-  take-entry-reads.Learnt,
-  child-place-reads.Asked,
-  child-place-reads.Learnt,
-  remove-below-below t,
-  remove-below.Post,
-  take-branch-reads.Asked,
-  take-branch-reads.Learnt,
-) (remove-below-at t) remove-below.Post
-remove-below-part-entry-place-end t c = search needs
+remove-below-part-at-requires t c κs = search needs
 
 remove-below-entry-place-requires : (t : ℕ) → remove-below-lts.Need-entry-place-requires (
+  part-at-reads.Asked,
+  part-at-reads.Learnt,
   entry-place-reads.Asked,
   entry-place-reads.Learnt,
   take-entry-reads.Asked,
@@ -143,6 +64,8 @@ remove-below-entry-place-requires : (t : ℕ) → remove-below-lts.Need-entry-pl
 remove-below-entry-place-requires t c κs = search below-holds
 
 remove-below-take-entry-requires : (t : ℕ) → remove-below-lts.Need-take-entry-requires (
+  part-at-reads.Asked,
+  part-at-reads.Learnt,
   entry-place-reads.Asked,
   entry-place-reads.Learnt,
   take-entry-reads.Asked,
@@ -157,6 +80,8 @@ remove-below-take-entry-requires : (t : ℕ) → remove-below-lts.Need-take-entr
 remove-below-take-entry-requires t c κs = search below-takes
 
 remove-below-same-length : (t : ℕ) → remove-below-lts.Need-same-length (
+  part-at-reads.Asked,
+  part-at-reads.Learnt,
   entry-place-reads.Asked,
   entry-place-reads.Learnt,
   take-entry-reads.Asked,
@@ -171,6 +96,8 @@ remove-below-same-length : (t : ℕ) → remove-below-lts.Need-same-length (
 remove-below-same-length t c = search needs
 
 remove-below-returns : (t : ℕ) → remove-below-lts.Need-returns (
+  part-at-reads.Asked,
+  part-at-reads.Learnt,
   entry-place-reads.Asked,
   entry-place-reads.Learnt,
   take-entry-reads.Asked,
@@ -185,6 +112,8 @@ remove-below-returns : (t : ℕ) → remove-below-lts.Need-returns (
 remove-below-returns t c = search below-leaf
 
 remove-below-child-place-requires : (t : ℕ) → remove-below-lts.Need-child-place-requires (
+  part-at-reads.Asked,
+  part-at-reads.Learnt,
   entry-place-reads.Asked,
   entry-place-reads.Learnt,
   take-entry-reads.Asked,
@@ -199,6 +128,8 @@ remove-below-child-place-requires : (t : ℕ) → remove-below-lts.Need-child-pl
 remove-below-child-place-requires t c κs = search below-children
 
 remove-below-sub-remove-below : (t : ℕ) → remove-below-lts.Need-sub-remove-below (
+  part-at-reads.Asked,
+  part-at-reads.Learnt,
   entry-place-reads.Asked,
   entry-place-reads.Learnt,
   take-entry-reads.Asked,
@@ -213,6 +144,8 @@ remove-below-sub-remove-below : (t : ℕ) → remove-below-lts.Need-sub-remove-b
 remove-below-sub-remove-below t c = search needs
 
 remove-below-remove-below-requires : (t : ℕ) → remove-below-lts.Need-remove-below-requires (
+  part-at-reads.Asked,
+  part-at-reads.Learnt,
   entry-place-reads.Asked,
   entry-place-reads.Learnt,
   take-entry-reads.Asked,
@@ -227,6 +160,8 @@ remove-below-remove-below-requires : (t : ℕ) → remove-below-lts.Need-remove-
 remove-below-remove-below-requires t c κs = (omega arith, search below-child)
 
 remove-below-same-length-2 : (t : ℕ) → remove-below-lts.Need-same-length-2 (
+  part-at-reads.Asked,
+  part-at-reads.Learnt,
   entry-place-reads.Asked,
   entry-place-reads.Learnt,
   take-entry-reads.Asked,
@@ -241,6 +176,8 @@ remove-below-same-length-2 : (t : ℕ) → remove-below-lts.Need-same-length-2 (
 remove-below-same-length-2 t c = search needs
 
 remove-below-returns-2 : (t : ℕ) → remove-below-lts.Need-returns-2 (
+  part-at-reads.Asked,
+  part-at-reads.Learnt,
   entry-place-reads.Asked,
   entry-place-reads.Learnt,
   take-entry-reads.Asked,
@@ -255,6 +192,8 @@ remove-below-returns-2 : (t : ℕ) → remove-below-lts.Need-returns-2 (
 remove-below-returns-2 t c = search below-stays
 
 remove-below-take-branch-requires : (t : ℕ) → remove-below-lts.Need-take-branch-requires (
+  part-at-reads.Asked,
+  part-at-reads.Learnt,
   entry-place-reads.Asked,
   entry-place-reads.Learnt,
   take-entry-reads.Asked,
@@ -269,6 +208,8 @@ remove-below-take-branch-requires : (t : ℕ) → remove-below-lts.Need-take-bra
 remove-below-take-branch-requires t c κs = search below-takes-branch
 
 remove-below-same-length-3 : (t : ℕ) → remove-below-lts.Need-same-length-3 (
+  part-at-reads.Asked,
+  part-at-reads.Learnt,
   entry-place-reads.Asked,
   entry-place-reads.Learnt,
   take-entry-reads.Asked,
@@ -283,6 +224,8 @@ remove-below-same-length-3 : (t : ℕ) → remove-below-lts.Need-same-length-3 (
 remove-below-same-length-3 t c = search needs
 
 remove-below-returns-3 : (t : ℕ) → remove-below-lts.Need-returns-3 (
+  part-at-reads.Asked,
+  part-at-reads.Learnt,
   entry-place-reads.Asked,
   entry-place-reads.Learnt,
   take-entry-reads.Asked,
@@ -298,6 +241,8 @@ remove-below-returns-3 t c = search below-node
 
 pub +remove-below-spec : {M : Type 1} → statement M
 +remove-below-spec = close μ-remove-below λ t. remove-below-lts.spec (
+  part-at-reads.Asked,
+  part-at-reads.Learnt,
   entry-place-reads.Asked,
   entry-place-reads.Learnt,
   take-entry-reads.Asked,
@@ -311,13 +256,7 @@ pub +remove-below-spec : {M : Type 1} → statement M
 )
     (remove-below-at t)
     remove-below.Post
-    (remove-below-mul-a t)
-    (remove-below-add-a t)
-    (remove-below-add-e t)
-    (remove-below-mul-entry-place t)
-    (remove-below-sub-entry-place t)
-    (remove-below-part-entry-place-start t)
-    (remove-below-part-entry-place-end t)
+    (remove-below-part-at-requires t)
     (remove-below-entry-place-requires t)
     (remove-below-take-entry-requires t)
     (remove-below-same-length t)

@@ -1,31 +1,19 @@
 -- `place::child_place` meets its contract; its loop is in PlaceLoops.
 use Prim.Native.Nat.{_-_}
 use borrow.Author.Needs.{needs}
-use Rattle.index.specs.Walks.{countAt}
-use Rattle.removal.proofs.PlaceLoops.{SeekChild, seek-child-start, seek-polygon, seek-fits, seek-child-again, seek-child-found}
+use Rattle.memory.specs.Layout.{countAt}
+use Rattle.removal.proofs.PlaceLoops.{SeekChild, seek-child-start, seek-polygon, seek-fits, seek-child-few, seek-child-again, seek-child-found}
 use Rattle.removal.proofs.place.child_place.Statement.{statement}
 use Rattle.removal.proofs.place.child_place.Tie as tie
 
 abbrev Inv-loop : tie.InvT-loop
-Inv-loop m lo k c a at₀ low₀ part₀ at low part = SeekChild m lo k c at low part
+Inv-loop m lo k c at₀ low₀ part₀ at low part = SeekChild m lo k c at low part
 
 abbrev μ-loop : tie.MeasureT-loop
-μ-loop m lo k c a at₀ low₀ part₀ at low part = countAt m k - at
+μ-loop m lo k c at₀ low₀ part₀ at low part = countAt m k - at
 
-mul-a : tie.Need-mul-a Inv-loop μ-loop
-mul-a c = search needs
-
-add-a : tie.Need-add-a Inv-loop μ-loop
-add-a c = search needs
-
-add-a-2 : tie.Need-add-a-2 Inv-loop μ-loop
-add-a-2 c = search needs
-
-mul-part : tie.Need-mul-part Inv-loop μ-loop
-mul-part c = search needs
-
-shared-slice-read-part : tie.Need-shared-slice-read-part Inv-loop μ-loop
-shared-slice-read-part c = search needs
+child-at-requires : tie.Need-child-at-requires Inv-loop μ-loop
+child-at-requires c κs = search needs
 
 loop-holds : tie.Need-loop-holds Inv-loop μ-loop
 loop-holds c = search seek-child-start
@@ -39,14 +27,8 @@ add-at c = search needs
 add-low : tie.Need-add-low Inv-loop μ-loop
 add-low c = search seek-fits
 
-add-part : tie.Need-add-part Inv-loop μ-loop
-add-part c = search needs
-
-mul-part-2 : tie.Need-mul-part-2 Inv-loop μ-loop
-mul-part-2 c = search needs
-
-shared-slice-read-part-2 : tie.Need-shared-slice-read-part-2 Inv-loop μ-loop
-shared-slice-read-part-2 c = search needs
+child-at-requires-2 : tie.Need-child-at-requires-2 Inv-loop μ-loop
+child-at-requires-2 c κs = (search needs, search seek-child-few)
 
 loop-less : tie.Need-loop-less Inv-loop μ-loop
 loop-less c = search needs
@@ -63,18 +45,12 @@ child-place-spec =
     (tie.spec
     Inv-loop
     μ-loop
-    mul-a
-    add-a
-    add-a-2
-    mul-part
-    shared-slice-read-part
+    child-at-requires
     loop-holds
     polygon-has-requires
     add-at
     add-low
-    add-part
-    mul-part-2
-    shared-slice-read-part-2
+    child-at-requires-2
     loop-less
     loop-again
     returns)

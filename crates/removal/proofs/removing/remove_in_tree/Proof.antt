@@ -1,6 +1,6 @@
 -- `removing::remove_in_tree` meets its contract; its ways out are in TreeRemoved.
 use Rattle.index.proofs.TreeWalk.{tree-walkable}
-use Rattle.removal.proofs.TreeRemoved.{height-in, root-in, not-held, held-some, tree-removable, tree-left, tree-gone}
+use Rattle.removal.proofs.TreeRemoved.{head-in, not-held, held-some, tree-removable, tree-left, tree-gone}
 use borrow.Author.Needs.{needs}
 use Rattle.removal.proofs.removing.remove_in_tree.Statement.{statement}
 use Rattle.removal.proofs.removing.remove_in_tree.Tie as tie
@@ -29,11 +29,8 @@ same-length-2 c = search needs
 returns-2 : tie.Need-returns-2
 returns-2 c = search tree-left
 
-slice-write-m : tie.Need-slice-write-m
-slice-write-m c = search height-in
-
-slice-write-m-2 : tie.Need-slice-write-m-2
-slice-write-m-2 c = search root-in
+no-tree-requires : tie.Need-no-tree-requires
+no-tree-requires c κs = search head-in
 
 same-length-3 : tie.Need-same-length-3
 same-length-3 c = search needs
@@ -53,7 +50,6 @@ remove-in-tree-spec =
     remove-below-requires
     same-length-2
     returns-2
-    slice-write-m
-    slice-write-m-2
+    no-tree-requires
     same-length-3
     returns-3)

@@ -4,8 +4,8 @@ use Rattle.split_line.proofs.SumLaws.{product-x-fits, product-y-fits, s
 use Rattle.split_line.proofs.leaf.leaf_line.Statement.{statement}
 use Rattle.split_line.proofs.leaf.leaf_line.Tie as tie
 
-shared-slice-read-n : tie.Need-shared-slice-read-n
-shared-slice-read-n c = search needs
+item-count-requires : tie.Need-item-count-requires
+item-count-requires c κs = search needs
 
 cast-n : tie.Need-cast-n
 cast-n c = search needs
@@ -65,7 +65,7 @@ pub leaf-line-spec : {M : Type 1} → statement M
 leaf-line-spec =
     tie.close
     (tie.spec
-    shared-slice-read-n
+    item-count-requires
     cast-n
     add-n
     leaf-sums-requires

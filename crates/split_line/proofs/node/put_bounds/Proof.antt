@@ -6,50 +6,28 @@ use Rattle.split_line.proofs.node.put_bounds.Statement.{statement}
 use Rattle.split_line.proofs.node.put_bounds.Tie as tie
 
 abbrev Inv-loop : tie.InvT-loop
-Inv-loop m level lo k place below c list₀ a n next₀ low₀ i₀ list next low i = AtBranch (level - 1) m level lo k place below c i low list next
+Inv-loop m level lo k place below c list₀ n next₀ low₀ i₀ list next low i = AtBranch (level - 1) m level lo k place below c n i low list next
 
 abbrev μ-loop : tie.MeasureT-loop
-μ-loop m level lo k place below c list₀ a n next₀ low₀ i₀ list next low i = n - i
+μ-loop m level lo k place below c list₀ n next₀ low₀ i₀ list next low i = n - i
 
-mul-a : tie.Need-mul-a Inv-loop μ-loop
-mul-a c = search needs
-
-add-a : tie.Need-add-a Inv-loop μ-loop
-add-a c = search needs
-
-add-n : tie.Need-add-n Inv-loop μ-loop
-add-n c = search needs
-
-mul-n : tie.Need-mul-n Inv-loop μ-loop
-mul-n c = search needs
-
-shared-slice-read-n : tie.Need-shared-slice-read-n Inv-loop μ-loop
-shared-slice-read-n c = search needs
+count-at-requires : tie.Need-count-at-requires Inv-loop μ-loop
+count-at-requires c κs = search needs
 
 loop-holds : tie.Need-loop-holds Inv-loop μ-loop
 loop-holds c = search branch-start
 
-add-j : tie.Need-add-j Inv-loop μ-loop
-add-j c = search needs
+cast-child-at : tie.Need-cast-child-at Inv-loop μ-loop
+cast-child-at c = search needs
 
-cast-j : tie.Need-cast-j Inv-loop μ-loop
-cast-j c = search needs
-
-add-j-2 : tie.Need-add-j-2 Inv-loop μ-loop
-add-j-2 c = search needs
-
-mul-j : tie.Need-mul-j Inv-loop μ-loop
-mul-j c = search needs
-
-shared-slice-read-j : tie.Need-shared-slice-read-j Inv-loop μ-loop
-shared-slice-read-j c = search needs
+child-at-requires : tie.Need-child-at-requires Inv-loop μ-loop
+child-at-requires c κs = search needs
 
 sub-put-branch : tie.Need-sub-put-branch Inv-loop μ-loop
 sub-put-branch c = search needs
 
 put-branch-requires : tie.Need-put-branch-requires Inv-loop μ-loop
-put-branch-requires c κs =
-    branch-here _ _ _ _ _ _ _ _ _ _ _ _ (c .before .before .before .loop .inv) (c .before .before .loop-test .taken)
+put-branch-requires c κs = search branch-here
 
 add-low : tie.Need-add-low Inv-loop μ-loop
 add-low c = search branch-fits
@@ -75,17 +53,10 @@ put-bounds-spec =
     (tie.spec
     Inv-loop
     μ-loop
-    mul-a
-    add-a
-    add-n
-    mul-n
-    shared-slice-read-n
+    count-at-requires
     loop-holds
-    add-j
-    cast-j
-    add-j-2
-    mul-j
-    shared-slice-read-j
+    cast-child-at
+    child-at-requires
     sub-put-branch
     put-branch-requires
     add-low

@@ -2,7 +2,6 @@
 use Prim.Native.Nat.{ℕ, _-_, _<_}
 use native.Mathlib.Omega.{arith}
 use borrow.Author.Needs.{needs}
-use Rattle.index.proofs.WalkRows.{items-fit}
 use Rattle.index.proofs.WalkLoop.{child-fits}
 use Rattle.split_line.proofs.ReachWalk.{ReachLoop, reach-leaf, reach-of-leaf, reach-start, reach-child, reach-again, reach-end}
 use borrow.Fn.Kinds.{In}
@@ -10,8 +9,11 @@ use borrow.Fn.PlainCycle.{Measures, is, falls, and}
 use Rattle.split_line.proofs.reach.reach_under.Reads as reach-under
 use Rattle.split_line.proofs.reach.reach_under.Kinds as reach-under-kinds
 use Rattle.split_line.proofs.reach.+reach_under.Lts-reach_under as reach-under-lts
-use Rattle.split_line.proofs.reach.Reach.join.Reads as join-reads
+use Rattle.layout.proofs.child_at.Reads as child-at-reads
+use Rattle.layout.proofs.count_at.Reads as count-at-reads
+use Rattle.layout.proofs.part_at.Reads as part-at-reads
 use Rattle.split_line.proofs.reach.Reach.empty.Reads as empty-reads
+use Rattle.split_line.proofs.reach.Reach.join.Reads as join-reads
 use Rattle.split_line.proofs.reach.reach_in_leaf.Reads as reach-in-leaf-reads
 use Rattle.split_line.proofs.reach.+reach_under.{statement}
 use Rattle.split_line.proofs.reach.+reach_under.Tie.{close}
@@ -28,100 +30,40 @@ reach-under-below t =
     and 2 reach-under-kinds.ps (falls 2 reach-under-kinds.ps _<_ μ-reach-under t) reach-under.Pre
 
 abbrev reach-under-Inv-loop : reach-under-lts.InvT-loop
-reach-under-Inv-loop m level lo k sides a e n reach₀ low₀ i₀ reach low i = ReachLoop sides level m lo k i low reach
+reach-under-Inv-loop m level lo k sides n reach₀ low₀ i₀ reach low i = ReachLoop sides level m lo k n i low reach
 
 abbrev reach-under-μ-loop : reach-under-lts.MeasureT-loop
-reach-under-μ-loop m level lo k sides a e n reach₀ low₀ i₀ reach low i = n - i
+reach-under-μ-loop m level lo k sides n reach₀ low₀ i₀ reach low i = n - i
 
-reach-under-mul-a : (t : ℕ) → reach-under-lts.Need-mul-a (
+reach-under-part-at-requires : (t : ℕ) → reach-under-lts.Need-part-at-requires (
+  part-at-reads.Asked,
+  part-at-reads.Learnt,
   reach-in-leaf-reads.Asked,
   reach-in-leaf-reads.Learnt,
+  count-at-reads.Asked,
+  count-at-reads.Learnt,
   empty-reads.Asked,
   empty-reads.Learnt,
+  child-at-reads.Asked,
+  child-at-reads.Learnt,
   reach-under-below t,
   reach-under.Post,
   join-reads.Asked,
   join-reads.Learnt,
 ) (reach-under-at t) reach-under.Post reach-under-Inv-loop reach-under-μ-loop
-reach-under-mul-a t c = search needs
-
-reach-under-add-a : (t : ℕ) → reach-under-lts.Need-add-a (
-  reach-in-leaf-reads.Asked,
-  reach-in-leaf-reads.Learnt,
-  empty-reads.Asked,
-  empty-reads.Learnt,
-  reach-under-below t,
-  reach-under.Post,
-  join-reads.Asked,
-  join-reads.Learnt,
-) (reach-under-at t) reach-under.Post reach-under-Inv-loop reach-under-μ-loop
-reach-under-add-a t c = search needs
-
-reach-under-add-e : (t : ℕ) → reach-under-lts.Need-add-e (
-  reach-in-leaf-reads.Asked,
-  reach-in-leaf-reads.Learnt,
-  empty-reads.Asked,
-  empty-reads.Learnt,
-  reach-under-below t,
-  reach-under.Post,
-  join-reads.Asked,
-  join-reads.Learnt,
-) (reach-under-at t) reach-under.Post reach-under-Inv-loop reach-under-μ-loop
-reach-under-add-e t c = search needs
-
-reach-under-mul-reach-in-leaf : (t : ℕ) → reach-under-lts.Need-mul-reach-in-leaf (
-  reach-in-leaf-reads.Asked,
-  reach-in-leaf-reads.Learnt,
-  empty-reads.Asked,
-  empty-reads.Learnt,
-  reach-under-below t,
-  reach-under.Post,
-  join-reads.Asked,
-  join-reads.Learnt,
-) (reach-under-at t) reach-under.Post reach-under-Inv-loop reach-under-μ-loop
-reach-under-mul-reach-in-leaf t c = search needs
-
-reach-under-sub-reach-in-leaf : (t : ℕ) → reach-under-lts.Need-sub-reach-in-leaf (
-  reach-in-leaf-reads.Asked,
-  reach-in-leaf-reads.Learnt,
-  empty-reads.Asked,
-  empty-reads.Learnt,
-  reach-under-below t,
-  reach-under.Post,
-  join-reads.Asked,
-  join-reads.Learnt,
-) (reach-under-at t) reach-under.Post reach-under-Inv-loop reach-under-μ-loop
-reach-under-sub-reach-in-leaf t c = search needs
-
-reach-under-part-reach-in-leaf-start : (t : ℕ) → reach-under-lts.Need-part-reach-in-leaf-start (
-  reach-in-leaf-reads.Asked,
-  reach-in-leaf-reads.Learnt,
-  empty-reads.Asked,
-  empty-reads.Learnt,
-  reach-under-below t,
-  reach-under.Post,
-  join-reads.Asked,
-  join-reads.Learnt,
-) (reach-under-at t) reach-under.Post reach-under-Inv-loop reach-under-μ-loop
-reach-under-part-reach-in-leaf-start t c = search needs
-
-reach-under-part-reach-in-leaf-end : (t : ℕ) → reach-under-lts.Need-part-reach-in-leaf-end (
-  reach-in-leaf-reads.Asked,
-  reach-in-leaf-reads.Learnt,
-  empty-reads.Asked,
-  empty-reads.Learnt,
-  reach-under-below t,
-  reach-under.Post,
-  join-reads.Asked,
-  join-reads.Learnt,
-) (reach-under-at t) reach-under.Post reach-under-Inv-loop reach-under-μ-loop
-reach-under-part-reach-in-leaf-end t c = search needs
+reach-under-part-at-requires t c κs = search needs
 
 reach-under-reach-in-leaf-requires : (t : ℕ) → reach-under-lts.Need-reach-in-leaf-requires (
+  part-at-reads.Asked,
+  part-at-reads.Learnt,
   reach-in-leaf-reads.Asked,
   reach-in-leaf-reads.Learnt,
+  count-at-reads.Asked,
+  count-at-reads.Learnt,
   empty-reads.Asked,
   empty-reads.Learnt,
+  child-at-reads.Asked,
+  child-at-reads.Learnt,
   reach-under-below t,
   reach-under.Post,
   join-reads.Asked,
@@ -130,10 +72,16 @@ reach-under-reach-in-leaf-requires : (t : ℕ) → reach-under-lts.Need-reach-in
 reach-under-reach-in-leaf-requires t c κs = search reach-leaf
 
 reach-under-returns : (t : ℕ) → reach-under-lts.Need-returns (
+  part-at-reads.Asked,
+  part-at-reads.Learnt,
   reach-in-leaf-reads.Asked,
   reach-in-leaf-reads.Learnt,
+  count-at-reads.Asked,
+  count-at-reads.Learnt,
   empty-reads.Asked,
   empty-reads.Learnt,
+  child-at-reads.Asked,
+  child-at-reads.Learnt,
   reach-under-below t,
   reach-under.Post,
   join-reads.Asked,
@@ -141,59 +89,53 @@ reach-under-returns : (t : ℕ) → reach-under-lts.Need-returns (
 ) (reach-under-at t) reach-under.Post reach-under-Inv-loop reach-under-μ-loop
 reach-under-returns t c = search reach-of-leaf
 
-reach-under-add-n : (t : ℕ) → reach-under-lts.Need-add-n (
+reach-under-count-at-requires : (t : ℕ) → reach-under-lts.Need-count-at-requires (
+  part-at-reads.Asked,
+  part-at-reads.Learnt,
   reach-in-leaf-reads.Asked,
   reach-in-leaf-reads.Learnt,
+  count-at-reads.Asked,
+  count-at-reads.Learnt,
   empty-reads.Asked,
   empty-reads.Learnt,
+  child-at-reads.Asked,
+  child-at-reads.Learnt,
   reach-under-below t,
   reach-under.Post,
   join-reads.Asked,
   join-reads.Learnt,
 ) (reach-under-at t) reach-under.Post reach-under-Inv-loop reach-under-μ-loop
-reach-under-add-n t c = search needs
-
-reach-under-mul-n : (t : ℕ) → reach-under-lts.Need-mul-n (
-  reach-in-leaf-reads.Asked,
-  reach-in-leaf-reads.Learnt,
-  empty-reads.Asked,
-  empty-reads.Learnt,
-  reach-under-below t,
-  reach-under.Post,
-  join-reads.Asked,
-  join-reads.Learnt,
-) (reach-under-at t) reach-under.Post reach-under-Inv-loop reach-under-μ-loop
-reach-under-mul-n t c = search needs
-
-reach-under-shared-slice-read-n : (t : ℕ) → reach-under-lts.Need-shared-slice-read-n (
-  reach-in-leaf-reads.Asked,
-  reach-in-leaf-reads.Learnt,
-  empty-reads.Asked,
-  empty-reads.Learnt,
-  reach-under-below t,
-  reach-under.Post,
-  join-reads.Asked,
-  join-reads.Learnt,
-) (reach-under-at t) reach-under.Post reach-under-Inv-loop reach-under-μ-loop
-reach-under-shared-slice-read-n t c = search needs
+reach-under-count-at-requires t c κs = search needs
 
 reach-under-cast-n : (t : ℕ) → reach-under-lts.Need-cast-n (
+  part-at-reads.Asked,
+  part-at-reads.Learnt,
   reach-in-leaf-reads.Asked,
   reach-in-leaf-reads.Learnt,
+  count-at-reads.Asked,
+  count-at-reads.Learnt,
   empty-reads.Asked,
   empty-reads.Learnt,
+  child-at-reads.Asked,
+  child-at-reads.Learnt,
   reach-under-below t,
   reach-under.Post,
   join-reads.Asked,
   join-reads.Learnt,
 ) (reach-under-at t) reach-under.Post reach-under-Inv-loop reach-under-μ-loop
-reach-under-cast-n t c = search items-fit
+reach-under-cast-n t c = search needs
 
 reach-under-empty-requires : (t : ℕ) → reach-under-lts.Need-empty-requires (
+  part-at-reads.Asked,
+  part-at-reads.Learnt,
   reach-in-leaf-reads.Asked,
   reach-in-leaf-reads.Learnt,
+  count-at-reads.Asked,
+  count-at-reads.Learnt,
   empty-reads.Asked,
   empty-reads.Learnt,
+  child-at-reads.Asked,
+  child-at-reads.Learnt,
   reach-under-below t,
   reach-under.Post,
   join-reads.Asked,
@@ -202,10 +144,16 @@ reach-under-empty-requires : (t : ℕ) → reach-under-lts.Need-empty-requires (
 reach-under-empty-requires t c κs = search needs
 
 reach-under-loop-holds : (t : ℕ) → reach-under-lts.Need-loop-holds (
+  part-at-reads.Asked,
+  part-at-reads.Learnt,
   reach-in-leaf-reads.Asked,
   reach-in-leaf-reads.Learnt,
+  count-at-reads.Asked,
+  count-at-reads.Learnt,
   empty-reads.Asked,
   empty-reads.Learnt,
+  child-at-reads.Asked,
+  child-at-reads.Learnt,
   reach-under-below t,
   reach-under.Post,
   join-reads.Asked,
@@ -213,59 +161,35 @@ reach-under-loop-holds : (t : ℕ) → reach-under-lts.Need-loop-holds (
 ) (reach-under-at t) reach-under.Post reach-under-Inv-loop reach-under-μ-loop
 reach-under-loop-holds t c = search reach-start
 
-reach-under-add-j : (t : ℕ) → reach-under-lts.Need-add-j (
+reach-under-child-at-requires : (t : ℕ) → reach-under-lts.Need-child-at-requires (
+  part-at-reads.Asked,
+  part-at-reads.Learnt,
   reach-in-leaf-reads.Asked,
   reach-in-leaf-reads.Learnt,
+  count-at-reads.Asked,
+  count-at-reads.Learnt,
   empty-reads.Asked,
   empty-reads.Learnt,
+  child-at-reads.Asked,
+  child-at-reads.Learnt,
   reach-under-below t,
   reach-under.Post,
   join-reads.Asked,
   join-reads.Learnt,
 ) (reach-under-at t) reach-under.Post reach-under-Inv-loop reach-under-μ-loop
-reach-under-add-j t c = search needs
-
-reach-under-add-j-2 : (t : ℕ) → reach-under-lts.Need-add-j-2 (
-  reach-in-leaf-reads.Asked,
-  reach-in-leaf-reads.Learnt,
-  empty-reads.Asked,
-  empty-reads.Learnt,
-  reach-under-below t,
-  reach-under.Post,
-  join-reads.Asked,
-  join-reads.Learnt,
-) (reach-under-at t) reach-under.Post reach-under-Inv-loop reach-under-μ-loop
-reach-under-add-j-2 t c = search needs
-
-reach-under-mul-j : (t : ℕ) → reach-under-lts.Need-mul-j (
-  reach-in-leaf-reads.Asked,
-  reach-in-leaf-reads.Learnt,
-  empty-reads.Asked,
-  empty-reads.Learnt,
-  reach-under-below t,
-  reach-under.Post,
-  join-reads.Asked,
-  join-reads.Learnt,
-) (reach-under-at t) reach-under.Post reach-under-Inv-loop reach-under-μ-loop
-reach-under-mul-j t c = search needs
-
-reach-under-shared-slice-read-j : (t : ℕ) → reach-under-lts.Need-shared-slice-read-j (
-  reach-in-leaf-reads.Asked,
-  reach-in-leaf-reads.Learnt,
-  empty-reads.Asked,
-  empty-reads.Learnt,
-  reach-under-below t,
-  reach-under.Post,
-  join-reads.Asked,
-  join-reads.Learnt,
-) (reach-under-at t) reach-under.Post reach-under-Inv-loop reach-under-μ-loop
-reach-under-shared-slice-read-j t c = search needs
+reach-under-child-at-requires t c κs = search needs
 
 reach-under-sub-reach-under : (t : ℕ) → reach-under-lts.Need-sub-reach-under (
+  part-at-reads.Asked,
+  part-at-reads.Learnt,
   reach-in-leaf-reads.Asked,
   reach-in-leaf-reads.Learnt,
+  count-at-reads.Asked,
+  count-at-reads.Learnt,
   empty-reads.Asked,
   empty-reads.Learnt,
+  child-at-reads.Asked,
+  child-at-reads.Learnt,
   reach-under-below t,
   reach-under.Post,
   join-reads.Asked,
@@ -274,23 +198,34 @@ reach-under-sub-reach-under : (t : ℕ) → reach-under-lts.Need-sub-reach-under
 reach-under-sub-reach-under t c = search needs
 
 reach-under-reach-under-requires : (t : ℕ) → reach-under-lts.Need-reach-under-requires (
+  part-at-reads.Asked,
+  part-at-reads.Learnt,
   reach-in-leaf-reads.Asked,
   reach-in-leaf-reads.Learnt,
+  count-at-reads.Asked,
+  count-at-reads.Learnt,
   empty-reads.Asked,
   empty-reads.Learnt,
+  child-at-reads.Asked,
+  child-at-reads.Learnt,
   reach-under-below t,
   reach-under.Post,
   join-reads.Asked,
   join-reads.Learnt,
 ) (reach-under-at t) reach-under.Post reach-under-Inv-loop reach-under-μ-loop
-reach-under-reach-under-requires t c κs =
-    (omega arith, reach-child _ _ _ _ _ _ _ _ (c .before .before .loop .inv) (c .before .loop-test .taken))
+reach-under-reach-under-requires t c κs = (omega arith, search reach-child)
 
 reach-under-join-requires : (t : ℕ) → reach-under-lts.Need-join-requires (
+  part-at-reads.Asked,
+  part-at-reads.Learnt,
   reach-in-leaf-reads.Asked,
   reach-in-leaf-reads.Learnt,
+  count-at-reads.Asked,
+  count-at-reads.Learnt,
   empty-reads.Asked,
   empty-reads.Learnt,
+  child-at-reads.Asked,
+  child-at-reads.Learnt,
   reach-under-below t,
   reach-under.Post,
   join-reads.Asked,
@@ -299,10 +234,16 @@ reach-under-join-requires : (t : ℕ) → reach-under-lts.Need-join-requires (
 reach-under-join-requires t c κs = search needs
 
 reach-under-add-low : (t : ℕ) → reach-under-lts.Need-add-low (
+  part-at-reads.Asked,
+  part-at-reads.Learnt,
   reach-in-leaf-reads.Asked,
   reach-in-leaf-reads.Learnt,
+  count-at-reads.Asked,
+  count-at-reads.Learnt,
   empty-reads.Asked,
   empty-reads.Learnt,
+  child-at-reads.Asked,
+  child-at-reads.Learnt,
   reach-under-below t,
   reach-under.Post,
   join-reads.Asked,
@@ -311,10 +252,16 @@ reach-under-add-low : (t : ℕ) → reach-under-lts.Need-add-low (
 reach-under-add-low t c = search child-fits
 
 reach-under-add-i : (t : ℕ) → reach-under-lts.Need-add-i (
+  part-at-reads.Asked,
+  part-at-reads.Learnt,
   reach-in-leaf-reads.Asked,
   reach-in-leaf-reads.Learnt,
+  count-at-reads.Asked,
+  count-at-reads.Learnt,
   empty-reads.Asked,
   empty-reads.Learnt,
+  child-at-reads.Asked,
+  child-at-reads.Learnt,
   reach-under-below t,
   reach-under.Post,
   join-reads.Asked,
@@ -323,10 +270,16 @@ reach-under-add-i : (t : ℕ) → reach-under-lts.Need-add-i (
 reach-under-add-i t c = search needs
 
 reach-under-loop-less : (t : ℕ) → reach-under-lts.Need-loop-less (
+  part-at-reads.Asked,
+  part-at-reads.Learnt,
   reach-in-leaf-reads.Asked,
   reach-in-leaf-reads.Learnt,
+  count-at-reads.Asked,
+  count-at-reads.Learnt,
   empty-reads.Asked,
   empty-reads.Learnt,
+  child-at-reads.Asked,
+  child-at-reads.Learnt,
   reach-under-below t,
   reach-under.Post,
   join-reads.Asked,
@@ -335,10 +288,16 @@ reach-under-loop-less : (t : ℕ) → reach-under-lts.Need-loop-less (
 reach-under-loop-less t c = search needs
 
 reach-under-loop-again : (t : ℕ) → reach-under-lts.Need-loop-again (
+  part-at-reads.Asked,
+  part-at-reads.Learnt,
   reach-in-leaf-reads.Asked,
   reach-in-leaf-reads.Learnt,
+  count-at-reads.Asked,
+  count-at-reads.Learnt,
   empty-reads.Asked,
   empty-reads.Learnt,
+  child-at-reads.Asked,
+  child-at-reads.Learnt,
   reach-under-below t,
   reach-under.Post,
   join-reads.Asked,
@@ -347,10 +306,16 @@ reach-under-loop-again : (t : ℕ) → reach-under-lts.Need-loop-again (
 reach-under-loop-again t c = search reach-again
 
 reach-under-returns-2 : (t : ℕ) → reach-under-lts.Need-returns-2 (
+  part-at-reads.Asked,
+  part-at-reads.Learnt,
   reach-in-leaf-reads.Asked,
   reach-in-leaf-reads.Learnt,
+  count-at-reads.Asked,
+  count-at-reads.Learnt,
   empty-reads.Asked,
   empty-reads.Learnt,
+  child-at-reads.Asked,
+  child-at-reads.Learnt,
   reach-under-below t,
   reach-under.Post,
   join-reads.Asked,
@@ -360,10 +325,16 @@ reach-under-returns-2 t c = search reach-end
 
 pub +reach-under-spec : {M : Type 1} → statement M
 +reach-under-spec = close μ-reach-under λ t. reach-under-lts.spec (
+  part-at-reads.Asked,
+  part-at-reads.Learnt,
   reach-in-leaf-reads.Asked,
   reach-in-leaf-reads.Learnt,
+  count-at-reads.Asked,
+  count-at-reads.Learnt,
   empty-reads.Asked,
   empty-reads.Learnt,
+  child-at-reads.Asked,
+  child-at-reads.Learnt,
   reach-under-below t,
   reach-under.Post,
   join-reads.Asked,
@@ -373,25 +344,14 @@ pub +reach-under-spec : {M : Type 1} → statement M
     reach-under.Post
     reach-under-Inv-loop
     reach-under-μ-loop
-    (reach-under-mul-a t)
-    (reach-under-add-a t)
-    (reach-under-add-e t)
-    (reach-under-mul-reach-in-leaf t)
-    (reach-under-sub-reach-in-leaf t)
-    (reach-under-part-reach-in-leaf-start t)
-    (reach-under-part-reach-in-leaf-end t)
+    (reach-under-part-at-requires t)
     (reach-under-reach-in-leaf-requires t)
     (reach-under-returns t)
-    (reach-under-add-n t)
-    (reach-under-mul-n t)
-    (reach-under-shared-slice-read-n t)
+    (reach-under-count-at-requires t)
     (reach-under-cast-n t)
     (reach-under-empty-requires t)
     (reach-under-loop-holds t)
-    (reach-under-add-j t)
-    (reach-under-add-j-2 t)
-    (reach-under-mul-j t)
-    (reach-under-shared-slice-read-j t)
+    (reach-under-child-at-requires t)
     (reach-under-sub-reach-under t)
     (reach-under-reach-under-requires t)
     (reach-under-join-requires t)

@@ -6,23 +6,8 @@ use Rattle.step2.proofs.GrownWays.{counted-room, rect-counted, grown-ov
 use Rattle.step2.proofs.pieces.put_grown.Statement.{statement}
 use Rattle.step2.proofs.pieces.put_grown.Tie as tie
 
-mul-j : tie.Need-mul-j
-mul-j c = search needs
-
-add-j : tie.Need-add-j
-add-j c = search needs
-
-add-j-2 : tie.Need-add-j-2
-add-j-2 c = search needs
-
-add-j-3 : tie.Need-add-j-3
-add-j-3 c = search needs
-
-mul-j-2 : tie.Need-mul-j-2
-mul-j-2 c = search needs
-
-shared-slice-read-j : tie.Need-shared-slice-read-j
-shared-slice-read-j c = search needs
+child-at-requires : tie.Need-child-at-requires
+child-at-requires c κs = search needs
 
 grown-rect-requires : tie.Need-grown-rect-requires
 grown-rect-requires c κs = (search child-polygon, search rect-counted, search needs)
@@ -61,12 +46,7 @@ pub put-grown-spec : {M : Type 1} → statement M
 put-grown-spec =
     tie.close
     (tie.spec
-    mul-j
-    add-j
-    add-j-2
-    add-j-3
-    mul-j-2
-    shared-slice-read-j
+    child-at-requires
     grown-rect-requires
     put-inner-requires
     enum-known-inner

@@ -6,31 +6,16 @@ use Rattle.step2.proofs.siblings.cut_by_children.Statement.{statement}
 use Rattle.step2.proofs.siblings.cut_by_children.Tie as tie
 
 abbrev Inv-loop : tie.InvT-loop
-Inv-loop m k from to list₀ n spare₀ a left₀ i₀ list spare left i = CuttingBy m k from to list₀ n spare₀ list spare left i
+Inv-loop m k from to list₀ n spare₀ left₀ i₀ list spare left i = CuttingBy m k from to list₀ n spare₀ list spare left i
 
 abbrev μ-loop : tie.MeasureT-loop
-μ-loop m k from to list₀ n spare₀ a left₀ i₀ list spare left i = to - i
-
-mul-a : tie.Need-mul-a Inv-loop μ-loop
-mul-a c = search needs
-
-add-a : tie.Need-add-a Inv-loop μ-loop
-add-a c = search needs
+μ-loop m k from to list₀ n spare₀ left₀ i₀ list spare left i = to - i
 
 loop-holds : tie.Need-loop-holds Inv-loop μ-loop
 loop-holds c = search cut-start
 
-add-j : tie.Need-add-j Inv-loop μ-loop
-add-j c = search needs
-
-add-j-2 : tie.Need-add-j-2 Inv-loop μ-loop
-add-j-2 c = search needs
-
-mul-j : tie.Need-mul-j Inv-loop μ-loop
-mul-j c = search needs
-
-shared-slice-read-j : tie.Need-shared-slice-read-j Inv-loop μ-loop
-shared-slice-read-j c = search needs
+child-at-requires : tie.Need-child-at-requires Inv-loop μ-loop
+child-at-requires c κs = search needs
 
 polygon-at-requires : tie.Need-polygon-at-requires Inv-loop μ-loop
 polygon-at-requires c κs = search cut-child
@@ -77,13 +62,8 @@ cut-by-children-spec =
     (tie.spec
     Inv-loop
     μ-loop
-    mul-a
-    add-a
     loop-holds
-    add-j
-    add-j-2
-    mul-j
-    shared-slice-read-j
+    child-at-requires
     polygon-at-requires
     cut-polygon-requires
     enum-known-c

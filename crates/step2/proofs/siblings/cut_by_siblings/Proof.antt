@@ -1,7 +1,6 @@
 -- `siblings::cut_by_siblings` meets its contract; the two cuts together are in SiblingLoop.
 use borrow.Author.Needs.{needs}
 use Rattle.geometry.proofs.CutLoops.{few-of}
-use Rattle.step2.proofs.ChildParts.{items-fit}
 use Rattle.step2.proofs.SiblingLoop.{siblings-over, siblings-cut}
 use Rattle.step2.proofs.siblings.cut_by_siblings.Statement.{statement}
 use Rattle.step2.proofs.siblings.cut_by_siblings.Tie as tie
@@ -24,23 +23,11 @@ same-length-2 c = search needs
 returns : tie.Need-returns
 returns c = (search siblings-over, search needs)
 
-mul-a : tie.Need-mul-a
-mul-a c = search needs
-
-add-a : tie.Need-add-a
-add-a c = search needs
-
-add-count : tie.Need-add-count
-add-count c = search needs
-
-mul-count : tie.Need-mul-count
-mul-count c = search needs
-
-shared-slice-read-count : tie.Need-shared-slice-read-count
-shared-slice-read-count c = search needs
+count-at-requires : tie.Need-count-at-requires
+count-at-requires c κs = search needs
 
 cast-count : tie.Need-cast-count
-cast-count c = search items-fit
+cast-count c = search needs
 
 add-cut-by-children : tie.Need-add-cut-by-children
 add-cut-by-children c = search needs
@@ -67,11 +54,7 @@ cut-by-siblings-spec =
     same-length
     same-length-2
     returns
-    mul-a
-    add-a
-    add-count
-    mul-count
-    shared-slice-read-count
+    count-at-requires
     cast-count
     add-cut-by-children
     cut-by-children-requires-2

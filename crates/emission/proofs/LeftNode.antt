@@ -1,0 +1,33 @@
+-- What is left of a node under sides: the polygon of its part, loaded and clipped.
+use Prim.Native.Nat.{ℕ, _*_, _≤_}
+use mathlib.Core.Path.{_≡_, ap, _∙_}
+use mathlib.Core.List.{List}
+use native.Mathlib.Omega.{arith}
+use lib.ListN.{length, drop, length-drop}
+use Rattle.geometry.specs.declared.polygon.Polygon.{Polygon}
+use Rattle.geometry.specs.Numbers.{rectsIn, rectsOf, PolygonOf}
+use Rattle.tree.specs.Plan.{clips}
+use Rattle.plane.specs.Plane.{planeSpace}
+use Rattle.memory.specs.Layout.{rectCount, polygonIn, NodePart}
+use Rattle.memory.specs.Image.{nodePart}
+use Rattle.memory.specs.Fanout.{fanout}
+use Rattle.layout.specs.Parts.{PartPut}
+use Rattle.sides.specs.Sides.{sidesOf}
+use Rattle.emission.specs.Parts.{leftPart}
+
+-- a part's polygon, by its count n and the numbers l of its rectangles, is loaded, clipped and put
+module _ (p : List ℕ) (n : ℕ) (l : List ℕ) (q : n ≡ rectCount p) (r : l ≡ drop 2 p) where
+  pub polygon-long : NodePart p → 4 * n ≤ length l
+  polygon-long v =
+      let f = v .few-rects in
+      let e = v .length-is in
+      rw (r, length-drop) (omega arith)
+
+  pub left-put : (ss : List ℕ) (whole left : Polygon) (w : List ℕ) (next count : ℕ) (items w₁ : List ℕ) → PolygonOf (rectsIn l n) whole
+      → PolygonOf (clips (planeSpace fanout) (sidesOf ss) (rectsOf whole)) left
+      → PartPut w next (nodePart (rectsOf left) count items) w₁
+      → PartPut w next (leftPart ss p count items) w₁
+  left-put ss whole left w next count items w₁ x y z =
+      let e : rectsOf left ≡ clips (planeSpace fanout) (sidesOf ss) (polygonIn p) =
+      y .list ∙ ap (clips (planeSpace fanout) (sidesOf ss)) (x .list ∙ rw (q, r)) in
+      rw e at z

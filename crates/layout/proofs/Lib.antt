@@ -1,0 +1,13 @@
+pub mod ZeroLaws
+pub mod HeadLaws
+pub mod BitLaws
+pub mod NodeLaws
+pub mod PartLaws
+pub mod GapLists
+pub mod GapLoop
+pub mod GapLaws
+pub mod PartSetLaws
+pub mod FreeLaws
+pub mod WritingLaws
+pub mod PartCopies
+pub mod NodeStore

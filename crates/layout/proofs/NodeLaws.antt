@@ -1,0 +1,56 @@
+-- What the reading functions find where the layout has it.
+use Prim.Native.Nat.{ℕ, _+_, _*_, _-_, _≤_}
+use mathlib.Core.Path.{_≡_, refl, ap, _∙_}
+use mathlib.Core.List.{List}
+use native.Mathlib.Omega.{arith}
+use lib.ListN.{length, take, drop, getD, length-take, length-drop}
+use lib.Seq.{take-all}
+use Rattle.geometry.specs.declared.rect.Cell.{Cell}
+use Rattle.geometry.specs.Numbers.{rectsIn}
+use Rattle.memory.specs.Layout.{PartIn, NodePart, PolygonPart, part, rectCount, polygonIn, entryIn, childrenIn}
+use Rattle.memory.proofs.ReadingLaws.{part-length}
+
+pub part-is : (m : List ℕ) (k : ℕ) → take (64 + 128 * k + 128 - (64 + 128 * k)) (drop (64 + 128 * k) m) ≡ part m k
+unfolding part
+part-is m k = let e : 64 + 128 * k + 128 - (64 + 128 * k) ≡ 128 = omega arith in rw e
+
+pub part-long : (m : List ℕ) (k : ℕ) → PartIn m k → length (take (64 + 128 * k + 128 - (64 + 128 * k)) (drop (64 + 128 * k) m)) ≡ 128
+part-long m k h = simp (length-take, length-drop) (omega arith)
+
+pub cell-is : (p : List ℕ) (i : ℕ) → record { x = getD p (66 + 3 * i) 0; y = getD p (66 + 3 * i + 1) 0 } ≡ entryIn p i .cell
+unfolding entryIn
+cell-is p i = refl
+
+pub tag-is : (p : List ℕ) (i : ℕ) → getD p (66 + 3 * i + 2) 0 ≡ entryIn p i .tag
+unfolding entryIn
+tag-is p i = refl
+
+-- a part of a list from a place to its end
+pub rest-is : (p : List ℕ) (a : ℕ) → take (length p - a) (drop a p) ≡ drop a p
+rest-is p a = take-all (length p - a) (drop a p) (rw length-drop (omega arith))
+
+pub children-are : (p : List ℕ) → take (66 + getD p 1 0 - 66) (drop 66 p) ≡ childrenIn p
+children-are p = let e : 66 + getD p 1 0 - 66 ≡ getD p 1 0 = omega arith in rw e
+
+-- the polygon at part k, from the part and its rectangles as they are lent
+pub lent-polygon : (m : List ℕ) (k : ℕ) (p l : List ℕ) (r : ℕ) → p ≡ part m k → l ≡ drop 2 p → r ≡ rectCount p → rectsIn l r ≡ polygonIn (part m k)
+lent-polygon m k p l r e f g = rw (f, g, e)
+
+pub polygon-part : (m : List ℕ) (k : ℕ) → PolygonPart m k → PartIn m k
+polygon-part m k x = let b = x .below in omega arith
+
+pub polygon-few : (m : List ℕ) (k : ℕ) (p l : List ℕ) (r : ℕ) → PolygonPart m k → p ≡ part m k → l ≡ drop 2 p → r ≡ rectCount p → 4 * r ≤ length l
+polygon-few m k p l r x e f g =
+    let c = x .few-rects in
+    let n = ap length e ∙ part-length m k (x .below) in
+    let q : rectCount p ≡ rectCount (part m k) = ap rectCount e in
+    let d : length l ≡ 126 = ap length f ∙ length-drop 2 p ∙ omega arith in
+    omega arith
+
+-- the rectangles of a part as they are lent
+pub rects-long : (p l : List ℕ) (r : ℕ) → NodePart p → l ≡ drop 2 p → r ≡ rectCount p → 4 * r ≤ length l
+rects-long p l r v e f =
+    let n = v .length-is in
+    let c = v .few-rects in
+    let d : length l ≡ 126 = ap length e ∙ length-drop 2 p ∙ omega arith in
+    omega arith

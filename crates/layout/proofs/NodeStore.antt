@@ -1,0 +1,134 @@
+-- What the stores of a node's part leave: the rectangles with zeros behind them, the whole part, the part in the work area.
+use Prim.Native.Nat.{ℕ, suc, _+_, _*_, _-_, _≤_}
+use mathlib.Core.Path.{_≡_, sym, ap, _∙_}
+use mathlib.Core.List.{List, [], _∷_, _++_, append-assoc, append-nil}
+use native.Mathlib.Omega.{arith}
+use borrow.Rule.Slice.PartMut.{putMid, same-len-mid, mid-len}
+use lib.ListN.{length, take, drop, set, replicate, length-append, length-take, length-drop, length-replicate, replicate-append-replicate, drop-of-length-le}
+use lib.Seq.{take-at, drop-at, take-length, length-take-le}
+use Rattle.geometry.specs.declared.rect.Rect.{Rect}
+use Rattle.geometry.specs.declared.polygon.Polygon.{Polygon}
+use Rattle.geometry.specs.Numbers.{numbersOf, rectsIn, rectsOf, Appended}
+use Rattle.geometry.proofs.NumberLaws.{length-rects, length-numbers, numbers-take}
+use Rattle.memory.specs.Image.{padded, nodePart}
+use Rattle.memory.proofs.PartImage.{length-padded, part-length}
+use Rattle.layout.specs.Parts.{RectsStored, PartPut, PartRoom}
+
+-- a list filled up in two goes
+padded-more : (n k : ℕ) (l : List ℕ) → length l ≤ n → padded (n + k) l ≡ padded n l ++ replicate k 0
+unfolding padded
+padded-more n k l h =
+    let e : n + k - length l ≡ (n - length l) + k = omega arith in
+    rw (e, append-assoc, replicate-append-replicate)
+
+drop-zeros : (k n : ℕ) → k ≤ n → drop {A = ℕ} k (replicate n 0) ≡ replicate (n - k) 0
+drop-zeros k n h =
+    let e : n ≡ k + (n - k) = omega arith in
+    ap (λ (j : ℕ). drop {A = ℕ} k (replicate j 0)) e ∙ ap (drop {A = ℕ} k) (sym (replicate-append-replicate k (n - k) 0))
+    ∙ drop-at (replicate k 0) (replicate (n - k) 0) k (length-replicate k 0)
+
+-- the rectangles were stored, and the rest was zeroed
+pub rects-stored : (p : Polygon) (l₀ l z : List ℕ) → length l₀ ≡ 126 → p .count ≤ 16 → Appended l₀ 0 (rectsOf p) 16 l (p .count)
+    → z ≡ replicate (length (take (length l - 4 * p .count) (drop (4 * p .count) l))) 0
+    → RectsStored p (putMid (4 * p .count) (length l - 4 * p .count) l z)
+unfolding padded rectsIn
+rects-stored p l₀ l z h few a e =
+    let n = p .count in
+    let s = a .same-length in
+    let q : rectsIn l n ≡ rectsOf p = a .list in
+    let c : length (rectsOf p) ≡ n = ap length (sym q) ∙ length-rects l n in
+    let u : take (4 * n) l ≡ numbersOf (rectsOf p) = sym (numbers-take l n (omega arith)) ∙ ap numbersOf q in
+    let v = length-numbers (rectsOf p) in
+    let k : length (take (length l - 4 * n) (drop (4 * n) l)) ≡ 126 - length (numbersOf (rectsOf p)) = simp (length-take, length-drop) (omega arith) in
+    let o : length (drop (4 * n) l) ≤ length l - 4 * n = simp length-drop (omega arith) in
+    let r : drop (length l - 4 * n) (drop (4 * n) l) ≡ [] = drop-of-length-le (drop (4 * n) l) o in
+    record {
+      list =
+          ap (λ (t : List ℕ). t ++ (z ++ drop (length l - 4 * n) (drop (4 * n) l))) u
+          ∙ ap (λ (t : List ℕ). numbersOf (rectsOf p) ++ (z ++ t)) r
+          ∙ ap (λ (t : List ℕ). numbersOf (rectsOf p) ++ t) (append-nil z ∙ e ∙ ap (λ (j : ℕ). replicate j 0) k);
+      count-is = c;
+    }
+
+-- the items were copied behind the polygon
+items-copied : (a b : ℕ) (q items r : List ℕ) (rects : List Rect) → length rects ≤ 16 → length items ≤ 62 → q ≡ padded 126 (numbersOf rects)
+    → r ≡ take (length items) items ++ drop (length items) (take 62 (drop 64 q))
+    → putMid 66 62 (a ∷ b ∷ q) r ≡ a ∷ b ∷ (padded 64 (numbersOf rects) ++ padded 62 items)
+unfolding padded
+items-copied a b q items r rects few fit e f =
+    let u = numbersOf rects in
+    let v = length-numbers rects in
+    let l : length (padded 64 u) ≡ 64 = length-padded 64 u (omega arith) in
+    let zs : List ℕ = replicate 62 0 in
+    let w : q ≡ padded 64 u ++ zs = e ∙ padded-more 64 62 u (omega arith) in
+    let front : take 64 q ≡ padded 64 u = ap (take 64) w ∙ take-at (padded 64 u) zs 64 l in
+    let back : drop 64 q ≡ zs = ap (drop 64) w ∙ drop-at (padded 64 u) zs 64 l in
+    let t : take 62 (drop 64 q) ≡ zs = ap (take 62) back in
+    let o : drop 62 (drop 64 q) ≡ [] = ap (drop 62) back in
+    let g : r ≡ items ++ replicate (62 - length items) 0 =
+    f ∙ ap (λ (z : List ℕ). z ++ drop (length items) (take 62 (drop 64 q))) (take-length items)
+    ∙ ap (λ (z : List ℕ). items ++ z) (ap (drop (length items)) t ∙ drop-zeros (length items) 62 fit) in
+    ap (λ (z : List ℕ). a ∷ b ∷ z)
+    (ap (λ (z : List ℕ). z ++ (r ++ drop 62 (drop 64 q))) front
+    ∙ ap (λ (z : List ℕ). padded 64 u ++ z) (ap (λ (z : List ℕ). r ++ z) o ∙ append-nil r ∙ g))
+
+-- the rectangles were written behind the two counts
+rects-written : (a b : ℕ) (l q : List ℕ) → length l ≡ 126 → putMid 2 126 (a ∷ b ∷ l) q ≡ a ∷ b ∷ q
+rects-written a b l q h =
+    let s : length l ≤ 126 = omega arith in
+    let e : drop 126 l ≡ [] = drop-of-length-le l s in
+    ap (λ (z : List ℕ). a ∷ b ∷ (q ++ z)) e ∙ ap (λ (z : List ℕ). a ∷ b ∷ z) (append-nil q)
+
+-- a part after its rectangles were stored in it
+abbrev withRects : List ℕ → List ℕ → List ℕ
+withRects p₀ q = putMid 2 (length p₀ - 2) p₀ q
+
+-- the whole part
+pub node-stored : (p₀ : List ℕ) (p : Polygon) (count : ℕ) (items q r : List ℕ) → length p₀ ≡ 128 → p .count ≤ 16 → length items ≤ 62 → RectsStored p q
+    → r ≡ take (length items) items ++ drop (length items) (take (length (withRects p₀ q) - 66) (drop 66 (withRects p₀ q)))
+    → set (set (putMid 66 (length (withRects p₀ q) - 66) (withRects p₀ q) r) 0 (p .count)) 1 count ≡ nodePart (rectsOf p) count items
+unfolding nodePart
+node-stored [] p count items q r h few fit x e = absurd (omega arith)
+node-stored (a ∷ []) p count items q r h few fit x e = absurd (omega arith)
+node-stored (a ∷ b ∷ l) p count items q r h few fit x e =
+    let n = p .count in
+    let m : List ℕ = withRects (a ∷ b ∷ l) q in
+    let i : length (a ∷ b ∷ l) - 2 ≡ 126 = omega arith in
+    let j : length l ≡ 126 = omega arith in
+    let w : m ≡ a ∷ b ∷ q = ap (λ (k : ℕ). putMid 2 k (a ∷ b ∷ l) q) i ∙ rects-written a b l q j in
+    let c = x .count-is in
+    let v = length-numbers (rectsOf p) in
+    let s : length q ≡ 126 = ap length (x .list) ∙ length-padded 126 (numbersOf (rectsOf p)) (omega arith) in
+    let y : length m ≡ suc (suc (length q)) = ap length w in
+    let k : length m - 66 ≡ 62 = omega arith in
+    let f : r ≡ take (length items) items ++ drop (length items) (take 62 (drop 64 q)) =
+    e ∙ ap (λ (o : ℕ). take (length items) items ++ drop (length items) (take o (drop 66 m))) k
+    ∙ ap (λ (z : List ℕ). take (length items) items ++ drop (length items) (take 62 (drop 66 z))) w in
+    ap (λ (z : List ℕ). set (set z 0 n) 1 count)
+    (ap (λ (o : ℕ). putMid 66 o m r) k ∙ ap (λ (z : List ℕ). putMid 66 62 z r) w ∙ items-copied a b q items r (rectsOf p) (omega arith) fit (x .list) f)
+    ∙ ap (λ (o : ℕ). o ∷ count ∷ (padded 64 (numbersOf (rectsOf p)) ++ padded 62 items)) (sym c)
+
+-- a part of the work area that was lent and came back with 128 other numbers
+pub part-put : (w : List ℕ) (next : ℕ) (p w₁ : List ℕ) → 64 + 128 * (next + 1) ≤ length w → length p ≡ 128
+    → w₁ ≡ putMid (64 + 128 * next) (64 + 128 * next + 128 - (64 + 128 * next)) w p → PartPut w next p w₁
+part-put w next p w₁ fits l e =
+    let a : ℕ = 64 + 128 * next in
+    let rest : List ℕ = drop (a + 128 - a) (drop a w) in
+    let s : 64 + 128 * (next + 1) ≡ a + 128 = omega arith in
+    let t : length (take a w ++ p) ≡ a + 128 = rw (length-append, length-take-le a w (omega arith), l) in
+    let k : a + 128 ≤ length w = omega arith in
+    let q : a + 128 - a ≡ 128 = omega arith in
+    record {
+      written = ap (λ (z : List ℕ). take (64 + 128 * (next + 1)) z) e ∙ ap (λ (i : ℕ). take i (take a w ++ (p ++ rest))) s
+          ∙ ap (take (a + 128)) (sym (append-assoc (take a w) p rest)) ∙ take-at (take a w ++ p) rest (a + 128) t;
+      same-length = ap length e ∙ same-len-mid a (a + 128 - a) w p (l ∙ sym q ∙ sym (mid-len a (a + 128) w k));
+    }
+
+-- the part came back to the work area
+pub node-put : (w : List ℕ) (next : ℕ) (p : Polygon) (count : ℕ) (items q : List ℕ) → PartRoom w next → p .count ≤ 16 → length items ≤ 62
+    → q ≡ nodePart (rectsOf p) count items
+    → PartPut w next (nodePart (rectsOf p) count items) (putMid (64 + 128 * next) (64 + 128 * next + 128 - (64 + 128 * next)) w q)
+node-put w next p count items q x few fit e =
+    let l : length (rectsOf p) ≤ 16 = simp length-take (omega arith) in
+    part-put w next (nodePart (rectsOf p) count items) _ (x .fits) (part-length (rectsOf p) count items l fit)
+    (ap (λ (z : List ℕ). putMid (64 + 128 * next) (64 + 128 * next + 128 - (64 + 128 * next)) w z) e)

@@ -1,0 +1,4 @@
+pub mod Gap
+pub mod PartSet
+pub mod Writing
+pub mod Parts
