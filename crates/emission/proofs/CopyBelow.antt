@@ -17,7 +17,6 @@ use Rattle.memory.specs.Fanout.{fanout}
 use Rattle.layout.specs.Parts.{PartRoom, PartPut, withItems}
 use Rattle.layout.proofs.PartCopies.{leaf-image, items-replaced}
 use Rattle.index.specs.Walks.{Walkable, leafEntries}
-use Rattle.index.proofs.WalkParts.{part-at}
 use Rattle.sides.specs.Sides.{sidesOf, onEvery}
 use Rattle.emission.specs.Emits.{Emits, Room, deepAt}
 use Rattle.emission.specs.Leaves.{onTest, leafLeft, leafUnder}
@@ -106,7 +105,6 @@ module _ (level : ℕ) (m : List ℕ) (lo k : ℕ) (w₀ : List ℕ) (next₀ si
         let v = a .at .walk in
         let f = fits-as fanout 1 m k (node-parts fanout (level - 1) m lo k (v .node) (v .reads) .fits) in
         let s = f .some-items in
-        let e = part-at m k 1 (omega arith) in
         let q = a .at .size-is in
         omega arith
 
@@ -123,7 +121,6 @@ module _ (level : ℕ) (m : List ℕ) (lo k : ℕ) (w₀ : List ℕ) (next₀ si
         let r = all-written level m lo k [] w₀ next₀ size i low w next tops i a h in
         let bs : List (Item (planeSpace fanout) (suc n)) = childrenLeft n m lo k [] in
         let ts : List ℕ = take size tops in
-        let c = part-at m k 1 (omega arith) in
         let z = a .at .size-is in
         let few = f .few-items in
         let d = a .long in

@@ -21,7 +21,7 @@ use Rattle.memory.proofs.NodeImage.{length-node}
 use Rattle.memory.proofs.ReadingLaws.{lowAt, row-at, row-length, node-parts, node-lower, node-below, children-length}
 use Rattle.memory.specs.Fanout.{fanout}
 use Rattle.index.specs.Walks.{Walkable}
-use Rattle.index.proofs.WalkParts.{part-at}
+use Rattle.layout.proofs.NodeLaws.{child-in}
 use Rattle.index.proofs.WalkRows.{walkable}
 use Rattle.emission.specs.declared.tops.Tops.{Tops}
 use Rattle.emission.specs.Emits.{Emits, Room, deepOf, deepAt}
@@ -44,9 +44,8 @@ module _ (n : ℕ) (m : List ℕ) (k : ℕ) (v : Walkable (suc n) m 0 k) where
 
   children-count : length (childrenIn (part m k)) ≡ countAt m k
   children-count =
-      let e = part-at m k 1 (omega arith) in
       let f = v .few in
-      children-length fanout m k (node-below fanout m (suc n) 0 k (v .node) (v .reads)) (omega arith) ∙ e
+      children-length fanout m k (node-below fanout m (suc n) 0 k (v .node) (v .reads)) (omega arith)
 
   -- a node has as many branches as its part says
   pub row-count : length (rowAt n m k) ≡ countAt m k
@@ -54,13 +53,6 @@ module _ (n : ℕ) (m : List ℕ) (k : ℕ) (v : Walkable (suc n) m 0 k) where
       ap length row-is
       ∙ row-length (readNode fanout n m) 0 k (childrenIn (part m k)) (v .node .child) (node-parts fanout n m 0 k (v .node) (v .reads) .row)
       ∙ children-count
-
-  child-is : (i : ℕ) → i < countAt m k → getD (childrenIn (part m k)) i 0 ≡ childAt m k i
-  child-is i h =
-      let f = v .few in
-      let e = part-at m k 1 (omega arith) in
-      getD-take (itemCount (part m k)) (drop 66 (part m k)) i 0 (omega arith) ∙ getD-drop 66 (part m k) i 0 ∙ part-at m k (66 + i) (omega arith)
-      ∙ ap (λ j. getD m j 0) (let q : 64 + 128 * k + (66 + i) ≡ 64 + 128 * k + 66 + i = omega arith in q)
 
   pub branch-at : (i j : ℕ) → i < countAt m k → j ≡ childAt m k i → BranchAt n m k i j
   branch-at i j h q =
@@ -71,7 +63,7 @@ module _ (n : ℕ) (m : List ℕ) (k : ℕ) (v : Walkable (suc n) m 0 k) where
       let s : i < length ks = rw children-count h in
       let l : i < length (v .node .child) = rw (← row-is, row-count) h in
       let low = node-lower fanout n m (lowAt 0 ks i) 0 (getD ks i 0) b (omega arith) (row-at (readNode fanout n m) 0 k ks i (v .node .child) d (p .row) s) in
-      let r : readNode fanout n m 0 j ≡ some b = rw (child-is i h, ← q) at low in
+      let r : readNode fanout n m 0 j ≡ some b = rw (child-in (part m k) i h, ← q) at low in
       record {
         branch = b;
         reads = r;

@@ -24,7 +24,6 @@ use Rattle.memory.specs.Fanout.{fanout}
 use Rattle.index.specs.Open.{TreeIn}
 use Rattle.index.specs.Walks.{entriesFrom, entriesBelow, Walkable}
 use Rattle.index.specs.Count.{entriesOf, entriesAt}
-use Rattle.index.proofs.WalkParts.{part-at}
 use Rattle.index.proofs.WalkRows.{entries-few}
 use Rattle.index.proofs.WalkLoop.{AtChild, child-start, child-hit, end-entries}
 
@@ -66,7 +65,7 @@ held-leaf level m lo k n z v c =
     let w : Walkable 0 m lo k = rw z at v in
     let p = leaf-parts fanout m lo k (w .node) (w .reads) in
     let e : length (flatMap (held (planeSpace fanout) 0) (w .node .child)) ≡ countAt m k =
-    ap length (held-zero (planeSpace fanout) (w .node .child) ∙ p .entries) ∙ entries-length (part m k) (itemCount (part m k)) ∙ part-at m k 1 (omega arith) in
+    ap length (held-zero (planeSpace fanout) (w .node .child) ∙ p .entries) ∙ entries-length (part m k) (itemCount (part m k)) in
     c ∙ rw (z, w .reads) (sym e)
 
 -- Before the i-th child: the count so far.

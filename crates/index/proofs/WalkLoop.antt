@@ -8,36 +8,30 @@ use native.Mathlib.Numerals.{add-one}
 use mir.Syntax.{w32}
 use mir.Val.{Fits}
 use lib.ListN.{length, drop, getD, drop-of-length-le}
-use lib.Seq.{drop-cons, getD-take, getD-drop}
+use lib.Seq.{drop-cons}
 use Rattle.geometry.specs.declared.rect.Rect.{Rect}
 use Rattle.plane.specs.Lines.{CellEntry}
 use Rattle.memory.specs.Layout.{part, itemCount, polygonIn, childrenIn, childAt, countAt, PolygonPart}
 use Rattle.memory.proofs.ReadingLaws.{node-below, children-length}
 use Rattle.memory.specs.Fanout.{fanout}
+use Rattle.layout.proofs.NodeLaws.{child-in}
 use Rattle.index.specs.Walks.{visitsBelow, entriesBelow, Walkable}
-use Rattle.index.proofs.WalkParts.{part-at}
 use Rattle.index.proofs.WalkRows.{RowWalkable, visitsRow, entriesRow, RowStep, row-step, row-no-visits, row-no-entries, node-row, node-visits, node-entries, walk-polygon, visits-few}
 
 -- the children in place
 module _ (n : ℕ) (m : List ℕ) (lo k : ℕ) (v : Walkable n m lo k) where
   pub children-count : length (childrenIn (part m k)) ≡ countAt m k
   children-count =
-      let e = part-at m k 1 (omega arith) in
       let f = v .few in
-      children-length fanout m k (node-below fanout m n lo k (v .node) (v .reads)) (omega arith) ∙ e
+      children-length fanout m k (node-below fanout m n lo k (v .node) (v .reads)) (omega arith)
 
   -- the next child
   pub next-child : (i : ℕ) → i < countAt m k
       → drop i (childrenIn (part m k)) ≡ childAt m k i ∷ drop (i + 1) (childrenIn (part m k))
   next-child i h =
       let c = children-count in
-      let f = v .few in
-      let e = part-at m k 1 (omega arith) in
       let s : i < length (childrenIn (part m k)) = omega arith in
-      let at : getD (childrenIn (part m k)) i 0 ≡ childAt m k i =
-      getD-take (itemCount (part m k)) (drop 66 (part m k)) i 0 (omega arith) ∙ getD-drop 66 (part m k) i 0 ∙ part-at m k (66 + i) (omega arith)
-      ∙ ap (λ j. getD m j 0) (let q : 64 + 128 * k + (66 + i) ≡ 64 + 128 * k + 66 + i = omega arith in q) in
-      drop-cons (childrenIn (part m k)) i 0 s ∙ rw (at, add-one)
+      drop-cons (childrenIn (part m k)) i 0 s ∙ rw (child-in (part m k) i h, add-one)
 
 -- Before the i-th of the n children of the node at part k: the walk so far made vs visits and found es, and low is the child's lower end.
 pub record AtChild (t : List Rect → Bool) (u : CellEntry → Bool) (level : ℕ) (m : List ℕ) (lo k n i low vs : ℕ) (es : List CellEntry) : Type 0 where

@@ -1,10 +1,9 @@
--- A number of a part in the memory, and the tests of a node's polygon.
-use Prim.Native.Nat.{ℕ, _+_, _*_, _<_}
+-- The tests of a node's polygon.
+use Prim.Native.Nat.{ℕ}
 use mathlib.Core.Path.{_≡_, refl, sym, ap, _∙_}
 use mathlib.Core.Bool.{Bool, _||_}
 use mathlib.Core.List.{List, [], _∷_}
-use lib.ListN.{drop, getD}
-use lib.Seq.{getD-take, getD-drop}
+use lib.ListN.{drop}
 use Rattle.geometry.specs.declared.rect.Cell.{Cell}
 use Rattle.geometry.specs.declared.rect.Rect.{Rect}
 use Rattle.geometry.specs.Cells.{anyHas}
@@ -18,11 +17,6 @@ use Rattle.memory.proofs.SoundTested.{has-is}
 use Rattle.memory.specs.Fanout.{fanout}
 use Rattle.layout.proofs.NodeLaws.{lent-polygon}
 use Rattle.index.specs.Walks.{hasTest, meetsTest}
-
--- a number of a part, in the memory
-pub part-at : (m : List ℕ) (k i : ℕ) → i < 128 → getD (part m k) i 0 ≡ getD m (64 + 128 * k + i) 0
-unfolding part
-part-at m k i h = getD-take 128 (drop (64 + 128 * k) m) i 0 h ∙ getD-drop (64 + 128 * k) m i 0
 
 any-of : (p : Rect → Bool) (l : List Rect) → anyOf p l ≡ any p l
 unfolding anyOf any

@@ -18,7 +18,6 @@ use Rattle.memory.specs.Reading.{readRow, readNode}
 use Rattle.memory.proofs.ReadingLaws.{row-parts, fits-as, leaf-parts, node-parts, node-below, entries-length, part-length, length-right}
 use Rattle.memory.specs.Fanout.{fanout}
 use Rattle.index.specs.Walks.{visitsFrom, visitsBelow, entriesFrom, entriesBelow, leafEntries, Walkable}
-use Rattle.index.proofs.WalkParts.{part-at}
 
 -- A row of children in a memory of a right length reads.
 pub record RowWalkable (n : ℕ) (m : List ℕ) (lo hi : ℕ) (ks : List ℕ) : Type 0 where
@@ -51,7 +50,7 @@ walkable n m lo k b r l e =
       from = l;
       below = omega arith;
       ends = omega arith;
-      few = rw (← (part-at m k 1 (omega arith))) (items-few n m lo k b e);
+      few = items-few n m lo k b e;
       node = b;
       reads = e;
     }

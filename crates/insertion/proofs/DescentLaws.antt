@@ -29,7 +29,7 @@ use Rattle.memory.proofs.ReadingLaws.{leaf-parts, node-parts, NodeParts, row-at
 use Rattle.memory.specs.Fanout.{fanout}
 use Rattle.index.specs.Changes.{entryOf}
 use Rattle.index.specs.Walks.{Walkable}
-use Rattle.index.proofs.WalkParts.{part-at}
+use Rattle.layout.proofs.NodeLaws.{child-in}
 use Rattle.index.proofs.WalkRows.{walkable}
 use Rattle.index.proofs.WalkLoop.{children-count}
 use Rattle.step2.specs.Choose.{Routing, ChosenBranch, ChosenAt, NoneChosen}
@@ -140,14 +140,6 @@ module _ (n : ℕ) (path m : List ℕ) (c : Cell) (d : Descending (suc n) path m
         let h = x .below in
         omega arith
 
-    child-is : getD (childrenIn (part m k)) place 0 ≡ childAt m k place
-    child-is =
-        let h = place-below in
-        let e = part-at m k 1 (omega arith) in
-        let f = d .walk .few in
-        getD-take (itemCount (part m k)) (drop 66 (part m k)) place 0 (omega arith) ∙ getD-drop 66 (part m k) place 0 ∙ part-at m k (66 + place) (omega arith)
-        ∙ ap (λ (j : ℕ). getD m j 0) (let q : 64 + 128 * k + (66 + place) ≡ 64 + 128 * k + 66 + place = omega arith in q)
-
     -- the branch at that place is the one chosen
     old-is : getD (b .child) place (x .old) ≡ x .old
     old-is =
@@ -165,7 +157,7 @@ module _ (n : ℕ) (path m : List ℕ) (c : Cell) (d : Descending (suc n) path m
         let h = place-below in
         let e = children-count (suc n) m 0 k (d .walk) in
         node-lower fanout n m low 0 (childAt m k place) (x .old) (omega arith)
-        (ap (readNode fanout n m low) (sym child-is) ∙ row-at (readNode fanout n m) 0 k (childrenIn (part m k)) place (b .child) (x .old) (parts .row) (omega arith) ∙ ap some old-is)
+        (ap (readNode fanout n m low) (sym (child-in (part m k) place place-below)) ∙ row-at (readNode fanout n m) 0 k (childrenIn (part m k)) place (b .child) (x .old) (parts .row) (omega arith) ∙ ap some old-is)
 
     child-walk : Walkable n m 0 (childAt m k place)
     child-walk = walkable n m 0 (childAt m k place) (x .old) (d .walk .right) (omega arith) child-reads

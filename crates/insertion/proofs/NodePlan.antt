@@ -33,7 +33,6 @@ use Rattle.memory.specs.Reading.{readNode}
 use Rattle.memory.proofs.ReadingLaws.{node-parts, row-length, children-length, node-below}
 use Rattle.memory.specs.Fanout.{fanout}
 use Rattle.index.specs.Walks.{Walkable}
-use Rattle.index.proofs.WalkParts.{part-at}
 use Rattle.split_line.specs.Groups.{halvesOf, groupsAt, LineFits}
 use Rattle.emission.specs.Path.{partOn, placeOn, lineOn, polygonOn, rowAt, wayAt}
 use Rattle.insertion.specs.Descent.{itemsAt}
@@ -123,7 +122,6 @@ module _ (n : ℕ) (path m : List ℕ) (e : CellEntry) (v : Walkable (suc n) m 0
       let b = ap length after-is in
       let r = node-parts fanout n m 0 k (v .node) (v .reads) .row in
       let f : length bs ≡ length (childrenIn (part m k)) = row-length (readNode fanout n m) 0 k (childrenIn (part m k)) bs r in
-      let g = part-at m k 1 (omega arith) in
       let i = v .few in
       let j : length (childrenIn (part m k)) ≡ itemCount (part m k) = children-length fanout m k (node-below fanout m (suc n) 0 k (v .node) (v .reads)) (omega arith) in
       rw (bs-is, length-append (take place bs) (x ++ drop (place + 1) bs), length-append x (drop (place + 1) bs)) (omega arith)

@@ -19,7 +19,6 @@ use Rattle.memory.proofs.ReadingLaws.{entries-length}
 use Rattle.memory.specs.Fanout.{fanout}
 use Rattle.index.specs.Changes.{entryOf}
 use Rattle.index.specs.Walks.{Walkable}
-use Rattle.index.proofs.WalkParts.{part-at}
 use Rattle.emission.specs.Path.{partOn, lineOn, polygonOn, wayAt, PathNode, PathFrom}
 use Rattle.insertion.specs.Planning.{GoodPath, Plannable, PlannedAt, Planned, SplitBelow, Full, LineOfLevel, PlanMade}
 use Rattle.tree.proofs.SplitGroups.{split-one, split-two, few-row}
@@ -39,7 +38,6 @@ module _ (level : ℕ) (path m : List ℕ) (c : Cell) (g : GoodPath level path m
       let k = partOn path 0 in
       let a = length-append (entriesIn (part m k) (itemCount (part m k))) (entryOf c t ∷ []) in
       let b = entries-length (part m k) (itemCount (part m k)) in
-      let d = part-at m k 1 (omega arith) in
       omega arith
 
   few-is : (n t : ℕ) → few (planeSpace fanout) n (wayAt n path m (entryOf c t)) ≡ leb (rowAt-length n t) fanout

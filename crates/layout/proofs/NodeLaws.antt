@@ -1,13 +1,12 @@
 -- What the reading functions find where the layout has it.
-use Prim.Native.Nat.{ℕ, _+_, _*_, _-_, _≤_}
+use Prim.Native.Nat.{ℕ, _+_, _*_, _-_, _≤_, _<_}
 use mathlib.Core.Path.{_≡_, refl, ap, _∙_}
 use mathlib.Core.List.{List}
 use native.Mathlib.Omega.{arith}
 use lib.ListN.{length, take, drop, getD, length-take, length-drop}
-use lib.Seq.{take-all}
-use Rattle.geometry.specs.declared.rect.Cell.{Cell}
+use lib.Seq.{take-all, getD-take, getD-drop}
 use Rattle.geometry.specs.Numbers.{rectsIn}
-use Rattle.memory.specs.Layout.{PartIn, NodePart, PolygonPart, part, rectCount, polygonIn, entryIn, childrenIn}
+use Rattle.memory.specs.Layout.{PartIn, NodePart, PolygonPart, part, rectCount, itemCount, polygonIn, entryIn, childIn, childrenIn, countAt, childAt}
 use Rattle.memory.proofs.ReadingLaws.{part-length}
 
 pub part-is : (m : List ℕ) (k : ℕ) → take (64 + 128 * k + 128 - (64 + 128 * k)) (drop (64 + 128 * k) m) ≡ part m k
@@ -28,6 +27,22 @@ tag-is p i = refl
 -- a part of a list from a place to its end
 pub rest-is : (p : List ℕ) (a : ℕ) → take (length p - a) (drop a p) ≡ drop a p
 rest-is p a = take-all (length p - a) (drop a p) (rw length-drop (omega arith))
+
+-- what is read of the node at part k, by way of its part
+pub count-of : (m : List ℕ) (k : ℕ) (p : List ℕ) (n : ℕ) → p ≡ part m k → n ≡ itemCount p → n ≡ countAt m k
+count-of m k p n e f = f ∙ ap itemCount e
+
+pub child-of : (m : List ℕ) (k i : ℕ) (p : List ℕ) (j : ℕ) → p ≡ part m k → j ≡ childIn p i → j ≡ childAt m k i
+child-of m k i p j e f = f ∙ ap (λ q. childIn q i) e
+
+-- a child by its place
+pub child-in : (p : List ℕ) (i : ℕ) → i < itemCount p → getD (childrenIn p) i 0 ≡ childIn p i
+child-in p i h = getD-take (itemCount p) (drop 66 p) i 0 h ∙ getD-drop 66 p i 0
+
+-- a number of a part, in the memory
+pub part-number : (m : List ℕ) (k i : ℕ) → i < 128 → getD (part m k) i 0 ≡ getD m (64 + 128 * k + i) 0
+unfolding part
+part-number m k i h = getD-take 128 (drop (64 + 128 * k) m) i 0 h ∙ getD-drop (64 + 128 * k) m i 0
 
 pub children-are : (p : List ℕ) → take (66 + getD p 1 0 - 66) (drop 66 p) ≡ childrenIn p
 children-are p = let e : 66 + getD p 1 0 - 66 ≡ getD p 1 0 = omega arith in rw e

@@ -2,7 +2,7 @@
 ghost use mathlib.Core.Path.{_≡_};
 ghost use Prim.Native.Nat.{_+_, _≤_, _<_};
 ghost use lib.ListN.{length, drop};
-ghost use Rattle.memory.specs.Layout.{PartIn, part, rectCount, itemCount, entryIn, childrenIn, countAt, childAt};
+ghost use Rattle.memory.specs.Layout.{PartIn, part, rectCount, itemCount, entryIn, childIn, childrenIn, countAt, childAt};
 use crate::numbers::ENTRY;
 use crate::numbers::HEAD;
 use crate::numbers::ITEM_COUNT;
@@ -66,6 +66,14 @@ pub fn entry_tag(p: &[u32], i: usize) -> u32
     p[ITEMS + ENTRY * i + 2]
 }
 
+// The i-th child of a routing node, by its part number.
+fn child(p: &[u32], i: usize) -> u32
+    requires { ⌜ (length (now p) ≡ 128) × (i < 8) ⌝ }
+    ensures { λ j. ⌜ j ≡ childIn (now (p .entry)) i ⌝ }
+{
+    p[ITEMS + i]
+}
+
 // The children of a routing node, by their part numbers.
 pub fn children(p: &[u32]) -> &[u32]
     requires { ⌜ (length (now p) ≡ 128) × (itemCount (now p) ≤ 62) ⌝ }
@@ -80,7 +88,7 @@ pub fn count_at(m: &[u32], k: u32) -> u32
     requires { ⌜ PartIn (now m) k ⌝ }
     ensures { λ n. ⌜ n ≡ countAt (now (m .entry)) k ⌝ }
 {
-    m[HEAD + PART * (k as usize) + ITEM_COUNT]
+    item_count(part_at(m, k))
 }
 
 // The i-th child of the routing node at part k.
@@ -88,5 +96,5 @@ pub fn child_at(m: &[u32], k: u32, i: usize) -> u32
     requires { ⌜ PartIn (now m) k × (i < 8) ⌝ }
     ensures { λ j. ⌜ j ≡ childAt (now (m .entry)) k i ⌝ }
 {
-    m[HEAD + PART * (k as usize) + ITEMS + i]
+    child(part_at(m, k), i)
 }

@@ -71,7 +71,10 @@ unfoldable pub entriesIn : List ℕ → ℕ → List CellEntry
 entriesIn p zero = []
 entriesIn p (suc n) = entriesIn p n ++ (entryIn p n ∷ [])
 
--- the children of a routing node, by their part numbers
+-- the i-th child of a routing node, by its part number, and all of them
+abbrev pub childIn : List ℕ → ℕ → ℕ
+childIn p i = getD p (66 + i) 0
+
 abbrev pub childrenIn : List ℕ → List ℕ
 childrenIn p = take (itemCount p) (drop 66 p)
 
@@ -79,12 +82,12 @@ childrenIn p = take (itemCount p) (drop 66 p)
 abbrev pub PartIn : List ℕ → ℕ → Type 0
 PartIn m k = 64 + 128 * k + 128 ≤ length m
 
--- in place in the memory: the count of the items of the node at part k, and its i-th child
+-- of the node at part k: the count of its items, and its i-th child
 abbrev pub countAt : List ℕ → ℕ → ℕ
-countAt m k = getD m (64 + 128 * k + 1) 0
+countAt m k = itemCount (part m k)
 
 abbrev pub childAt : List ℕ → ℕ → ℕ → ℕ
-childAt m k i = getD m (64 + 128 * k + 66 + i) 0
+childAt m k i = childIn (part m k) i
 
 -- 'Unused numbers are zero': of a part whose items take w numbers each
 unfoldable pub restZero : ℕ → List ℕ → Bool

@@ -27,7 +27,6 @@ use Rattle.layout.specs.PartSet.{setPart, freed, UsedPart}
 use Rattle.layout.proofs.GapLists.{length-without}
 use Rattle.layout.proofs.PartSetLaws.{set-part, set-in-use, set-bits}
 use Rattle.index.specs.Walks.{hasTest, Walkable}
-use Rattle.index.proofs.WalkParts.{part-at}
 use Rattle.index.proofs.WalkRows.{walkable, walk-polygon, polygon-is}
 use Rattle.removal.specs.Parts.{Beside}
 use Rattle.removal.specs.Place.{ChildHas, ChildrenHave}
@@ -63,9 +62,6 @@ module _ (n : ℕ) (m : List ℕ) (lo k : ℕ) (c : Cell) (v : Removable (suc n)
 
   numbers : ChildNumbers m k
   numbers = child-numbers m k (v .walk .ends) (v .walk .few)
-
-  item-count : itemCount (part m k) ≡ countAt m k
-  item-count = part-at m k 1 (omega arith)
 
   branch-count : length (v .walk .node .child) ≡ countAt m k
   branch-count = row-length (readNode fanout n m) lo k (childrenIn (part m k)) (v .walk .node .child) (parts .row) ∙ numbers .count
@@ -220,7 +216,7 @@ module _ (n : ℕ) (m : List ℕ) (lo k : ℕ) (c : Cell) (v : Removable (suc n)
         used = used₁;
         item = rw part-kept (record {
           node = record { length-is = part-length m k (fits .below); few-rects = fits .few-rects; few-items = fits .few-items };
-          inside = let e = item-count in let f = q .inside in omega arith;
+          inside = q .inside;
         });
       }
 
@@ -235,7 +231,7 @@ module _ (n : ℕ) (m : List ℕ) (lo k : ℕ) (c : Cell) (v : Removable (suc n)
         left-length = length-without i (v .walk .node .child) in-branches ∙ ap (λ (x : ℕ). x - 1) branch-count
 
         count₁ : itemCount (part m₁ k) ≡ countAt m k
-        count₁ = ap itemCount part-kept ∙ item-count
+        count₁ = ap itemCount part-kept
 
         -- the node lost one of several branches
         node-left : (m₂ : List ℕ) → NodeShorter m₁ k i m₂ → RemovedBelow (suc n) m lo k c m₂ true

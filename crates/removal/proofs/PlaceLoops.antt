@@ -16,7 +16,7 @@ use Rattle.tree.proofs.Booleans.{contrary}
 use Rattle.memory.specs.Layout.{part, itemCount, entryIn, polygonIn, childrenIn, countAt, childAt, PartIn, PolygonPart}
 use Rattle.memory.proofs.ReadingLaws.{lowAt, part-length}
 use Rattle.index.specs.Walks.{hasTest, cellTest}
-use Rattle.index.proofs.WalkParts.{part-at}
+use Rattle.layout.proofs.NodeLaws.{child-in}
 use Rattle.removal.specs.Place.{EntryPlace, HoldsCell, ChildrenHave, ChildPlace}
 
 -- Before the i-th entry: the cell's entry is not an earlier one.
@@ -71,13 +71,9 @@ pub record ChildNumbers (m : List ℕ) (k : ℕ) : Type 0 where
 pub child-numbers : (m : List ℕ) (k : ℕ) → PartIn m k → countAt m k ≤ 8 → ChildNumbers m k
 child-numbers m k e f =
     let l = part-length m k (omega arith) in
-    let c = part-at m k 1 (omega arith) in
     record {
       count = simp (length-take, length-drop) (omega arith);
-      at = λ i h.
-          let q : 64 + 128 * k + (66 + i) ≡ 64 + 128 * k + 66 + i = omega arith in
-          getD-take (itemCount (part m k)) (drop 66 (part m k)) i 0 (omega arith)
-          ∙ getD-drop 66 (part m k) i 0 ∙ part-at m k (66 + i) (omega arith) ∙ ap (λ (x : ℕ). getD m x 0) q;
+      at = λ i h. child-in (part m k) i h;
     }
 
 -- Before the i-th child, at part j with the lower end low: no earlier child has the cell.

@@ -5,13 +5,12 @@ use mathlib.Core.List.{List}
 use native.Mathlib.Omega.{arith}
 use Rattle.memory.specs.Layout.{part, itemCount, countAt}
 use Rattle.layout.specs.PartSet.{freed, EntryDroppedAt, BranchDroppedAt}
-use Rattle.index.proofs.WalkParts.{part-at}
 use Rattle.removal.specs.Below.{TakesItem, LeafShorter, NodeShorter, NodeFreed}
 
 -- the node at part k has n items
 module _ (m : List ℕ) (k i : ℕ) (v : TakesItem m k i) (n : ℕ) (c : n ≡ countAt m k) where
   count-is : itemCount (part m k) ≡ n
-  count-is = part-at m k 1 (omega arith) ∙ sym c
+  count-is = sym c
 
   pub take-last : (m′ : List ℕ) → n ≡ 1 → m′ ≡ freed m k → NodeFreed m k m′
   take-last m′ e f = record { last = count-is ∙ e; memory = f }

@@ -14,7 +14,7 @@ use Rattle.memory.specs.Layout.{partsOf, rightLength, part, inUse, onesOf, bits
 use Rattle.memory.proofs.ReadingLaws.{length-right, zero-at, unused-zero}
 use Rattle.layout.specs.PartSet.{noTree}
 use Rattle.layout.proofs.GapLists.{zeros-of}
-use Rattle.index.proofs.WalkParts.{part-at}
+use Rattle.layout.proofs.NodeLaws.{part-number}
 
 -- a word without bits is zero
 no-ones : (f w : ℕ) → w ≤ f → ones w ≡ 0 → w ≡ 0
@@ -52,7 +52,7 @@ module _ (m : List ℕ) (right : rightLength m ≡ true) (none-set : bitsSet m �
       let i = (x - 64) % 128 in
       let h : j < partsOf m = omega arith in
       let q : 64 + 128 * j + i ≡ x = omega arith in
-      ap (λ (y : ℕ). getD m y 0) (sym q) ∙ sym (part-at m j i (omega arith)) ∙ zero-at (part m j) i (unused-zero m (partsOf m) j others h (none-used j (omega arith)))
+      ap (λ (y : ℕ). getD m y 0) (sym q) ∙ sym (part-number m j i (omega arith)) ∙ zero-at (part m j) i (unused-zero m (partsOf m) j others h (none-used j (omega arith)))
 
   -- with no height and no root it is all zeros
   pub all-zeros : allZero (noTree m) ≡ true

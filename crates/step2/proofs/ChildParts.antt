@@ -9,8 +9,7 @@ use lib.Seq.{drop-cons, getD-take, getD-drop}
 use Rattle.geometry.specs.declared.polygon.Polygon.{Polygon}
 use Rattle.geometry.specs.Numbers.{rectsIn, PolygonOf}
 use Rattle.memory.specs.Layout.{part, rectCount, itemCount, polygonIn, childrenIn, countAt, childAt, PolygonPart}
-use Rattle.layout.proofs.NodeLaws.{lent-polygon}
-use Rattle.index.proofs.WalkParts.{part-at}
+use Rattle.layout.proofs.NodeLaws.{lent-polygon, child-in}
 use Rattle.step2.specs.Branches.{polygonsIn, Branches}
 
 -- the polygon loaded from the part p of a node, by its rectangles r and their count n
@@ -21,13 +20,6 @@ module _ (m : List ℕ) (k : ℕ) (p r : List ℕ) (n : ℕ) (e : p ≡ part m k
   pub count-few : PolygonPart m k → n ≤ 16
   count-few v = rw (g, e) (v .few-rects)
 
--- the i-th child's part number, in place
-pub child-is : (m : List ℕ) (k i : ℕ) → countAt m k ≤ 8 → i < countAt m k → getD (childrenIn (part m k)) i 0 ≡ childAt m k i
-child-is m k i f h =
-    let e = part-at m k 1 (omega arith) in
-    getD-take (itemCount (part m k)) (drop 66 (part m k)) i 0 (omega arith) ∙ getD-drop 66 (part m k) i 0 ∙ part-at m k (66 + i) (omega arith)
-    ∙ ap (λ j. getD m j 0) (let q : 64 + 128 * k + (66 + i) ≡ 64 + 128 * k + 66 + i = omega arith in q)
-
 module _ (m : List ℕ) (k : ℕ) (v : Branches m k) where
   module _ (i : ℕ) (h : i < countAt m k) where
     -- the polygons from the i-th on
@@ -36,7 +28,7 @@ module _ (m : List ℕ) (k : ℕ) (v : Branches m k) where
     next-polygon =
         let c = v .count in
         let at : getD (polygonsIn m k) i (polygonIn (part m 0)) ≡ polygonIn (part m (childAt m k i)) =
-        List·getD-map (λ j. polygonIn (part m j)) (childrenIn (part m k)) i 0 ∙ ap (λ j. polygonIn (part m j)) (child-is m k i (v .few) h) in
+        List·getD-map (λ j. polygonIn (part m j)) (childrenIn (part m k)) i 0 ∙ ap (λ j. polygonIn (part m j)) (child-in (part m k) i h) in
         let s : i < length (polygonsIn m k) = omega arith in
         drop-cons (polygonsIn m k) i (polygonIn (part m 0)) s ∙ rw (at, add-one)
 

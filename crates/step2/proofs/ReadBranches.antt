@@ -16,11 +16,10 @@ use Rattle.memory.specs.Reading.{readRow, readNode}
 use Rattle.memory.proofs.ReadingLaws.{row-none, row-parts, node-parts, node-below, fits-as, children-length}
 use Rattle.memory.proofs.SoundTested.{valid-of-fine}
 use Rattle.memory.specs.Fanout.{fanout}
-use Rattle.index.proofs.WalkParts.{part-at}
+use Rattle.layout.proofs.NodeLaws.{child-in}
 use Rattle.index.proofs.WalkRows.{polygon-is, walkable, walk-polygon}
 use Rattle.step2.specs.Branches.{polygonsIn, GoodPart, Branches}
 use Rattle.step2.specs.Choose.{Routing}
-use Rattle.step2.proofs.ChildParts.{child-is}
 
 module _ (n : ℕ) (m : List ℕ) where
   row-polygons : (lo hi : ℕ) (ks : List ℕ) (bs : List (Item (planeSpace fanout) (suc n))) → readRow (readNode fanout n m) lo hi ks ≡ some bs
@@ -70,14 +69,13 @@ branches-of m k v =
     let f = fits-as fanout 1 m k (p .fits) in
     let s = f .some-items in
     let t = f .few-items in
-    let e = part-at m k 1 (omega arith) in
     let few : countAt m k ≤ 8 = w .few in
-    let c : length (childrenIn (part m k)) ≡ countAt m k = children-length fanout m k b (omega arith) ∙ e in
+    let c : length (childrenIn (part m k)) ≡ countAt m k = children-length fanout m k b (omega arith) in
     let g = row-good (v .n) m (v .lo) k (childrenIn (part m k)) (v .node .child) (v .right) (p .row) (v .fine) in
     record {
       below = b;
       some = omega arith;
       few = few;
       count = length-map (childrenIn (part m k)) (λ j. polygonIn (part m j)) ∙ c;
-      good = λ i h. rw (child-is m k i few h) at (all-at (GoodPart m) (childrenIn (part m k)) i 0 g (omega arith));
+      good = λ i h. rw (child-in (part m k) i h) at (all-at (GoodPart m) (childrenIn (part m k)) i 0 g (omega arith));
     }
