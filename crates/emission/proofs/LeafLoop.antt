@@ -12,10 +12,10 @@ use Rattle.tree.proofs.Lists.{flatMap-append, flatMap-one}
 use Rattle.plane.specs.Lines.{CellEntry}
 use Rattle.memory.specs.Layout.{itemCount, entryIn, NodePart}
 use Rattle.memory.specs.Image.{entryNumbers}
-use Rattle.index.specs.Changes.{entryOf}
+use Rattle.layout.specs.Items.{EntryPut}
 use Rattle.index.proofs.WalkLeaf.{AtEntry, entry-start, entry-miss, entry-hit, entry-end}
 use Rattle.sides.specs.Sides.{onEvery}
-use Rattle.emission.specs.Leaves.{onTest, leafLeft, EntryPut, Gathered, LeafGathered}
+use Rattle.emission.specs.Leaves.{onTest, leafLeft, Gathered, LeafGathered}
 
 -- an entry's test, by its cell
 pub left-is : (ss p : List ℕ) (i : ℕ) (c : Cell) (b : Bool) → c ≡ entryIn p i .cell → b ≡ onEvery ss c → b ≡ onTest ss (entryIn p i)
@@ -31,37 +31,6 @@ module _ (ss p : List ℕ) (n i : ℕ) (a : AtEntry (onTest ss) p n i []) where
   pub left-nothing : n ≤ i → false ≡ notEmpty (leafLeft ss p)
   unfolding leafLeft
   left-nothing h = rw (← (entry-end (onTest ss) p n i [] a h))
-
--- three numbers stored one after another
-pub entry-put : (l : List ℕ) (at : ℕ) (e : CellEntry) → 3 * (at + 1) ≤ length l
-    → EntryPut l at e (set (set (set l (3 * at) (e .cell .x)) (3 * at + 1) (e .cell .y)) (3 * at + 2) (e .tag))
-unfolding entryNumbers
-entry-put l at e h =
-    let x = e .cell .x in
-    let y = e .cell .y in
-    let l₁ : List ℕ = set l (3 * at) x in
-    let l₂ : List ℕ = set l₁ (3 * at + 1) y in
-    let q : 3 * (at + 1) ≡ suc (3 * at + 2) = omega arith in
-    let r : 3 * at + 2 ≡ suc (3 * at + 1) = omega arith in
-    let s : 3 * at + 1 ≡ suc (3 * at) = omega arith in
-    let h₁ : 3 * at < length l = omega arith in
-    let h₂ : 3 * at + 1 < length l₁ = simp length-set (omega arith) in
-    let h₃ : 3 * at + 2 < length l₂ = simp length-set (omega arith) in
-    let one : take (3 * at + 1) l₁ ≡ take (3 * at) l ++ (x ∷ []) = ap (λ (j : ℕ). take j l₁) s ∙ take-suc-set l (3 * at) x h₁ in
-    let two : take (3 * at + 2) l₂ ≡ take (3 * at) l ++ (x ∷ y ∷ []) =
-    ap (λ (j : ℕ). take j l₂) r ∙ take-suc-set l₁ (3 * at + 1) y h₂ ∙ ap (λ (z : List ℕ). z ++ (y ∷ [])) one
-    ∙ append-assoc (take (3 * at) l) (x ∷ []) (y ∷ []) in
-    record {
-      written =
-          ap (λ (j : ℕ). take j (set l₂ (3 * at + 2) (e .tag))) q ∙ take-suc-set l₂ (3 * at + 2) (e .tag) h₃
-          ∙ ap (λ (z : List ℕ). z ++ (e .tag ∷ [])) two ∙ append-assoc (take (3 * at) l) (x ∷ y ∷ []) (e .tag ∷ []);
-      same-length = simp length-set;
-    }
-
--- the i-th entry stored, by its cell and its tag
-pub entry-copied : (l p : List ℕ) (i at : ℕ) (c : Cell) (t : ℕ) (l′ : List ℕ) → c ≡ entryIn p i .cell → t ≡ entryIn p i .tag → EntryPut l at (entryOf c t) l′
-    → EntryPut l at (entryIn p i) l′
-entry-copied l p i at c t l′ q r x = rw (q, r) at x
 
 -- Before the i-th of a leaf's n entries: the first count places of l hold those passed that are left.
 pub record GatherLoop (ss p l₀ : List ℕ) (n i : ℕ) (l : List ℕ) (count : ℕ) : Type 0 where

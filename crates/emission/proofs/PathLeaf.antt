@@ -19,12 +19,13 @@ use Rattle.memory.specs.Layout.{part, itemCount, entriesIn, NodePart}
 use Rattle.memory.specs.Image.{entryNumbers}
 use Rattle.memory.proofs.ReadingLaws.{entries-length}
 use Rattle.memory.specs.Fanout.{fanout}
+use Rattle.layout.specs.Items.{EntryPut}
 use Rattle.index.specs.Changes.{entryOf}
 use Rattle.index.specs.Walks.{leafEntries}
 use Rattle.index.proofs.WalkRows.{node-part}
 use Rattle.sides.specs.Sides.{sidesOf, onEvery}
 use Rattle.emission.specs.Emits.{Emits, Room}
-use Rattle.emission.specs.Leaves.{onTest, leafLeft, EntryPut, Gathered, LeafGathered}
+use Rattle.emission.specs.Leaves.{onTest, leafLeft, Gathered, LeafGathered}
 use Rattle.emission.specs.Path.{partOn, polygonOn, wayAt, rowUnder, halfUnder, PathNode}
 use Rattle.emission.specs.Rows.{TopWritten, TopRoom, topParts}
 use Rattle.emission.proofs.DeepRows.{entries-left}

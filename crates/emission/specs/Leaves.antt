@@ -1,7 +1,7 @@
 -- A leaf under sides, by the numbers of its part.
-use Prim.Native.Nat.{ℕ, _+_, _*_, _≤_}
+use Prim.Native.Nat.{ℕ, _*_, _≤_}
 use mathlib.Core.Bool.{Bool}
-use mathlib.Core.List.{List, _++_, flatMap}
+use mathlib.Core.List.{List, flatMap}
 use mathlib.Core.Path.{_≡_}
 use lib.ListN.{length, take}
 use Rattle.tree.specs.Nodes.{Item}
@@ -25,11 +25,6 @@ leafLeft ss p = leafEntries (onTest ss) p
 -- what is left of the leaf under the sides: one branch or none
 unfoldable pub leafUnder : List ℕ → List ℕ → List (Item (planeSpace fanout) 1)
 leafUnder ss p = branchUnder (planeSpace fanout) (sidesOf ss) (polygonIn p) (leafLeft ss p)
-
--- An entry's numbers were written at the at-th place of l, three numbers a place, which gives l'; what stood before them is kept.
-pub record EntryPut (l : List ℕ) (at : ℕ) (e : CellEntry) (l' : List ℕ) : Type 0 where
-  pub written : take (3 * (at + 1)) l' ≡ take (3 * at) l ++ entryNumbers e
-  pub same-length : length l' ≡ length l
 
 -- The numbers of some entries stand at the start of a list.
 pub record Gathered (es : List CellEntry) (l : List ℕ) (count : ℕ) : Type 0 where

@@ -8,6 +8,7 @@ ghost use Rattle.emission.specs.Emits.{Emits, Room, deepAt};
 ghost use Rattle.emission.specs.Leaves.{leafUnder};
 use crate::leaf::gather;
 use crate::node::put_left;
+use layout::ENTRY;
 use layout::child_at;
 use layout::copy_node;
 use layout::copy_part;
@@ -45,12 +46,12 @@ fn emit_leaf(p: &[u32], sides: &[u32], work: &mut [u32], next: u32) -> u32
     requires { ⌜ NodePart (now p) × (1 ≤ length (now sides)) × Room 0 (now work) next (leafUnder (now sides) (now p)) ⌝ }
     ensures { λ r. ⌜ Emits 0 (now (work .entry)) next (leafUnder (now (sides .entry)) (now (p .entry))) (now (work .exit)) r ⌝ }
 {
-    let mut items = [0u32; 24];
+    let mut items = [0u32; 8 * ENTRY];
     let count = gather(p, sides, &mut items);
     if count == 0 {
         return next;
     }
-    let end = 3 * count;
+    let end = ENTRY * count;
     put_left(p, sides, count as u32, &items[..end], work, next);
     next + 1
 }

@@ -17,6 +17,7 @@ use crate::front::put_in_front;
 use crate::path_leaf::gather_with;
 use crate::top::is_kept;
 use geometry::Cell;
+use layout::ENTRY;
 use layout::part_at;
 use sides::left_side;
 use sides::right_side;
@@ -37,7 +38,7 @@ fn count_path_leaf(m: &[u32], path: &[u32], sides: &[u32], c: Cell, tag: u32) ->
     requires { ⌜ PathNode 0 (now path) (now m) ⌝ }
     ensures { λ r. ⌜ r ≡ counted 0 (halfUnder 0 (now (path .entry)) (now (m .entry)) (entryOf c tag) (sidesOf (now (sides .entry)))) ⌝ }
 {
-    let mut items = [0u32; 27];
+    let mut items = [0u32; 9 * ENTRY];
     let n = gather_with(part_at(m, path[0]), sides, c, tag, &mut items);
     if is_kept(sides, n) {
         return 1;

@@ -1,14 +1,12 @@
 // A leaf's entries under sides.
 ghost use mathlib.Core.Path.{_≡_};
-ghost use Prim.Native.Nat.{_+_, _*_, _≤_, _<_};
+ghost use Prim.Native.Nat.{_≤_, _<_};
 ghost use lib.ListN.{length};
 ghost use Rattle.tree.specs.Lists.{notEmpty};
 ghost use Rattle.memory.specs.Layout.{entryIn, NodePart};
-ghost use Rattle.index.specs.Changes.{entryOf};
-ghost use Rattle.emission.specs.Leaves.{onTest, leafLeft, EntryPut, LeafGathered};
-use geometry::Cell;
+ghost use Rattle.emission.specs.Leaves.{onTest, leafLeft, LeafGathered};
+use layout::copy_entry;
 use layout::entry_cell;
-use layout::entry_tag;
 use layout::item_count;
 use sides::on_all;
 
@@ -34,25 +32,6 @@ pub fn any_left(p: &[u32], sides: &[u32]) -> bool
         i += 1;
     }
     false
-}
-
-// Writes an entry at the at-th place of the list, three numbers a place.
-pub fn put_entry(list: &mut [u32], at: usize, c: Cell, tag: u32)
-    requires { ⌜ 3 * (at + 1) ≤ length (now list) ⌝ }
-    ensures { λ _. ⌜ EntryPut (now (list .entry)) at (entryOf c tag) (now (list .exit)) ⌝ }
-{
-    let to = 3 * at;
-    list[to] = c.x;
-    list[to + 1] = c.y;
-    list[to + 2] = tag;
-}
-
-// Writes the i-th entry of a leaf's part at the at-th place of the list.
-fn copy_entry(p: &[u32], i: usize, list: &mut [u32], at: usize)
-    requires { ⌜ (length (now p) ≡ 128) × (i < 8) × (3 * (at + 1) ≤ length (now list)) ⌝ }
-    ensures { λ _. ⌜ EntryPut (now (list .entry)) at (entryIn (now (p .entry)) i) (now (list .exit)) ⌝ }
-{
-    put_entry(list, at, entry_cell(p, i), entry_tag(p, i));
 }
 
 // Writes the entries of a leaf's part that are on every side to the start of the list; answers how many they are.

@@ -10,11 +10,12 @@ ghost use Rattle.emission.specs.Emits.{Emits, Room};
 ghost use Rattle.emission.specs.Leaves.{onTest, Gathered};
 ghost use Rattle.emission.specs.Path.{PathNode, halfUnder};
 use crate::leaf::gather;
-use crate::leaf::put_entry;
 use crate::path::path_polygon;
 use crate::top::emit_top;
 use geometry::Cell;
+use layout::ENTRY;
 use layout::part_at;
+use layout::put_entry;
 use sides::on_all;
 
 // Gathers the entries of a leaf's part and a new one behind them, those on every side; answers how many they are.
@@ -43,8 +44,8 @@ pub fn emit_leaf(
     requires { ⌜ PathNode 0 (now path) (now m) × Room 0 (now work) next (halfUnder 0 (now path) (now m) (entryOf c tag) (sidesOf (now sides))) ⌝ }
     ensures { λ r. ⌜ Emits 0 (now (work .entry)) next (halfUnder 0 (now (path .entry)) (now (m .entry)) (entryOf c tag) (sidesOf (now (sides .entry)))) (now (work .exit)) r ⌝ }
 {
-    let mut items = [0u32; 27];
+    let mut items = [0u32; 9 * ENTRY];
     let n = gather_with(part_at(m, path[0]), sides, c, tag, &mut items);
     let p = path_polygon(path, 0);
-    emit_top(p, sides, n, &items[..3 * n], work, next)
+    emit_top(p, sides, n, &items[..ENTRY * n], work, next)
 }

@@ -9,6 +9,7 @@ use mir.Syntax.{w32}
 use mir.Val.{Fits}
 use borrow.Author.Tests.{le-leb}
 use lib.ListN.{length, take}
+use lib.Seq.{take-all}
 use Rattle.geometry.specs.declared.rect.Cell.{Cell}
 use Rattle.geometry.specs.declared.rect.Rect.{Rect}
 use Rattle.geometry.specs.declared.polygon.Polygon.{Polygon}
@@ -37,6 +38,7 @@ use Rattle.memory.specs.Fanout.{fanout}
 use Rattle.index.specs.declared.answer.Inserted.the-variants as I
 use Rattle.index.specs.Answers.{insertEnd, insertRead}
 use Rattle.index.specs.Changes.{entryOf, insertedIndex, InsertMemory}
+use Rattle.layout.specs.Items.{EntryPut}
 use Rattle.layout.specs.Parts.{PartPut, PartRoom}
 use Rattle.layout.specs.Writing.{written}
 use Rattle.insertion.specs.Insert.{Built}
@@ -130,10 +132,22 @@ module _ (m w : List ℕ) (c : Cell) (t : ℕ) (empty : reading fanout m ≡ som
           zeroed = refl;
         }
 
--- the same as the code has it: the rectangle and the numbers of the entry in place
-pub first-done : (m w : List ℕ) (c : Cell) (t : ℕ) (p : Polygon) (w′ m′ : List ℕ) → reading fanout m ≡ some none → length w ≡ length m → onGrid c ≡ true
-    → PolygonOf (record { llx = c .x; lly = c .y; urx = c .x + 1; ury = c .y + 1 } ∷ []) p → PartPut w 0 (nodePart (rectsOf p) 1 (c .x ∷ c .y ∷ t ∷ [])) w′ → m′ ≡ written (length m) 1 1 w′
+-- one entry stored in a list that has room for one
+one-entry : (l : List ℕ) (e : CellEntry) (l′ : List ℕ) → length l ≡ 3 → EntryPut l 0 e l′ → l′ ≡ e .cell .x ∷ e .cell .y ∷ e .tag ∷ []
+unfolding entryNumbers
+one-entry l e l′ n x =
+    let k = x .same-length in
+    let h : length l′ ≤ 3 = omega arith in
+    sym (take-all 3 l′ h) ∙ x .written
+
+pub one-few : (l : List ℕ) (e : CellEntry) (l′ : List ℕ) → length l ≡ 3 → EntryPut l 0 e l′ → length l′ ≤ 62
+one-few l e l′ n x = let k = x .same-length in omega arith
+
+-- the same as the code has it: the rectangle in place, and the entry stored in a list
+pub first-done : (m w : List ℕ) (c : Cell) (t : ℕ) (l items : List ℕ) (p : Polygon) (w′ m′ : List ℕ) → reading fanout m ≡ some none → length w ≡ length m → onGrid c ≡ true
+    → length l ≡ 3 → EntryPut l 0 (entryOf c t) items
+    → PolygonOf (record { llx = c .x; lly = c .y; urx = c .x + 1; ury = c .y + 1 } ∷ []) p → PartPut w 0 (nodePart (rectsOf p) 1 items) w′ → m′ ≡ written (length m) 1 1 w′
     → Built m w (entryOf c t) m′ w′ (I.Accepted 1)
 unfolding cellRect
-first-done m w c t p w′ m′ empty long grid h put q =
-    first-built m w c t empty long grid p (record { llx = c .x; lly = c .y; urx = c .x + 1; ury = c .y + 1 }) (c .x ∷ c .y ∷ t ∷ []) w′ h refl refl put m′ q
+first-done m w c t l items p w′ m′ empty long grid n stored h put q =
+    first-built m w c t empty long grid p (record { llx = c .x; lly = c .y; urx = c .x + 1; ury = c .y + 1 }) items w′ h refl (one-entry l (entryOf c t) items n stored) put m′ q

@@ -13,6 +13,8 @@ use geometry::Cell;
 use geometry::Polygon;
 use geometry::Rect;
 use index::Inserted;
+use layout::ENTRY;
+use layout::put_entry;
 use layout::put_node;
 use layout::put_tree;
 
@@ -27,7 +29,8 @@ pub fn insert_first(m: &mut [u32], work: &mut [u32], c: Cell, tag: u32) -> Inser
         urx: c.x + 1,
         ury: c.y + 1,
     };
-    let items = [c.x, c.y, tag];
+    let mut items = [0u32; ENTRY];
+    put_entry(&mut items, 0, c, tag);
     put_node(work, 0, Polygon::of(r), 1, &items);
     put_tree(m, work, 1, 1);
     Inserted::Accepted(1)

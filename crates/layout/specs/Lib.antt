@@ -2,3 +2,4 @@ pub mod Gap
 pub mod PartSet
 pub mod Writing
 pub mod Parts
+pub mod Items

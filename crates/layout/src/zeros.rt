@@ -21,9 +21,9 @@ pub fn fill_zeros(m: &mut [u32])
     ensures { λ _. ⌜ now (m .exit) ≡ replicate (length (now (m .entry))) 0 ⌝ }
 {
     let n = m.len();
-    let mut i = 0;
-    while i < n {
-        m[i] = 0;
-        i += 1;
+    let mut at = 0;
+    while at < n {
+        m[at] = 0;
+        at += 1;
     }
 }

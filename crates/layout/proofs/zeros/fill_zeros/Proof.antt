@@ -1,4 +1,4 @@
--- `clearing::fill_zeros` meets its contract; its loop is in ClearWays.
+-- `zeros::fill_zeros` meets its contract; its loop is in ZeroLaws.
 use Prim.Native.Nat.{_-_}
 use mathlib.Core.Path.{_≡_}
 use borrow.Author.Needs.{needs}
@@ -8,10 +8,10 @@ use Rattle.layout.proofs.zeros.fill_zeros.Statement.{statement}
 use Rattle.layout.proofs.zeros.fill_zeros.Tie as tie
 
 abbrev Inv-loop : tie.InvT-loop
-Inv-loop m₀ n i₀ m i = (n ≡ length m₀) × Zeroing m₀ m i
+Inv-loop m₀ n at₀ m at = (n ≡ length m₀) × Zeroing m₀ m at
 
 abbrev μ-loop : tie.MeasureT-loop
-μ-loop m₀ n i₀ m i = n - i
+μ-loop m₀ n at₀ m at = n - at
 
 loop-holds : tie.Need-loop-holds Inv-loop μ-loop
 loop-holds c = (search needs, search zero-start)
@@ -22,8 +22,8 @@ mul-m c = search needs
 slice-write-m : tie.Need-slice-write-m Inv-loop μ-loop
 slice-write-m c = search needs
 
-add-i : tie.Need-add-i Inv-loop μ-loop
-add-i c = search needs
+add-at : tie.Need-add-at Inv-loop μ-loop
+add-at c = search needs
 
 loop-less : tie.Need-loop-less Inv-loop μ-loop
 loop-less c = search needs
@@ -46,7 +46,7 @@ fill-zeros-spec =
     loop-holds
     mul-m
     slice-write-m
-    add-i
+    add-at
     loop-less
     loop-again
     same-length

@@ -1,10 +1,10 @@
--- `leaf::put_entry` meets its contract.
+-- `items::put_entry` meets its contract.
 use native.Mathlib.Omega.{arith}
 use borrow.Author.Needs.{needs}
 use lib.ListN.{length-set}
-use Rattle.emission.proofs.LeafLoop.{entry-put}
-use Rattle.emission.proofs.leaf.put_entry.Statement.{statement}
-use Rattle.emission.proofs.leaf.put_entry.Tie as tie
+use Rattle.layout.proofs.ItemLaws.{entry-put}
+use Rattle.layout.proofs.items.put_entry.Statement.{statement}
+use Rattle.layout.proofs.items.put_entry.Tie as tie
 
 mul-to : tie.Need-mul-to
 mul-to c = search needs

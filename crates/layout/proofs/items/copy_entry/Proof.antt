@@ -1,8 +1,8 @@
--- `leaf::copy_entry` meets its contract.
+-- `items::copy_entry` meets its contract.
 use borrow.Author.Needs.{needs}
-use Rattle.emission.proofs.LeafLoop.{entry-copied}
-use Rattle.emission.proofs.leaf.copy_entry.Statement.{statement}
-use Rattle.emission.proofs.leaf.copy_entry.Tie as tie
+use Rattle.layout.proofs.ItemLaws.{entry-copied}
+use Rattle.layout.proofs.items.copy_entry.Statement.{statement}
+use Rattle.layout.proofs.items.copy_entry.Tie as tie
 
 entry-cell-requires : tie.Need-entry-cell-requires
 entry-cell-requires c κs = search needs
