@@ -1,11 +1,10 @@
 -- The ways out of the functions that write an answer.
-use Prim.Native.Nat.{ℕ, suc, _+_, _*_, _≤_, _<_}
-use mathlib.Core.Path.{_≡_, refl, sym, ap, _∙_}
-use mathlib.Core.Bool.{Bool, true, false, cond}
-use mathlib.Core.List.{List, [], _∷_, _++_, append-nil}
+use Prim.Native.Nat.{ℕ, _+_, _*_, _≤_, _<_}
+use mathlib.Core.Path.{_≡_, refl, sym}
+use mathlib.Core.List.{List, [], _∷_, append-nil}
 use native.Mathlib.Numerals.{add-one}
 use native.Mathlib.Omega.{arith}
-use borrow.Author.Tests.{eq-eqb, ne-eqb}
+use borrow.Author.Tests.{ne-eqb}
 use lib.ListN.{length, getD}
 use Rattle.index.specs.declared.answer.Inserted.{Inserted}
 use Rattle.index.specs.declared.answer.Inserted.the-variants as I
@@ -17,7 +16,7 @@ use Rattle.index.specs.declared.answer.PointFound.{PointFound}
 use Rattle.index.specs.declared.answer.PointFound.the-variants as P
 use Rattle.index.specs.declared.answer.WindowFound.{WindowFound}
 use Rattle.index.specs.declared.answer.WindowFound.the-variants as W
-use Rattle.index.specs.Numbers.{Told, accepts, refusal, insertTold, removeTold, clearTold, pointTold, windowTold}
+use Rattle.index.specs.Numbers.{insertTold, removeTold, clearTold, windowTold}
 use Rattle.commands.specs.declared.answers.Change.{Change}
 use Rattle.commands.specs.Text.{lineText, refusalText, Appended}
 use Rattle.commands.specs.AnswerText.{heldText, foundText, insertText, removeText, clearText, pointText, entriesText, listed, windowText, otherText, changeTold}

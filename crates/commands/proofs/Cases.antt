@@ -1,6 +1,6 @@
 -- Lines and answers worked out: the definitions compute.
 use mathlib.Core.Path.{_≡_, refl}
-use mathlib.Core.List.{List, [], _∷_, map, flatMap}
+use mathlib.Core.List.{[], _∷_, map, flatMap}
 use Rattle.index.specs.declared.answer.Inserted.the-variants as I
 use Rattle.index.specs.declared.answer.PointFound.the-variants as P
 use Rattle.index.specs.declared.answer.WindowFound.the-variants as W

@@ -1,18 +1,18 @@
 -- The ways out of reading a command.
-use Prim.Native.Nat.{ℕ, suc, _+_, _-_, _≤_, _<_}
+use Prim.Native.Nat.{ℕ, _-_, _≤_, _<_}
 use mathlib.Core.Path.{_≡_, refl, sym, ap, _∙_}
-use mathlib.Core.Bool.{Bool, true, false, cond, _&&_}
-use mathlib.Core.List.{List, [], _∷_, _++_}
+use mathlib.Core.Bool.{Bool, true, false, _&&_}
+use mathlib.Core.List.{List, [], _∷_}
 use mathlib.Core.Option.{Option, none, some}
 use native.Mathlib.Omega.{arith}
-use borrow.Author.Tests.{eq-eqb, ne-eqb, le-leb, lt-leb}
-use lib.Dec.{eqb, leb}
+use borrow.Author.Tests.{ne-eqb, le-leb, lt-leb}
+use lib.Dec.{eqb}
 use lib.ListN.{length, getD, take, drop}
 use lib.Seq.{take-suc, length-take-le, getD-take}
 use Rattle.commands.specs.declared.parsing.Command.{Command}
 use Rattle.commands.specs.declared.parsing.Command.the-variants.{Insert, Remove, Point, Window, Clear, Other}
 use Rattle.commands.specs.declared.fields.Fields.{Fields}
-use Rattle.commands.specs.Split.{splitAt, piecesBehind, PieceEnd}
+use Rattle.commands.specs.Split.{piecesBehind, PieceEnd}
 use Rattle.commands.specs.Fields.{numbersOf, NotFew, FieldsRead}
 use Rattle.commands.specs.Commands.{commandFor, commandWith, commandIn, commandOf}
 

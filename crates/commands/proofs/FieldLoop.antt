@@ -1,17 +1,16 @@
 -- The loop that reads the numbers of the fields behind a line's letter.
-use Prim.Native.Nat.{ℕ, suc, _+_, _-_, _≤_, _<_}
+use Prim.Native.Nat.{ℕ, _+_, _-_, _≤_, _<_}
 use mathlib.Core.Path.{_≡_, refl, sym, ap, _∙_}
-use mathlib.Core.Bool.{Bool, true, false, false≢true, true≢false}
+use mathlib.Core.Bool.{true, false, false≢true, true≢false}
 use mathlib.Core.List.{List, [], _∷_, _++_, append-nil}
 use mathlib.Core.Option.{Option, none, some}
 use native.Mathlib.Numerals.{add-one}
 use native.Mathlib.Omega.{arith}
-use lib.ListN.{length, getD, take, drop, set, length-append, length-set, drop-of-length-le}
+use lib.ListN.{length, take, drop, set, length-append, length-set, drop-of-length-le}
 use lib.Seq.{drop-cons, take-suc-set, length-take-le, append-snoc}
 use Rattle.commands.specs.declared.number.Number.{Number}
 use Rattle.commands.specs.declared.number.Number.the-variants.{Value, Nothing}
-use Rattle.commands.specs.declared.fields.Fields.{Fields}
-use Rattle.commands.specs.Split.{splitAt, piecesBehind, PieceEnd}
+use Rattle.commands.specs.Split.{piecesBehind, PieceEnd}
 use Rattle.commands.specs.Fields.{numberOf, withNumber, numbersOf, NotFew, FieldsRead}
 
 -- numbers before others; none where the others are none

@@ -10,7 +10,7 @@ use Rattle.commands.specs.declared.number.Number.{Number}
 use Rattle.commands.specs.declared.number.Number.the-variants.{Value, Nothing}
 use Rattle.commands.specs.declared.fields.Fields.{Fields}
 use Rattle.commands.specs.Bytes.{space, digitZero, digitNine}
-use Rattle.commands.specs.Split.{splitAt, piecesBehind}
+use Rattle.commands.specs.Split.{piecesBehind}
 
 unfoldable pub isDigit : ℕ → Bool
 isDigit b = leb digitZero b && leb b digitNine

@@ -1,15 +1,15 @@
 -- The forms for C: document 01's number and the reported count, from the answer.
-use mathlib.Core.Path.{_≡_, refl, sym, _∙_, ap}
+use mathlib.Core.Path.{_≡_, _∙_, ap}
 use mathlib.Core.Bool.{Bool}
 use mathlib.Core.List.{List}
 use mathlib.Core.Option.{Option}
 use Prim.Native.Nat.{ℕ, _≤_}
 use Rattle.geometry.specs.declared.rect.Rect.{Rect}
 use Rattle.drawing.specs.declared.answer.Answer.{Answer}
-use Rattle.drawing.specs.declared.answer.Answer.the-variants.{Wrote, Invalid, TooMany}
+use Rattle.drawing.specs.declared.answer.Answer.the-variants.{Wrote}
 use Rattle.drawing.specs.declared.answer.Extra.{Extra}
 use Rattle.drawing.specs.declared.answer.Extra.the-variants.{Area, Unfit}
-use Rattle.drawing.specs.Answers.{answerOf, number, reported, few, Drawn, Exported, extraNumber, extraReported}
+use Rattle.drawing.specs.Answers.{number, reported, few, Drawn, Exported, extraNumber, extraReported}
 
 pub few-wrote : (a : Answer) (n : ℕ) → few a → a ≡ Wrote n → n ≤ 256
 few-wrote a n f e = rw e at f

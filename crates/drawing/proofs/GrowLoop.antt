@@ -4,8 +4,7 @@ use mathlib.Core.Bool.{Bool, true, false, _&&_}
 use mathlib.Core.List.{List, [], _∷_, _++_, map, map-append}
 use Prim.Native.Nat.{ℕ, _+_, _*_, _/_, _≤_, _<_}
 use native.Mathlib.Omega.{arith}
-use borrow.Author.Tests.{eq-eqb}
-use lib.ListN.{length, take, drop, getD, take-append-drop, length-map, length-take}
+use lib.ListN.{length, drop, getD, take-append-drop, length-map, length-take}
 use lib.Seq.{drop-drop}
 use Rattle.geometry.specs.declared.rect.Rect.{Rect}
 use Rattle.geometry.specs.declared.rect.Cell.{Cell}
@@ -16,7 +15,6 @@ use Rattle.geometry.specs.Limits.{mostPieces}
 use Rattle.geometry.specs.Numbers.{rectAt, rectsIn, rectsOf, putAt, numbersOf, PolygonOf}
 use Rattle.geometry.proofs.NumberLaws.{length-rects, rects-suc, length-put, put-behind, put-rest, numbers-take}
 use Rattle.drawing.specs.declared.answer.Answer.the-variants.{Wrote}
-use Rattle.drawing.specs.declared.answer.Extra.{Extra}
 use Rattle.drawing.specs.declared.answer.Extra.the-variants.{Area, Unfit}
 use Rattle.drawing.specs.Arguments.{given, isList, isResult}
 use Rattle.drawing.specs.Answers.{Drawn, extraOf}

@@ -3,28 +3,26 @@ use mathlib.Core.Path.{_≡_, refl, sym, _∙_, ap}
 use mathlib.Core.Bool.{Bool, true, false, _&&_}
 use mathlib.Core.List.{List, [], _∷_, _++_}
 use mathlib.Core.Option.{Option, none, some}
-use Prim.Native.Nat.{ℕ, _+_, _*_, _/_, _%_, _≤_, _<_}
+use Prim.Native.Nat.{ℕ, _+_, _*_, _/_, _%_, _≤_}
 use native.Mathlib.Omega.{arith}
 use borrow.Author.Tests.{eq-eqb, ne-eqb, leb-true}
 use lib.Dec.{leb, eqb}
 use lib.ListN.{length, take, drop}
 use lib.Seq.{length-take-le, length-front, take-at}
 use Rattle.geometry.specs.declared.rect.Rect.{Rect}
-use Rattle.geometry.specs.declared.rect.Cell.{Cell}
 use Rattle.geometry.specs.declared.polygon.Polygon.{Polygon}
 use Rattle.geometry.specs.declared.cut.Count.{Count}
 use Rattle.geometry.specs.declared.cut.Count.the-variants.{Rects, Over}
-use Rattle.geometry.specs.Cells.{valid, allValid, onGrid}
+use Rattle.geometry.specs.Cells.{valid, allValid}
 use Rattle.geometry.specs.Common.{commonWith, commonParts}
-use Rattle.geometry.specs.Cut.{cutList, cutLimited, commonLimited}
-use Rattle.geometry.specs.Limits.{mostPieces, mostOfPolygon, atMost}
-use Rattle.geometry.specs.Numbers.{rectsIn, rectsOf, numbersOf, counted, atMost256, Written, Refined, PolygonOf}
+use Rattle.geometry.specs.Cut.{cutLimited, commonLimited}
+use Rattle.geometry.specs.Limits.{mostPieces, mostOfPolygon}
+use Rattle.geometry.specs.Numbers.{rectsIn, rectsOf, numbersOf, counted, Written, Refined, PolygonOf}
 use Rattle.geometry.specs.Refine.{refine}
 use Rattle.geometry.proofs.Booleans.{all4}
 use Rattle.geometry.proofs.CommonLaws.{at-most-some, common-with-length}
 use Rattle.geometry.proofs.CellLaws.{length-flat}
 use Rattle.geometry.proofs.NumberLaws.{length-rects, rects-prefix, numbers-take}
-use Rattle.drawing.specs.declared.answer.Answer.{Answer}
 use Rattle.drawing.specs.declared.answer.Answer.the-variants.{Wrote, Invalid, TooMany}
 use Rattle.drawing.specs.Arguments.{given, isList, isResult}
 use Rattle.drawing.specs.Answers.{answerOf, resultOf, few, Drawn, RefinedInto}

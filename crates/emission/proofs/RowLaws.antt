@@ -1,5 +1,5 @@
 -- The branches of a routing node in a memory, and the loop that writes what is left of them under sides.
-use Prim.Native.Nat.{ℕ, suc, _+_, _*_, _-_, _≤_, _<_}
+use Prim.Native.Nat.{ℕ, suc, _+_, _-_, _≤_, _<_}
 use mathlib.Core.Path.{_≡_, refl, sym, ap, _∙_}
 use mathlib.Core.Bool.{Bool, true, false}
 use mathlib.Core.List.{List, [], _∷_, _++_, append-assoc, append-nil, flatMap}
@@ -9,12 +9,12 @@ use native.Mathlib.Numerals.{add-one}
 use borrow.Author.Tests.{eq-eqb, ne-eqb}
 use lib.Dec.{eqb}
 use lib.ListN.{length, take, drop, getD, set, length-append, length-set}
-use lib.Seq.{drop-cons, getD-take, getD-drop, take-suc-set}
+use lib.Seq.{drop-cons, take-suc-set}
 use Rattle.tree.specs.Lists.{total}
 use Rattle.tree.specs.Nodes.{Item, nodes}
 use Rattle.tree.proofs.Counts.{total-append}
 use Rattle.plane.specs.Plane.{planeSpace}
-use Rattle.memory.specs.Layout.{part, itemCount, childrenIn, childAt, countAt}
+use Rattle.memory.specs.Layout.{part, childrenIn, childAt, countAt}
 use Rattle.memory.specs.Image.{emitRow, emitNode}
 use Rattle.memory.specs.Reading.{readNode}
 use Rattle.memory.proofs.NodeImage.{length-node}

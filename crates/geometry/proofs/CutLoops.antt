@@ -1,8 +1,8 @@
 -- Cutting a list in place by one rectangle, and the loop over a polygon's rectangles.
 use mathlib.Core.Path.{_≡_, refl, sym, _∙_, ap}
-use mathlib.Core.Bool.{Bool, true, false, _||_}
+use mathlib.Core.Bool.{Bool, false}
 use mathlib.Core.List.{List, [], _∷_, _++_, flatMap}
-use mathlib.Core.Option.{Option, none, some, bind}
+use mathlib.Core.Option.{Option, some, bind}
 use Prim.Native.Nat.{ℕ, _+_, _*_, _≤_, _<_}
 use native.Mathlib.Omega.{arith}
 use lib.ListN.{length, take, drop, getD}
@@ -12,9 +12,9 @@ use Rattle.geometry.specs.declared.polygon.Polygon.{Polygon}
 use Rattle.geometry.specs.declared.cut.Count.{Count}
 use Rattle.geometry.specs.declared.cut.Count.the-variants.{Rects, Over}
 use Rattle.geometry.specs.Common.{sharesWith}
-use Rattle.geometry.specs.Cut.{cut, cutBy, cutList, cutLimited}
+use Rattle.geometry.specs.Cut.{cutBy, cutList, cutLimited}
 use Rattle.geometry.specs.Limits.{atMost, mostPieces}
-use Rattle.geometry.specs.Numbers.{rectsIn, rectsOf, counted, atMost256, Written}
+use Rattle.geometry.specs.Numbers.{rectsIn, rectsOf, counted, Written}
 use Rattle.geometry.specs.Refine.{anyOf}
 use Rattle.geometry.proofs.ArrayLaws.{array-next, array-end}
 use Rattle.geometry.proofs.Booleans.{neither}

@@ -1,17 +1,13 @@
 -- The loops that write the parts of each rectangle of a list behind another list.
 use mathlib.Core.Path.{_≡_, refl, sym, _∙_, ap}
-use mathlib.Core.Bool.{Bool, true, false, cond}
-use mathlib.Core.List.{List, [], _∷_, _++_, append-nil, append-assoc, flatMap}
-use mathlib.Core.Option.{Option, none, some}
+use mathlib.Core.List.{List, _++_, append-nil, append-assoc, flatMap}
+use mathlib.Core.Option.{some}
 use Prim.Native.Nat.{ℕ, _+_, _*_, _≤_, _<_}
 use native.Mathlib.Omega.{arith}
 use borrow.Author.Tests.{le-leb, lt-leb}
-use lib.Dec.{leb}
 use lib.ListN.{length, drop, getD, take, length-append}
-use lib.Seq.{length-take-le}
 use Rattle.geometry.specs.declared.rect.Rect.{Rect}
 use Rattle.geometry.specs.declared.polygon.Polygon.{Polygon}
-use Rattle.geometry.specs.declared.cut.Count.{Count}
 use Rattle.geometry.specs.declared.cut.Count.the-variants.{Rects, Over}
 use Rattle.geometry.specs.Common.{common, commonWith, commonParts}
 use Rattle.geometry.specs.Limits.{atMost, mostPieces}

@@ -1,13 +1,12 @@
 -- Laws of lists of rectangles as numbers: reading, writing at a place, and behind the list.
 use mathlib.Core.Path.{_≡_, refl, sym, _∙_, ap}
-use mathlib.Core.List.{List, [], _∷_, _++_, append-nil}
-use mathlib.Core.Logic.{⊎-elim}
+use mathlib.Core.List.{List, [], _∷_, _++_}
 use Prim.Native.Nat.{ℕ, zero, suc, _+_, _*_, _-_, _≤_, _<_}
 use native.Mathlib.Omega.{arith}
-use native.Mathlib.Numerals.{add-one, towards-suc}
+use native.Mathlib.Numerals.{add-one}
 use native.Mathlib.Decide.{decLe, decLt}
 use lib.ListN.{length, take, drop, getD, set, length-append, length-set, drop-of-length-le, List·getD-append}
-use lib.Seq.{drop-cons, getD-take, getD-at, getD-set-same, getD-set-other, take-append-le, take-all, take-suc, ext-getD, length-take-le, take-add, drop-set-lt}
+use lib.Seq.{drop-cons, getD-take, getD-at, getD-set-same, getD-set-other, ext-getD, length-take-le, take-add, drop-set-lt}
 use Rattle.geometry.specs.declared.rect.Rect.{Rect}
 use Rattle.geometry.specs.Cells.{noRect}
 use Rattle.geometry.specs.Numbers.{rectAt, rectsIn, putAt, numbersOf}

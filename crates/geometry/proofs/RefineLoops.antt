@@ -1,14 +1,13 @@
 -- Taking a rectangle out, joining two, a step of refine, and the loop of steps.
 use mathlib.Core.Path.{_≡_, refl, sym, _∙_, ap}
-use mathlib.Core.Bool.{Bool, true, false, cond}
-use mathlib.Core.List.{List, [], _∷_, _++_}
-use mathlib.Core.Logic.{_⊎_, inl, inr, ⊎-elim}
-use Prim.Native.Nat.{ℕ, zero, suc, _+_, _*_, _-_, _≤_, _<_}
+use mathlib.Core.Bool.{true, false}
+use mathlib.Core.List.{List}
+use Prim.Native.Nat.{ℕ, suc, _+_, _*_, _-_, _≤_, _<_}
 use native.Mathlib.Omega.{arith}
 use native.Mathlib.Decide.{decLt}
 use borrow.Author.Tests.{lt-ltb, le-ltb}
 use lib.Dec.{ltb}
-use lib.ListN.{length, take, drop, getD, set, length-set, length-drop, length-append, List·getD-append}
+use lib.ListN.{length, take, drop, getD, set, List·getD-append}
 use lib.Seq.{ext-getD, getD-take, getD-drop, getD-append-add, length-take-le}
 use Rattle.geometry.specs.declared.rect.Rect.{Rect}
 use Rattle.geometry.specs.declared.refine.Step.{Step}
@@ -16,8 +15,8 @@ use Rattle.geometry.specs.declared.refine.Step.the-variants.{Shorter, Do
 use Rattle.geometry.specs.Cells.{noRect}
 use Rattle.geometry.specs.declared.polygon.Polygon.{Polygon}
 use Rattle.geometry.specs.Numbers.{rectAt, rectsIn, putAt, Appended, PolygonOf, Dropped, Joined, Shortened, Finished, Stepped, Refined}
-use Rattle.geometry.specs.Refine.{firstFrom, contained, dropped, joined, union, partner, firstContained, firstJoin, refineStep, refineSteps, refine}
-use Rattle.geometry.proofs.NumberLaws.{length-rects, length-put, rects-at, rects-take, put-same, put-other, put-inside}
+use Rattle.geometry.specs.Refine.{contained, dropped, union, partner, firstContained, firstJoin, refineStep, refineSteps, refine}
+use Rattle.geometry.proofs.NumberLaws.{length-rects, length-put, rects-at, put-same, put-other, put-inside}
 use Rattle.geometry.proofs.RefineLaws.{first-before, length-dropped, Pair, join-found, contained-dropped, stays}
 
 -- The rectangles from the i-th up to the k-th have moved down; the others are in their places.

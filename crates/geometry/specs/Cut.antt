@@ -1,8 +1,7 @@
 -- Document 01, 'Cut R by S'.
-use Prim.Native.Nat.{max, min}
 use mathlib.Core.Bool.{cond}
 use mathlib.Core.List.{List, [], _∷_, _++_, flatMap}
-use mathlib.Core.Option.{Option, none, some, bind}
+use mathlib.Core.Option.{Option, some, bind}
 use Rattle.geometry.specs.declared.rect.Rect.{Rect}
 use Rattle.geometry.specs.Cells.{nonEmpty}
 use Rattle.geometry.specs.Common.{overlap, unlessEmpty, commonParts}

@@ -1,5 +1,4 @@
 // The common parts of a list with the rectangles of a polygon.
-ghost use mathlib.Core.Path.{_≡_};
 ghost use Prim.Native.Nat.{_+_, _*_, _≤_};
 ghost use lib.ListN.{length};
 ghost use Rattle.geometry.specs.Common.{common, commonWith};

@@ -1,7 +1,7 @@
 // One rectangle, by value: its cells and area, and the rectangles that the rules make of it.
 ghost use mathlib.Core.Path.{_≡_};
 ghost use Prim.Native.Nat.{_≤_, _<_, min, max};
-ghost use Rattle.geometry.specs.Cells.{onGrid, hasCell, nonEmpty, valid, area};
+ghost use Rattle.geometry.specs.Cells.{onGrid, hasCell, valid, area};
 ghost use Rattle.geometry.specs.Common.{commonPart, sharesWith};
 ghost use Rattle.geometry.specs.Grow.{grown};
 ghost use Rattle.geometry.specs.Refine.{within, strictlyWithin, stacked, abreast, joinable, union};

@@ -1,11 +1,9 @@
 -- The ways out of clearing.
-use Prim.Native.Nat.{ℕ, _+_, _≤_, _<_}
-use mathlib.Core.Path.{_≡_, refl, ap, _∙_}
+use Prim.Native.Nat.{ℕ}
+use mathlib.Core.Path.{_≡_}
 use mathlib.Core.Bool.{Bool, true, false}
-use mathlib.Core.List.{List, _++_, append-nil}
-use native.Mathlib.Omega.{arith}
-use borrow.Author.Fill.{fill-more}
-use lib.ListN.{length, drop, set, replicate, length-set, drop-of-length-le}
+use mathlib.Core.List.{List}
+use lib.ListN.{length, replicate}
 use Rattle.memory.specs.Layout.{rightLength}
 use Rattle.index.specs.declared.answer.Cleared.the-variants.{Accepted, WrongLength}
 use Rattle.index.specs.Answers.{clearAnswer, cleared}

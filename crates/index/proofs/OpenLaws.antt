@@ -1,17 +1,15 @@
 -- Opening an index: what each way out says of the memory's reading.
 use mathlib.Core.Path.{_≡_, refl, sym, ap, _∙_}
-use mathlib.Core.Bool.{Bool, true, false, _&&_, _||_}
+use mathlib.Core.Bool.{Bool, true, false, _&&_}
 use mathlib.Core.List.{List}
 use mathlib.Core.Option.{Option, none, some}
-use Prim.Native.Nat.{ℕ, suc, _+_, _*_, _-_, _<_, _≤_, min}
+use Prim.Native.Nat.{ℕ, suc, _-_, _<_, _≤_}
 use native.Mathlib.Omega.{arith}
-use native.Mathlib.Numerals.{add-one}
-use borrow.Author.Tests.{le-leb, lt-leb, eqb-true, eq-eqb, ne-eqb}
+use borrow.Author.Tests.{le-leb, eqb-true, eq-eqb}
 use lib.Dec.{leb, eqb}
-use lib.ListN.{length, take, drop, getD, length-take, length-drop}
-use lib.Seq.{getD-take, getD-drop, ext-getD}
+use lib.ListN.{length, take, drop}
 use Rattle.geometry.specs.Cells.{allValid}
-use Rattle.geometry.proofs.Booleans.{is-false, not-both, neither, both, split-and, all4}
+use Rattle.geometry.proofs.Booleans.{not-both, both, split-and, all4}
 use Rattle.geometry.proofs.NumberLaws.{length-rects}
 use Rattle.tree.specs.Nodes.{Item, nodes}
 use Rattle.tree.specs.Tree.{Tree, top}
@@ -19,7 +17,7 @@ use Rattle.plane.specs.Plane.{planeSpace}
 use Rattle.memory.specs.Layout.{PartIn, partsOf, rightLength, part, bitsSet, heightIn, rootIn, allZero, rectCount, othersZero}
 use Rattle.memory.specs.SoundTest.{allPass, pairsPass, polygonFits, countTest, apartTest, itemTest, soundTest}
 use Rattle.memory.specs.Reading.{readNode, treeOf, reading}
-use Rattle.memory.proofs.ReadingLaws.{length-right, ReadAs, read-as, read-empty, make-reading, zeros-read, zero-at, unused-zero, level-range}
+use Rattle.memory.proofs.ReadingLaws.{length-right, ReadAs, read-as, read-empty, make-reading, zeros-read, zero-at, level-range}
 use Rattle.memory.specs.Fanout.{fanout}
 use Rattle.index.specs.Check.{nodeTest, checked, checkedAt}
 use Rattle.index.specs.Open.{TreeIn}

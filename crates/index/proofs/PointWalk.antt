@@ -1,5 +1,5 @@
 -- The walk of the point query: an entry's test, the leaf, the loop over the children, and what was found.
-use Prim.Native.Nat.{ℕ, _+_, _*_, _-_, _≤_, _<_}
+use Prim.Native.Nat.{ℕ, _+_, _-_, _≤_, _<_}
 use mathlib.Core.Path.{_≡_, refl, sym, ap, _∙_}
 use mathlib.Core.Bool.{Bool, true, false}
 use mathlib.Core.List.{List, [], _∷_, _++_}
@@ -8,7 +8,7 @@ use borrow.Author.Tests.{eq-eqb, ne-eqb}
 use lib.Dec.{eqb}
 use Rattle.geometry.specs.declared.rect.Cell.{Cell}
 use Rattle.plane.specs.Lines.{CellEntry}
-use Rattle.memory.specs.Layout.{part, itemCount, entryIn, polygonIn, childAt, countAt}
+use Rattle.memory.specs.Layout.{part, entryIn, polygonIn, childAt, countAt}
 use Rattle.index.specs.declared.walk.Found.{Found}
 use Rattle.index.specs.Walks.{hasTest, cellTest, visitsBelow, leafEntries, Walkable, found, foundOf, joined, heldBelow}
 use Rattle.index.proofs.WalkLeaf.{AtEntry, entry-hit}

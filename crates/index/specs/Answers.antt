@@ -1,15 +1,14 @@
 -- The answer of each call, from the memory, its arguments and the lengths of the lent lists. 'Tests run in number order; the first that
 -- applies is given, and only where its cause holds.'
 use Prim.Native.Nat.{ℕ, _+_, _*_}
-use mathlib.Core.Bool.{Bool, cond}
-use mathlib.Core.List.{List, [], _∷_, _++_, flatMap}
+use mathlib.Core.Bool.{cond}
+use mathlib.Core.List.{List, _++_, flatMap}
 use mathlib.Core.Option.{Option, none, some}
 use lib.Dec.{leb, eqb}
 use lib.ListN.{length, drop, replicate}
 use Rattle.geometry.specs.declared.rect.Cell.{Cell}
 use Rattle.geometry.specs.declared.rect.Rect.{Rect}
 use Rattle.geometry.specs.Cells.{onGrid, valid}
-use Rattle.tree.specs.Space.{Entry}
 use Rattle.tree.specs.Tree.{Index, entries}
 use Rattle.tree.specs.Insert.{Outcome, refused, accepted}
 use Rattle.tree.specs.Query.{entryAt, visits, matches, windowVisits}

@@ -7,7 +7,7 @@ use mathlib.Core.Option.{Option, none, some, bind}
 use native.Mathlib.Omega.{arith}
 use native.Mathlib.Decide.{decLe}
 use lib.ListN.{length, take, drop, getD, set, length-set}
-use lib.Seq.{drop-drop, getD-drop, getD-take, getD-set-same, getD-set-other, drop-set-lt, getD-append-seam, length-take-le}
+use lib.Seq.{drop-drop, getD-drop, getD-set-same, getD-set-other, drop-set-lt, getD-append-seam, length-take-le}
 use Rattle.geometry.specs.declared.rect.Cell.{Cell}
 use Rattle.geometry.specs.declared.rect.Rect.{Rect}
 use Rattle.geometry.specs.declared.polygon.Polygon.{Polygon}
@@ -23,7 +23,7 @@ use Rattle.plane.specs.Lines.{CellEntry}
 use Rattle.plane.specs.Plane.{planeSpace}
 use Rattle.plane.proofs.Rects.{plane-space-laws}
 use Rattle.plane.proofs.Steps.{plane-steps}
-use Rattle.memory.specs.Layout.{part, itemCount, childrenIn, countAt, childAt}
+use Rattle.memory.specs.Layout.{part, childrenIn, countAt, childAt}
 use Rattle.memory.specs.Reading.{readNode}
 use Rattle.memory.proofs.ReadingLaws.{leaf-parts, node-parts, NodeParts, row-at, row-length, lowAt, node-lower}
 use Rattle.memory.specs.Fanout.{fanout}

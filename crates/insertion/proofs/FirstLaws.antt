@@ -1,7 +1,7 @@
 -- The first entry of an index: a leaf with its cell alone.
-use Prim.Native.Nat.{ℕ, zero, suc, _+_, _*_, _-_, _≤_, _<_}
-use mathlib.Core.Bool.{Bool, true, false, cond}
-use mathlib.Core.Path.{_≡_, refl, sym, ap, _∙_, subst}
+use Prim.Native.Nat.{ℕ, _+_, _*_, _-_, _≤_}
+use mathlib.Core.Bool.{Bool, true, cond}
+use mathlib.Core.Path.{_≡_, refl, sym, ap, _∙_}
 use mathlib.Core.List.{List, [], _∷_, _++_, flatMap, append-nil}
 use mathlib.Core.Option.{none, some}
 use native.Mathlib.Omega.{arith}
@@ -15,13 +15,12 @@ use Rattle.geometry.specs.declared.rect.Rect.{Rect}
 use Rattle.geometry.specs.declared.polygon.Polygon.{Polygon}
 use Rattle.geometry.specs.Cells.{onGrid}
 use Rattle.geometry.specs.Numbers.{rectsOf, PolygonOf}
-use Rattle.geometry.proofs.CellLaws.{OnGrid, grid-of}
+use Rattle.geometry.proofs.CellLaws.{grid-of}
 use Rattle.tree.specs.Nodes.{held, nodes}
 use Rattle.tree.specs.Search.{any}
 use Rattle.tree.specs.Lists.{total}
 use Rattle.tree.specs.Tree.{Tree, top, nodeCount, SoundTree}
 use Rattle.tree.specs.Insert.{refused, accepted, limited, insertTree}
-use Rattle.tree.specs.Calls.{outcomeIndex}
 use Rattle.tree.proofs.Insert.{insert-sound}
 use Rattle.plane.specs.Lines.{CellEntry}
 use Rattle.plane.specs.Plane.{planeSpace, planeRoot, cellRect}
@@ -30,14 +29,14 @@ use Rattle.plane.proofs.Steps.{plane-steps}
 use Rattle.plane.proofs.Roots.{plane-root-laws}
 use Rattle.memory.specs.Layout.{partsOf}
 use Rattle.memory.specs.Reading.{reading}
-use Rattle.memory.specs.Image.{entryNumbers, nodePart, emitNode, memoryOf, image}
+use Rattle.memory.specs.Image.{entryNumbers, nodePart, emitNode, image}
 use Rattle.memory.proofs.ReadingLaws.{read-empty, RightLength, length-right}
 use Rattle.memory.proofs.SoundTested.{test-of-sound}
 use Rattle.memory.proofs.ImageLaws.{image-reads, image-length}
 use Rattle.memory.specs.Fanout.{fanout}
 use Rattle.index.specs.declared.answer.Inserted.the-variants as I
 use Rattle.index.specs.Answers.{insertEnd, insertRead}
-use Rattle.index.specs.Changes.{entryOf, insertedIndex, InsertMemory}
+use Rattle.index.specs.Changes.{entryOf, insertedIndex}
 use Rattle.layout.specs.Items.{EntryPut}
 use Rattle.layout.specs.Parts.{PartPut, PartRoom}
 use Rattle.layout.specs.Writing.{written}

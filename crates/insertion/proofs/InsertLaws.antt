@@ -14,7 +14,7 @@ use Rattle.tree.specs.Nodes.{nodes}
 use Rattle.tree.specs.Tree.{Tree, top, entries, nodeCount, SoundTree}
 use Rattle.tree.specs.Insert.{accepted, limited, insertTree}
 use Rattle.tree.specs.Query.{holds}
-use Rattle.tree.specs.Calls.{insertion, outcomeIndex}
+use Rattle.tree.specs.Calls.{outcomeIndex}
 use Rattle.tree.proofs.Counts.{countOf-every}
 use Rattle.tree.proofs.Insert.{insert-sound, insert-entries}
 use Rattle.plane.specs.Lines.{CellEntry}

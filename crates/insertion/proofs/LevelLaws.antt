@@ -1,15 +1,14 @@
 -- A level of the path, written and read back.
-use Prim.Native.Nat.{ℕ, suc, _+_, _*_, _-_, _≤_, _<_}
-use mathlib.Core.Path.{_≡_, refl, sym, ap, _∙_}
-use mathlib.Core.List.{List, [], _∷_, _++_}
+use Prim.Native.Nat.{ℕ, _+_, _*_, _-_, _≤_, _<_}
+use mathlib.Core.Path.{_≡_, sym, ap, _∙_}
+use mathlib.Core.List.{List, _++_}
 use native.Mathlib.Omega.{arith}
 use lib.ListN.{length, take, drop, getD, set, length-set, length-take, length-drop, length-append}
 use lib.Seq.{drop-drop, take-at, drop-at, take-append-le, getD-take, getD-set-same, getD-set-other, drop-set-lt, length-take-le}
-use Rattle.geometry.specs.declared.rect.Rect.{Rect}
 use Rattle.geometry.specs.declared.polygon.Polygon.{Polygon}
 use Rattle.geometry.specs.Numbers.{rectsIn, rectsOf, Appended}
 use Rattle.geometry.proofs.NumberLaws.{rects-prefix}
-use Rattle.emission.specs.Path.{partOn, lineOn, polygonOn}
+use Rattle.emission.specs.Path.{polygonOn}
 use Rattle.insertion.specs.Descent.{LevelPut}
 
 module _ (path : List ℕ) (n k : ℕ) (p : Polygon) (room : 68 * n + 68 ≤ length path) (few : p .count ≤ 16) where

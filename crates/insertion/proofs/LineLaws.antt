@@ -17,7 +17,7 @@ use Rattle.plane.specs.Plane.{planeSpace}
 use Rattle.plane.proofs.Kept.{map-all}
 use Rattle.plane.proofs.Rects.{plane-space-laws}
 use Rattle.plane.proofs.Steps.{plane-steps}
-use Rattle.memory.specs.Layout.{part, countAt, NodePart}
+use Rattle.memory.specs.Layout.{part, countAt}
 use Rattle.memory.specs.Fanout.{fanout}
 use Rattle.index.specs.Changes.{entryOf}
 use Rattle.index.specs.Walks.{Walkable}

@@ -15,7 +15,6 @@ use Rattle.tree.specs.Lists.{All, keep}
 use Rattle.tree.specs.Space.{left, right}
 use Rattle.tree.specs.Nodes.{Item, entryOn, held}
 use Rattle.tree.specs.Split.{lineOf, split}
-use Rattle.tree.specs.Plan as P
 use Rattle.tree.specs.Plan.{Way, descend, row, groups, few, lineAt}
 use Rattle.tree.specs.Pass.{wayHeld, Bag, Alike}
 use Rattle.tree.proofs.Laws.{Laws, Steps, Fit, onSide}

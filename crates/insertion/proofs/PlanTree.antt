@@ -15,7 +15,6 @@ use Rattle.tree.specs.Space.{Side, left, right}
 use Rattle.tree.specs.Nodes.{Item}
 use Rattle.tree.specs.Tree.{Tree}
 use Rattle.tree.specs.Insert.{rooted, insertTree}
-use Rattle.tree.specs.Plan as P
 use Rattle.tree.specs.Plan.{Way, descend, row, few, lineAt, cutInto, emitRow, emit}
 use Rattle.tree.proofs.Emission.{emit-all}
 use Rattle.tree.proofs.PlanIndex.{insert-by-plan}

@@ -20,7 +20,6 @@ use Rattle.tree.specs.Nodes.{Item, held}
 use Rattle.tree.specs.Sound.{Count, SoundItem, SoundItems}
 use Rattle.tree.specs.Tree.{Tree, top, entries, SoundTree}
 use Rattle.tree.specs.Insert.{insertTree}
-use Rattle.tree.specs.Plan as P
 use Rattle.tree.specs.Plan.{Way, descend}
 use Rattle.tree.specs.Query.{ofCell, holds}
 use Rattle.tree.proofs.Any.{any-false}

@@ -1,7 +1,7 @@
 -- The forms for C: the number and the values of each answer.
 use Prim.Native.Nat.{ℕ}
 use mathlib.Core.List.{List}
-use mathlib.Core.Path.{_≡_, refl, sym, ap, _∙_, subst}
+use mathlib.Core.Path.{_≡_, ap, _∙_, subst}
 use lib.ListN.{length}
 use Rattle.geometry.specs.declared.rect.Cell.{Cell}
 use Rattle.geometry.specs.declared.rect.Rect.{Rect}
@@ -18,7 +18,7 @@ use Rattle.index.specs.declared.answer.WindowFound.{WindowFound}
 use Rattle.index.specs.declared.answer.WindowFound.the-variants as W
 use Rattle.index.specs.Numbers.{insertTold, removeTold}
 use Rattle.index.specs.Changes.{InsertMemory, workAfter, InsertCall, RemoveMemory, RemoveCall}
-use Rattle.index.specs.Answers.{insertAnswer, removeAnswer, clearAnswer, cleared, pointAnswer, windowAnswer, windowList}
+use Rattle.index.specs.Answers.{clearAnswer, cleared, pointAnswer, windowAnswer, windowList}
 use Rattle.lintzoger.specs.Exports.{stored, InsertExported, RemoveExported, ClearExported, PointExported, WindowExported}
 
 module _ (m w : List ℕ) (e : CellEntry) (held : ℕ) (m′ w′ : List ℕ) (a : Inserted) (z : InsertCall m w e m′ w′ a) where

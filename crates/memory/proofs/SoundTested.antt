@@ -1,5 +1,5 @@
 -- Document 01, 'Sound means': each test of specs/SoundTest passes exactly where its clause of Sound holds.
-use Prim.Native.Nat.{ℕ, zero, suc, _≤_}
+use Prim.Native.Nat.{ℕ, zero, suc}
 use mathlib.Core.Path.{_≡_, refl, sym, ap, _∙_, subst}
 use mathlib.Core.Bool.{Bool, true, false, _&&_, _||_, not, or-false, false≢true}
 use mathlib.Core.List.{List, [], _∷_, _++_, flatMap, append-nil}

@@ -1,10 +1,10 @@
 -- The reading of a memory into 'no sound tree' or an index. Document 01: 'its reading into a tree is a definition'.
 use Prim.Native.Nat.{ℕ, zero, suc, _+_}
-use mathlib.Core.Bool.{Bool, true, false, _&&_, cond}
+use mathlib.Core.Bool.{Bool, _&&_, cond}
 use mathlib.Core.List.{List, [], _∷_}
 use mathlib.Core.Option.{Option, none, some, bind}
 use lib.Dec.{leb, ltb, eqb}
-use lib.ListN.{length, take, drop}
+use lib.ListN.{take, drop}
 use Rattle.geometry.specs.declared.rect.Rect.{Rect}
 use Rattle.tree.specs.Space.{Branch}
 use Rattle.tree.specs.Nodes.{Item, nodes}

@@ -1,18 +1,16 @@
 -- The test for 'Sound' on a tree that was read: each clause of Sound as a test. The theorem sound-tested says that it passes exactly where
 -- the tree is sound.
 use Prim.Native.Nat.{ℕ, zero, suc}
-use mathlib.Core.Bool.{Bool, true, false, _&&_, _||_, not}
+use mathlib.Core.Bool.{Bool, true, false, _&&_, not}
 use mathlib.Core.List.{List, [], _∷_}
 use lib.Dec.{leb, eqb}
 use lib.ListN.{length}
 use Rattle.geometry.specs.declared.rect.Rect.{Rect}
-use Rattle.geometry.specs.declared.rect.Cell.{Cell}
-use Rattle.geometry.specs.Cells.{hasCell, anyHas, valid, allValid}
+use Rattle.geometry.specs.Cells.{anyHas, allValid}
 use Rattle.geometry.specs.Common.{sharesWith}
 use Rattle.geometry.specs.Cut.{cutAll}
 use Rattle.geometry.specs.Limits.{mostOfPolygon}
 use Rattle.geometry.specs.Refine.{anyOf}
-use Rattle.tree.specs.Space.{Branch}
 use Rattle.tree.specs.Nodes.{Item}
 use Rattle.tree.specs.Tree.{Tree}
 use Rattle.plane.specs.Plane.{planeSpace}

@@ -1,8 +1,8 @@
 -- The ways out of answering a line.
 use Prim.Native.Nat.{ℕ, _+_, _*_, _≤_}
-use mathlib.Core.Path.{_≡_, refl, sym, ap, _∙_}
+use mathlib.Core.Path.{_≡_, refl, sym, ap}
 use mathlib.Core.Bool.{Bool, true, false, cond}
-use mathlib.Core.List.{List, [], _∷_}
+use mathlib.Core.List.{List}
 use mathlib.Core.Option.{Option, none, some}
 use native.Mathlib.Omega.{arith}
 use borrow.Author.Tests.{leb-true}
@@ -28,7 +28,7 @@ use Rattle.commands.specs.Commands.{commandOf}
 use Rattle.commands.specs.Text.{Appended}
 use Rattle.commands.specs.AnswerText.{insertText, removeText, clearText, pointText, windowText, otherText, listed}
 use Rattle.commands.proofs.TextLaws.{append-wider}
-use Rattle.session.specs.Response.{Lent, lent, cellAt, rectOf, CarriedOut, longest, Responded}
+use Rattle.session.specs.Response.{lent, cellAt, rectOf, CarriedOut, longest, Responded}
 
 -- a window query lists no more entries than its list has places for
 listed-if : (b : Bool) (n v len : ℕ) → b ≡ leb (3 * n) len → 3 * listed (cond b (W.Found n v) (W.ShortList n)) ≤ len

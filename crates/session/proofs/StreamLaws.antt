@@ -5,12 +5,10 @@ use mathlib.Core.Bool.{Bool, true, false, cond}
 use mathlib.Core.List.{List, [], _∷_, _++_, append-nil, append-assoc, map, flatten}
 use native.Mathlib.Omega.{arith}
 use native.Mathlib.Decide.{decLe}
-use borrow.Author.Tests.{lt-leb}
 use lib.Dec.{eqb}
-use lib.ListN.{length, take, drop, length-append, length-take, take-append-drop}
+use lib.ListN.{length, take, length-append, length-take}
 use lib.Seq.{take-all}
 use Rattle.commands.specs.declared.parsing.Command.{Command}
-use Rattle.commands.specs.declared.parsing.Command.the-variants.{Other}
 use Rattle.commands.specs.Split.{putFirst, splitAt}
 use Rattle.commands.specs.Commands.{commandOf}
 use Rattle.commands.proofs.SplitLoop.{joinFirst}

@@ -6,17 +6,15 @@ use mathlib.Core.List.{List, [], _∷_}
 use native.Mathlib.Omega.{arith}
 use native.Mathlib.Numerals.{add-one}
 use borrow.Author.Tests.{lt-ltb, le-ltb, eq-eqb, ne-eqb}
-use lib.Dec.{ltb, eqb}
+use lib.Dec.{ltb}
 use lib.ListN.{length, drop, getD, drop-of-length-le}
 use lib.Seq.{drop-cons}
 use Rattle.geometry.specs.declared.rect.Cell.{Cell}
 use Rattle.geometry.specs.declared.rect.Line.{Line}
 use Rattle.geometry.specs.declared.rect.Line.the-variants.{AtX, AtY}
-use Rattle.geometry.specs.declared.rect.Side.{Side as RectSide}
 use Rattle.geometry.specs.declared.rect.Side.the-variants.{Left, Right}
 use Rattle.geometry.specs.Clip.{below}
 use Rattle.tree.specs.Space.{left, right}
-use Rattle.tree.specs.Nodes.{entryOn}
 use Rattle.tree.specs.Pass.{onAll}
 use Rattle.plane.specs.Plane.{planeSpace, rectSide}
 use Rattle.plane.specs.Lines.{CellEntry}

@@ -1,7 +1,7 @@
 // Lines and their sides as single numbers, so that lists of them can be lent: the line's place in document 01's order of lines, and
 // twice that for its left side, one more for its right side.
 ghost use mathlib.Core.Path.{_≡_};
-ghost use Prim.Native.Nat.{ℕ, _<_};
+ghost use Prim.Native.Nat.{_<_};
 ghost use Rattle.geometry.specs.Clip.{below};
 ghost use Rattle.tree.specs.Space.{left, right};
 ghost use Rattle.plane.specs.Plane.{rectSide};

@@ -1,14 +1,14 @@
 -- What the code reads of a node's children: their parts, their polygons, and the list of these.
-use Prim.Native.Nat.{ℕ, _+_, _*_, _≤_, _<_}
+use Prim.Native.Nat.{ℕ, _+_, _≤_, _<_}
 use mathlib.Core.Path.{_≡_, sym, ap, _∙_}
 use mathlib.Core.List.{List, [], _∷_}
 use native.Mathlib.Omega.{arith}
 use native.Mathlib.Numerals.{add-one}
-use lib.ListN.{length, drop, getD, length-drop, drop-of-length-le, List·getD-map}
-use lib.Seq.{drop-cons, getD-take, getD-drop}
+use lib.ListN.{length, drop, getD, drop-of-length-le, List·getD-map}
+use lib.Seq.{drop-cons, getD-drop}
 use Rattle.geometry.specs.declared.polygon.Polygon.{Polygon}
 use Rattle.geometry.specs.Numbers.{rectsIn, PolygonOf}
-use Rattle.memory.specs.Layout.{part, rectCount, itemCount, polygonIn, childrenIn, countAt, childAt, PolygonPart}
+use Rattle.memory.specs.Layout.{part, rectCount, polygonIn, childrenIn, countAt, childAt, PolygonPart}
 use Rattle.layout.proofs.NodeLaws.{lent-polygon, child-in}
 use Rattle.step2.specs.Branches.{polygonsIn, Branches}
 

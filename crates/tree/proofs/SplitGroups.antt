@@ -11,7 +11,6 @@ use Rattle.tree.specs.Lists.{All, keep, countOf}
 use Rattle.tree.specs.Space.{Space, Side, left, right}
 use Rattle.tree.specs.Nodes.{EntryOf, Item, entryOn, held}
 use Rattle.tree.specs.Split.{branchIf, half, halfItems, lineOf, halves, split}
-use Rattle.tree.specs.Plan as P
 use Rattle.tree.specs.Plan.{Way, row, flat, groups, few, lineAt}
 use Rattle.tree.specs.Pass.{wayHeld, Bag, Alike}
 use Rattle.tree.proofs.Lists.{flatMap-flatMap, flatMap-same, keep-flatMap, all-map}

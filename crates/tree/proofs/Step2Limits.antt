@@ -1,9 +1,9 @@
 -- Document 01, step 2: "The list refined here may have up to 271 rectangles: 256 pieces and 15 others", and there is always a piece.
 use Prim.Native.Nat.{_+_, _≤_}
-use mathlib.Core.Bool.{true, false, not, _&&_, or-false}
+use mathlib.Core.Bool.{true, false, or-false}
 use mathlib.Core.List.{[], _∷_, _++_}
 use mathlib.Core.Option.{some}
-use mathlib.Core.Path.{_≡_, ap, _∙_, sym}
+use mathlib.Core.Path.{_≡_, ap, _∙_}
 use lib.ListN.{length, length-append}
 use native.Mathlib.Omega.{arith}
 use Rattle.tree.specs.Boxes.{Boxes, Poly, anyHas}

@@ -1,4 +1,3 @@
-use native.Mathlib.Omega.{arith}
 use Rattle.layout.proofs.WritingLaws.{no-bits, all-bits, bit-room, low-bits}
 use borrow.Author.Needs.{needs}
 use Rattle.layout.proofs.writing.bits_word.Statement.{statement}

@@ -1,5 +1,5 @@
 use native.Mathlib.Omega.{arith}
-use lib.ListN.{length-set, length-replicate}
+use lib.ListN.{length-set}
 use Rattle.layout.proofs.WritingLaws.{head-put}
 use borrow.Author.Needs.{needs}
 use Rattle.layout.proofs.writing.put_head.Statement.{statement}
