@@ -10,10 +10,11 @@ use Rattle.tree.specs.Nodes.{Item, nodes}
 use Rattle.tree.specs.Pass.{onAll}
 use Rattle.plane.specs.Lines.{CellEntry}
 use Rattle.plane.specs.Plane.{planeSpace}
-use Rattle.memory.specs.Layout.{part, itemCount, polygonIn, entriesIn, childAt}
+use Rattle.memory.specs.Layout.{part, itemCount, polygonIn, entriesIn}
 use Rattle.memory.specs.Image.{nodePart, entryNumbers}
 use Rattle.memory.proofs.ReadingLaws.{fits-as, leaf-parts, node-parts, part-length, entries-length}
 use Rattle.memory.specs.Fanout.{fanout}
+use Rattle.layout.specs.Nodes.{childAt}
 use Rattle.layout.specs.Parts.{PartRoom, PartPut, withItems}
 use Rattle.layout.proofs.PartCopies.{leaf-image, items-replaced}
 use Rattle.index.specs.Walks.{Walkable, leafEntries}

@@ -6,8 +6,9 @@ use native.Mathlib.Omega.{arith}
 use lib.ListN.{length}
 use Rattle.tree.specs.Nodes.{Item}
 use Rattle.plane.specs.Plane.{planeSpace}
-use Rattle.memory.specs.Layout.{part, polygonIn, countAt, childAt}
+use Rattle.memory.specs.Layout.{part, polygonIn}
 use Rattle.memory.specs.Fanout.{fanout}
+use Rattle.layout.specs.Nodes.{countAt, childAt}
 use Rattle.index.specs.Walks.{Walkable}
 use Rattle.emission.specs.Emits.{counted, deepAt}
 use Rattle.emission.specs.Leaves.{leafUnder}

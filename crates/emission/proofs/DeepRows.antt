@@ -17,10 +17,11 @@ use Rattle.tree.specs.Plan.{branchUnder, clips}
 use Rattle.tree.specs.Pass.{deep}
 use Rattle.plane.specs.Lines.{CellEntry}
 use Rattle.plane.specs.Plane.{planeSpace}
-use Rattle.memory.specs.Layout.{part, itemCount, polygonIn, entriesIn, childrenIn, countAt, childAt}
+use Rattle.memory.specs.Layout.{part, itemCount, polygonIn, entriesIn, childrenIn}
 use Rattle.memory.specs.Reading.{readRow, readNode}
 use Rattle.memory.proofs.ReadingLaws.{row-parts, leaf-parts, node-parts}
 use Rattle.memory.specs.Fanout.{fanout}
+use Rattle.layout.specs.Nodes.{countAt, childAt}
 use Rattle.index.specs.Walks.{Walkable, leafEntries}
 use Rattle.index.proofs.WalkRows.{RowWalkable, walkable}
 use Rattle.index.proofs.WalkLoop.{children-count, next-child}

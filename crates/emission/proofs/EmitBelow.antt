@@ -9,10 +9,11 @@ use Rattle.tree.specs.Lists.{total}
 use Rattle.tree.specs.Nodes.{Item, nodes}
 use Rattle.tree.specs.Plan.{clips}
 use Rattle.plane.specs.Plane.{planeSpace}
-use Rattle.memory.specs.Layout.{part, polygonIn, childAt}
+use Rattle.memory.specs.Layout.{part, polygonIn}
 use Rattle.memory.specs.Image.{nodePart, entryNumbers, emitRow}
 use Rattle.memory.proofs.PartImage.{length-entries}
 use Rattle.memory.specs.Fanout.{fanout}
+use Rattle.layout.specs.Nodes.{childAt}
 use Rattle.layout.specs.Parts.{PartRoom, PartPut}
 use Rattle.index.specs.Walks.{Walkable}
 use Rattle.sides.specs.Sides.{sidesOf}

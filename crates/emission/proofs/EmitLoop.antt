@@ -12,8 +12,9 @@ use Rattle.tree.specs.Nodes.{Item, nodes}
 use Rattle.tree.specs.Plan.{branchUnder, clips}
 use Rattle.tree.proofs.Counts.{total-append}
 use Rattle.plane.specs.Plane.{planeSpace}
-use Rattle.memory.specs.Layout.{part, polygonIn, childrenIn, countAt, childAt}
+use Rattle.memory.specs.Layout.{part, polygonIn, childrenIn}
 use Rattle.memory.specs.Fanout.{fanout}
+use Rattle.layout.specs.Nodes.{countAt, childAt}
 use Rattle.layout.specs.Parts.{PartRoom}
 use Rattle.index.specs.Walks.{Walkable}
 use Rattle.sides.specs.Sides.{sidesOf}

@@ -14,8 +14,8 @@ use Rattle.tree.proofs.Counts.{total-append}
 use Rattle.plane.specs.Lines.{CellEntry}
 use Rattle.plane.specs.Plane.{planeSpace}
 use Rattle.plane.specs.Candidates.{rankLine}
-use Rattle.memory.specs.Layout.{countAt}
 use Rattle.memory.specs.Fanout.{fanout}
+use Rattle.layout.specs.Nodes.{countAt}
 use Rattle.index.specs.Walks.{Walkable}
 use Rattle.sides.specs.Sides.{sideOf, sidesOf}
 use Rattle.emission.specs.declared.tops.Tops.{Tops}

@@ -9,8 +9,9 @@ use Rattle.geometry.specs.declared.rect.Cell.{Cell}
 use Rattle.tree.specs.Lists.{notEmpty}
 use Rattle.tree.proofs.Lists.{flatMap-append, flatMap-one}
 use Rattle.plane.specs.Lines.{CellEntry}
-use Rattle.memory.specs.Layout.{itemCount, entryIn, NodePart}
+use Rattle.memory.specs.Layout.{itemCount, entryIn}
 use Rattle.memory.specs.Image.{entryNumbers}
+use Rattle.layout.specs.Nodes.{NodePart}
 use Rattle.layout.specs.Items.{EntryPut}
 use Rattle.index.proofs.WalkLeaf.{AtEntry, entry-start, entry-miss, entry-hit, entry-end}
 use Rattle.sides.specs.Sides.{onEvery}

@@ -1,14 +1,12 @@
 -- What is left of a node under sides: the polygon of its part, loaded and clipped.
-use Prim.Native.Nat.{ℕ, _*_, _≤_}
+use Prim.Native.Nat.{ℕ}
 use mathlib.Core.Path.{_≡_, ap, _∙_}
 use mathlib.Core.List.{List}
-use native.Mathlib.Omega.{arith}
-use lib.ListN.{length, drop, length-drop}
 use Rattle.geometry.specs.declared.polygon.Polygon.{Polygon}
 use Rattle.geometry.specs.Numbers.{rectsIn, rectsOf, PolygonOf}
 use Rattle.tree.specs.Plan.{clips}
 use Rattle.plane.specs.Plane.{planeSpace}
-use Rattle.memory.specs.Layout.{rectCount, polygonIn, NodePart}
+use Rattle.memory.specs.Layout.{rectCount, polygonIn, rectNumbers}
 use Rattle.memory.specs.Image.{nodePart}
 use Rattle.memory.specs.Fanout.{fanout}
 use Rattle.layout.specs.Parts.{PartPut}
@@ -16,13 +14,7 @@ use Rattle.sides.specs.Sides.{sidesOf}
 use Rattle.emission.specs.Parts.{leftPart}
 
 -- a part's polygon, by its count n and the numbers l of its rectangles, is loaded, clipped and put
-module _ (p : List ℕ) (n : ℕ) (l : List ℕ) (q : n ≡ rectCount p) (r : l ≡ drop 2 p) where
-  pub polygon-long : NodePart p → 4 * n ≤ length l
-  polygon-long v =
-      let f = v .few-rects in
-      let e = v .length-is in
-      rw (r, length-drop) (omega arith)
-
+module _ (p : List ℕ) (n : ℕ) (l : List ℕ) (q : n ≡ rectCount p) (r : l ≡ rectNumbers p) where
   pub left-put : (ss : List ℕ) (whole left : Polygon) (w : List ℕ) (next count : ℕ) (items w₁ : List ℕ) → PolygonOf (rectsIn l n) whole
       → PolygonOf (clips (planeSpace fanout) (sidesOf ss) (rectsOf whole)) left
       → PartPut w next (nodePart (rectsOf left) count items) w₁

@@ -7,7 +7,7 @@ use lib.ListN.{length, take, drop, getD, length-drop}
 use lib.Seq.{take-all}
 use Rattle.geometry.specs.declared.polygon.Polygon.{Polygon}
 use Rattle.geometry.specs.Numbers.{rectsIn, PolygonOf}
-use Rattle.memory.specs.Layout.{countAt}
+use Rattle.layout.specs.Nodes.{countAt}
 use Rattle.index.specs.Walks.{Walkable}
 use Rattle.emission.specs.Path.{partOn, placeOn, lineOn, polygonOn, PathNode, PathFrom}
 use Rattle.emission.specs.Rows.{PathStep}

@@ -15,10 +15,11 @@ use Rattle.tree.proofs.Lists.{keep-append, flatMap-append, flatMap-one}
 use Rattle.tree.proofs.Counts.{length-keep}
 use Rattle.plane.specs.Lines.{CellEntry}
 use Rattle.plane.specs.Plane.{planeSpace}
-use Rattle.memory.specs.Layout.{part, itemCount, entriesIn, NodePart}
+use Rattle.memory.specs.Layout.{part, itemCount, entriesIn}
 use Rattle.memory.specs.Image.{entryNumbers}
 use Rattle.memory.proofs.ReadingLaws.{entries-length}
 use Rattle.memory.specs.Fanout.{fanout}
+use Rattle.layout.specs.Nodes.{NodePart}
 use Rattle.layout.specs.Items.{EntryPut}
 use Rattle.index.specs.Changes.{entryOf}
 use Rattle.index.specs.Walks.{leafEntries}

@@ -6,7 +6,7 @@ use native.Mathlib.Omega.{arith}
 use lib.ListN.{length, take, length-take}
 use Rattle.geometry.specs.declared.polygon.Polygon.{Polygon}
 use Rattle.geometry.specs.Numbers.{rectsOf, PolygonOf}
-use Rattle.memory.specs.Layout.{countAt}
+use Rattle.layout.specs.Nodes.{countAt}
 use Rattle.emission.specs.declared.tops.Tops.{Tops}
 use Rattle.emission.specs.Emits.{Room}
 use Rattle.emission.specs.Path.{partOn, placeOn, polygonOn}

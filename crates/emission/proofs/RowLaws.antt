@@ -14,12 +14,13 @@ use Rattle.tree.specs.Lists.{total}
 use Rattle.tree.specs.Nodes.{Item, nodes}
 use Rattle.tree.proofs.Counts.{total-append}
 use Rattle.plane.specs.Plane.{planeSpace}
-use Rattle.memory.specs.Layout.{part, childrenIn, childAt, countAt}
+use Rattle.memory.specs.Layout.{part, childrenIn}
 use Rattle.memory.specs.Image.{emitRow, emitNode}
 use Rattle.memory.specs.Reading.{readNode}
 use Rattle.memory.proofs.NodeImage.{length-node}
 use Rattle.memory.proofs.ReadingLaws.{lowAt, row-at, row-length, node-parts, node-lower, node-below, children-length}
 use Rattle.memory.specs.Fanout.{fanout}
+use Rattle.layout.specs.Nodes.{childAt, countAt}
 use Rattle.index.specs.Walks.{Walkable}
 use Rattle.layout.proofs.NodeLaws.{child-in}
 use Rattle.index.proofs.WalkRows.{walkable}

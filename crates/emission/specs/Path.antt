@@ -19,9 +19,10 @@ use Rattle.geometry.specs.declared.rect.Line.{Line}
 use Rattle.plane.specs.Lines.{CellEntry}
 use Rattle.plane.specs.Plane.{planeSpace}
 use Rattle.plane.specs.Candidates.{rankLine}
-use Rattle.memory.specs.Layout.{part, itemCount, entriesIn, childrenIn, countAt}
+use Rattle.memory.specs.Layout.{part, itemCount, entriesIn, childrenIn}
 use Rattle.memory.specs.Reading.{readRow, readNode}
 use Rattle.memory.specs.Fanout.{fanout}
+use Rattle.layout.specs.Nodes.{countAt}
 use Rattle.index.specs.Walks.{Walkable}
 
 -- the numbers of a level of the path

@@ -12,8 +12,8 @@ use Rattle.tree.specs.Plan.{clips}
 use Rattle.tree.specs.Pass.{deep}
 use Rattle.plane.specs.Plane.{planeSpace}
 use Rattle.memory.specs.Image.{nodePart, emitRow, emitNode}
-use Rattle.memory.specs.Layout.{countAt}
 use Rattle.memory.specs.Fanout.{fanout}
+use Rattle.layout.specs.Nodes.{countAt}
 use Rattle.index.specs.Walks.{Walkable}
 use Rattle.sides.specs.Sides.{sidesOf}
 use Rattle.emission.specs.declared.tops.Tops.{Tops}

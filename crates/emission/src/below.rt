@@ -2,7 +2,7 @@
 ghost use Prim.Native.Nat.{_≤_};
 ghost use mathlib.Core.List.{[]};
 ghost use lib.ListN.{length};
-ghost use Rattle.memory.specs.Layout.{NodePart};
+ghost use Rattle.layout.specs.Nodes.{NodePart};
 ghost use Rattle.index.specs.Walks.{Walkable};
 ghost use Rattle.emission.specs.Emits.{Emits, Room, deepAt};
 ghost use Rattle.emission.specs.Leaves.{leafUnder};

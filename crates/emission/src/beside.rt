@@ -1,7 +1,7 @@
 // How many nodes are left of the branches beside the path, counted up to 257.
 ghost use mathlib.Core.Path.{_≡_};
 ghost use Prim.Native.Nat.{suc, _+_, _-_, _≤_, min};
-ghost use Rattle.memory.specs.Layout.{countAt};
+ghost use Rattle.layout.specs.Nodes.{countAt};
 ghost use Rattle.index.specs.Walks.{Walkable};
 ghost use Rattle.emission.specs.Emits.{counted, countLimit};
 ghost use Rattle.emission.specs.Rows.{PathStep, rangeUnder, beforeOn, behindOn};

@@ -1,6 +1,6 @@
 // Branches off the path, written one after another.
 ghost use Prim.Native.Nat.{suc, _+_, _≤_};
-ghost use Rattle.memory.specs.Layout.{countAt};
+ghost use Rattle.layout.specs.Nodes.{countAt};
 ghost use Rattle.index.specs.Walks.{Walkable};
 ghost use Rattle.emission.specs.Emits.{Room};
 ghost use Rattle.emission.specs.Rows.{Grows, rangeUnder};

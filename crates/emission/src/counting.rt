@@ -1,7 +1,7 @@
 // How many nodes the tree after has, counted up to 257: no memory has more than 256.
 ghost use mathlib.Core.Path.{_≡_};
 ghost use Prim.Native.Nat.{_+_};
-ghost use Rattle.memory.specs.Layout.{NodePart};
+ghost use Rattle.layout.specs.Nodes.{NodePart};
 ghost use Rattle.index.specs.Walks.{Walkable};
 ghost use Rattle.emission.specs.Emits.{counted, deepAt};
 ghost use Rattle.emission.specs.Leaves.{leafUnder};

@@ -1,7 +1,7 @@
 // What is left of a node under sides, written to its part.
 ghost use Prim.Native.Nat.{_≤_};
 ghost use lib.ListN.{length};
-ghost use Rattle.memory.specs.Layout.{NodePart};
+ghost use Rattle.layout.specs.Nodes.{NodePart};
 ghost use Rattle.layout.specs.Parts.{PartRoom, PartPut};
 ghost use Rattle.emission.specs.Parts.{leftPart};
 use crate::clipping::clipped;

@@ -6,7 +6,7 @@ use mathlib.Core.Option.{Option, none, some, bind}
 use Prim.Native.Nat.{ℕ, zero, suc, _+_, _<_, _≤_}
 use native.Mathlib.Omega.{arith}
 use borrow.Author.Tests.{le-leb, lt-leb, lt-ltb, le-ltb}
-use lib.ListN.{length, drop}
+use lib.ListN.{length}
 use Rattle.geometry.specs.declared.rect.Rect.{Rect}
 use Rattle.geometry.specs.Cells.{allValid}
 use Rattle.geometry.proofs.Booleans.{both}
@@ -14,11 +14,12 @@ use Rattle.geometry.proofs.NumberLaws.{length-rects}
 use Rattle.tree.specs.Lists.{total}
 use Rattle.tree.specs.Nodes.{Item, nodes}
 use Rattle.plane.specs.Plane.{planeSpace}
-use Rattle.memory.specs.Layout.{part, rectCount, polygonIn, childrenIn, nodeFits, PolygonPart}
+use Rattle.memory.specs.Layout.{part, rectCount, polygonIn, childrenIn, nodeFits, rectNumbers}
 use Rattle.memory.specs.SoundTest.{allPass, pairsPass, insideOf, apart, polygonFits, countTest, apartTest, itemTest}
 use Rattle.memory.specs.Reading.{readRow, readNode, branchOf}
 use Rattle.memory.proofs.ReadingLaws.{row-none, row-parts, row-length, FitsAs, fits-as, leaf-parts, node-parts, children-length}
 use Rattle.memory.specs.Fanout.{fanout}
+use Rattle.layout.specs.Nodes.{PolygonPart}
 use Rattle.index.specs.Check.{nodeTest, checked, checkedAt, partsApart}
 
 both-or-none : (a b : Bool) (x : ℕ) → cond (a && b) x 0 ≡ cond a (cond b x 0) 0
@@ -161,7 +162,7 @@ module _ (n : ℕ) (m : List ℕ) where
 pub fits-polygon : (w : ℕ) (m : List ℕ) (k : ℕ) → FitsAs fanout w m k → allValid (polygonIn (part m k)) ≡ true → polygonFits (polygonIn (part m k)) ≡ true
 unfolding polygonFits
 fits-polygon w m k f v =
-    let l = length-rects (drop 2 (part m k)) (rectCount (part m k)) in
+    let l = length-rects (rectNumbers (part m k)) (rectCount (part m k)) in
     rw l (both _ _ (both _ _ (le-leb 1 (rectCount (part m k)) (f .some-rects)) (le-leb (rectCount (part m k)) 16 (f .few-rects))) v)
 
 pub count-fits : {A : Type 0} (l : List A) → 1 ≤ length l → length l ≤ 8 → countTest fanout l ≡ true

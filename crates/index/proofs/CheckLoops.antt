@@ -15,19 +15,20 @@ use Rattle.geometry.proofs.Booleans.{both, split-and, all4, not-both}
 use Rattle.tree.specs.Lists.{total}
 use Rattle.tree.specs.Nodes.{Item, nodes}
 use Rattle.plane.specs.Plane.{planeSpace}
-use Rattle.memory.specs.Layout.{PartIn, partsOf, part, rectCount, itemCount, polygonIn, entriesIn, childrenIn, nodeFits, NodePart, PolygonPart}
+use Rattle.memory.specs.Layout.{partsOf, part, rectCount, itemCount, polygonIn, entriesIn, childrenIn, nodeFits, rectNumbers}
 use Rattle.memory.specs.SoundTest.{allPass, pairsPass, insideOf, apart, polygonFits, countTest, apartTest, itemTest}
 use Rattle.memory.specs.Reading.{readRow, readNode}
 use Rattle.memory.proofs.ReadingLaws.{fits-as, leaf-parts, node-parts, nodes-range, entries-length, part-length, RightLength, children-length}
 use Rattle.memory.specs.Fanout.{fanout}
+use Rattle.layout.specs.Nodes.{PartIn, NodePart, PolygonPart}
 use Rattle.index.specs.Check.{nodeTest, checked, checkedAt, partsApart, PolygonParts}
 use Rattle.layout.proofs.NodeLaws.{lent-polygon}
 use Rattle.index.proofs.PassLoops.{Passing, passing-end, passing-stop, passing-on, Pairing, pairing-start, pairing-end, pairing-stop, pairing-on}
 use Rattle.index.proofs.CheckLaws.{found, rowSum, rowChecked, low-row, high-row, lost-row, found-row, checked-node, node-part, leaf-nodes, fits-polygon, count-fits, later-first, none-or-none}
 
 -- tests on the polygons at two parts
-module _ (m : List ℕ) (i j : ℕ) (p l : List ℕ) (r : ℕ) (q s : List ℕ) (t : ℕ) (p-is : p ≡ part m i) (l-is : l ≡ drop 2 p) (r-is : r ≡ rectCount p)
-    (q-is : q ≡ part m j) (s-is : s ≡ drop 2 q) (t-is : t ≡ rectCount q) (b : Bool) where
+module _ (m : List ℕ) (i j : ℕ) (p l : List ℕ) (r : ℕ) (q s : List ℕ) (t : ℕ) (p-is : p ≡ part m i) (l-is : l ≡ rectNumbers p) (r-is : r ≡ rectCount p)
+    (q-is : q ≡ part m j) (s-is : s ≡ rectNumbers q) (t-is : t ≡ rectCount q) (b : Bool) where
   pub inside-is : b ≡ insideOf (rectsIn l r) (rectsIn s t) → b ≡ insideOf (polygonIn (part m i)) (polygonIn (part m j))
   inside-is e = rw (← (lent-polygon m i p l r p-is l-is r-is), ← (lent-polygon m j q s t q-is s-is t-is)) e
 
@@ -116,7 +117,7 @@ module _ (w : ℕ) (m : List ℕ) (k : ℕ) where
       pub head-part : (p : List ℕ) → p ≡ part m k → NodePart p
       head-part = fitting-part (sym e ∙ f)
 
-      pub head-last : (p l : List ℕ) (r : ℕ) (d : Bool) → p ≡ part m k → l ≡ drop 2 p → r ≡ rectCount p → d ≡ allValid (rectsIn l r)
+      pub head-last : (p l : List ℕ) (r : ℕ) (d : Bool) → p ≡ part m k → l ≡ rectNumbers p → r ≡ rectCount p → d ≡ allValid (rectsIn l r)
           → d ≡ nodeFits fanout w m k && allValid (polygonIn (part m k))
       head-last p l r d q x y g = rw (← e, f) (g ∙ ap allValid (lent-polygon m k p l r q x y))
 

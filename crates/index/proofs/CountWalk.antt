@@ -17,10 +17,11 @@ use Rattle.tree.proofs.Lists.{flatMap-same}
 use Rattle.tree.proofs.InsertEntries.{held-zero}
 use Rattle.plane.specs.Lines.{CellEntry}
 use Rattle.plane.specs.Plane.{planeSpace}
-use Rattle.memory.specs.Layout.{part, itemCount, childAt, countAt}
+use Rattle.memory.specs.Layout.{part, itemCount}
 use Rattle.memory.specs.Reading.{readNode}
 use Rattle.memory.proofs.ReadingLaws.{leaf-parts, entries-length, read-as}
 use Rattle.memory.specs.Fanout.{fanout}
+use Rattle.layout.specs.Nodes.{childAt, countAt}
 use Rattle.index.specs.Open.{TreeIn}
 use Rattle.index.specs.Walks.{entriesFrom, entriesBelow, Walkable}
 use Rattle.index.specs.Count.{entriesOf, entriesAt}

@@ -16,10 +16,11 @@ use Rattle.geometry.specs.Numbers.{rectAt, rectsIn}
 use Rattle.geometry.specs.Refine.{anyOf}
 use Rattle.geometry.proofs.ScanLoops.{Scan, scan-all, scan-hit, scan-miss}
 use Rattle.plane.specs.Lines.{CellEntry}
-use Rattle.memory.specs.Layout.{rectCount, itemCount, polygonIn, entryIn, entriesIn, NodePart}
+use Rattle.memory.specs.Layout.{rectCount, itemCount, polygonIn, entryIn, entriesIn, rectNumbers}
 use Rattle.memory.specs.SoundTest.{allPass, pairsPass, apartTest, itemTest}
 use Rattle.memory.proofs.ReadingLaws.{entries-length}
 use Rattle.memory.specs.Fanout.{fanout}
+use Rattle.layout.specs.Nodes.{NodePart}
 use Rattle.index.proofs.PassLoops.{Passing, passing-start, passing-end, passing-stop, passing-on, Pairing, pairing-start, pairing-end, pairing-stop, pairing-on}
 
 -- a rectangle has the cell, the cell first
@@ -86,7 +87,7 @@ module _ (p : List ℕ) (n i : ℕ) (w : Bool) (v : Holding p n i w) where
   pub hold-end : n ≤ i → true ≡ w
   hold-end h = passing-end (itemTest fanout 0 (polygonIn p)) (entriesIn p n) i w (v .passing) (entries-end p n i h)
 
-  module _ (h : i < n) (l : List ℕ) (l-is : l ≡ drop 2 p) (r : ℕ) (r-is : r ≡ rectCount p) (c : Cell) (c-is : c ≡ entryIn p i .cell)
+  module _ (h : i < n) (l : List ℕ) (l-is : l ≡ rectNumbers p) (r : ℕ) (r-is : r ≡ rectCount p) (c : Cell) (c-is : c ≡ entryIn p i .cell)
       (b : Bool) (f : b ≡ anyHas (rectsIn l r) c) where
     hold-is : itemTest fanout 0 (polygonIn p) (entryIn p i) ≡ b
     unfolding itemTest

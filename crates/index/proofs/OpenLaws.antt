@@ -14,11 +14,12 @@ use Rattle.geometry.proofs.NumberLaws.{length-rects}
 use Rattle.tree.specs.Nodes.{Item, nodes}
 use Rattle.tree.specs.Tree.{Tree, top}
 use Rattle.plane.specs.Plane.{planeSpace}
-use Rattle.memory.specs.Layout.{PartIn, partsOf, rightLength, part, bitsSet, heightIn, rootIn, allZero, rectCount, othersZero}
+use Rattle.memory.specs.Layout.{partsOf, rightLength, part, bitsSet, heightIn, rootIn, allZero, rectCount, othersZero, rectNumbers}
 use Rattle.memory.specs.SoundTest.{allPass, pairsPass, polygonFits, countTest, apartTest, itemTest, soundTest}
 use Rattle.memory.specs.Reading.{readNode, treeOf, reading}
 use Rattle.memory.proofs.ReadingLaws.{length-right, ReadAs, read-as, read-empty, make-reading, zeros-read, zero-at, level-range}
 use Rattle.memory.specs.Fanout.{fanout}
+use Rattle.layout.specs.Nodes.{PartIn}
 use Rattle.index.specs.Check.{nodeTest, checked, checkedAt}
 use Rattle.index.specs.Open.{TreeIn}
 use Rattle.index.proofs.CheckLaws.{found, node-polygon, node-part}
@@ -95,7 +96,7 @@ node-some n b e = omega arith
 tree-one : (m : List ℕ) (t : Tree (planeSpace fanout)) → ReadAs fanout m t → rectCount (part m (rootIn m)) ≡ 1
 tree-one m t x =
     let p = node-polygon (t .level) m 0 (rootIn m) (top (planeSpace fanout) t) (x .root-node) in
-    sym (length-rects (drop 2 (part m (rootIn m))) (rectCount (part m (rootIn m)))) ∙ sym (ap length p) ∙ root-sound t (x .tested) .one
+    sym (length-rects (rectNumbers (part m (rootIn m))) (rectCount (part m (rootIn m)))) ∙ sym (ap length p) ∙ root-sound t (x .tested) .one
 
 -- a memory of a height g that is not 0, its root at part k
 module _ (m : List ℕ) (g : ℕ) (g-is : g ≡ heightIn m) (z : g ≡ 0 → ⊥) (k : ℕ) (k-is : k ≡ rootIn m) where
@@ -142,7 +143,7 @@ module _ (m : List ℕ) (g : ℕ) (g-is : g ≡ heightIn m) (z : g ≡ 0 → ⊥
           let x = found (heightIn m - 1) (readNode fanout (heightIn m - 1) m 0 (rootIn m)) c count-is s in
           let q = node-polygon (heightIn m - 1) m 0 (rootIn m) (x .node) (x .read) in
           let o : rectCount (part m (rootIn m)) ≡ 1 = sym (r-is ∙ ap rectCount (p-is ∙ ap (part m) k-is)) ∙ one in
-          let w : length (x .node .poly) ≡ 1 = ap length q ∙ length-rects (drop 2 (part m (rootIn m))) (rectCount (part m (rootIn m))) ∙ o in
+          let w : length (x .node .poly) ≡ 1 = ap length q ∙ length-rects (rectNumbers (part m (rootIn m))) (rectCount (part m (rootIn m))) ∙ o in
           record {
             tree = treeOf fanout (heightIn m - 1) (x .node);
             reads = make-reading fanout m (treeOf fanout (heightIn m - 1) (x .node)) (record {

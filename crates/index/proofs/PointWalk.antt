@@ -8,7 +8,8 @@ use borrow.Author.Tests.{eq-eqb, ne-eqb}
 use lib.Dec.{eqb}
 use Rattle.geometry.specs.declared.rect.Cell.{Cell}
 use Rattle.plane.specs.Lines.{CellEntry}
-use Rattle.memory.specs.Layout.{part, entryIn, polygonIn, childAt, countAt}
+use Rattle.memory.specs.Layout.{part, entryIn, polygonIn}
+use Rattle.layout.specs.Nodes.{childAt, countAt}
 use Rattle.index.specs.declared.walk.Found.{Found}
 use Rattle.index.specs.Walks.{hasTest, cellTest, visitsBelow, leafEntries, Walkable, found, foundOf, joined, heldBelow}
 use Rattle.index.proofs.WalkLeaf.{AtEntry, entry-hit}

@@ -16,9 +16,10 @@ use Rattle.plane.specs.Plane.{planeSpace, planeRoot}
 use Rattle.plane.specs.Windows.{planeWindow}
 use Rattle.plane.proofs.Rects.{plane-space-laws}
 use Rattle.plane.proofs.Windows.{plane-window-laws}
-use Rattle.memory.specs.Layout.{rootIn, part, polygonIn, PolygonPart}
+use Rattle.memory.specs.Layout.{rootIn, part, polygonIn}
 use Rattle.memory.proofs.ReadingLaws.{read-as, read-sound}
 use Rattle.memory.specs.Fanout.{fanout}
+use Rattle.layout.specs.Nodes.{PolygonPart}
 use Rattle.index.specs.Answers.{matchesIn}
 use Rattle.index.specs.Open.{TreeIn}
 use Rattle.index.specs.Walks.{hasTest, cellTest, meetsTest, insideTest, visitsFrom, visitsBelow, entriesFrom, entriesBelow, Walkable, heldBelow, matchesBelow}

@@ -9,8 +9,9 @@ use lib.ListN.{length, drop, length-append, drop-of-length-le}
 use lib.Seq.{drop-append-le, drop-at, append-snoc}
 use Rattle.tree.specs.Lists.{keep}
 use Rattle.plane.specs.Lines.{CellEntry}
-use Rattle.memory.specs.Layout.{itemCount, entryIn, entriesIn, NodePart}
+use Rattle.memory.specs.Layout.{itemCount, entryIn, entriesIn}
 use Rattle.memory.proofs.ReadingLaws.{entries-length}
+use Rattle.layout.specs.Nodes.{NodePart}
 use Rattle.index.specs.Walks.{leafEntries}
 
 -- the next entry

@@ -11,9 +11,10 @@ use lib.ListN.{length, drop, drop-of-length-le}
 use lib.Seq.{drop-cons}
 use Rattle.geometry.specs.declared.rect.Rect.{Rect}
 use Rattle.plane.specs.Lines.{CellEntry}
-use Rattle.memory.specs.Layout.{part, polygonIn, childrenIn, childAt, countAt, PolygonPart}
+use Rattle.memory.specs.Layout.{part, polygonIn, childrenIn}
 use Rattle.memory.proofs.ReadingLaws.{node-below, children-length}
 use Rattle.memory.specs.Fanout.{fanout}
+use Rattle.layout.specs.Nodes.{childAt, countAt, PolygonPart}
 use Rattle.layout.proofs.NodeLaws.{child-in}
 use Rattle.index.specs.Walks.{visitsBelow, entriesBelow, Walkable}
 use Rattle.index.proofs.WalkRows.{RowWalkable, visitsRow, entriesRow, RowStep, row-step, row-no-visits, row-no-entries, node-row, node-visits, node-entries, walk-polygon, visits-few}

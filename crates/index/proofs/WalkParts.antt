@@ -3,7 +3,6 @@ use Prim.Native.Nat.{ℕ}
 use mathlib.Core.Path.{_≡_, refl, sym, ap, _∙_}
 use mathlib.Core.Bool.{Bool, _||_}
 use mathlib.Core.List.{List, [], _∷_}
-use lib.ListN.{drop}
 use Rattle.geometry.specs.declared.rect.Cell.{Cell}
 use Rattle.geometry.specs.declared.rect.Rect.{Rect}
 use Rattle.geometry.specs.Cells.{anyHas}
@@ -12,7 +11,7 @@ use Rattle.geometry.specs.Numbers.{rectsIn}
 use Rattle.geometry.specs.Refine.{anyOf}
 use Rattle.tree.specs.Search.{any}
 use Rattle.plane.specs.Windows.{meets}
-use Rattle.memory.specs.Layout.{part, rectCount, polygonIn}
+use Rattle.memory.specs.Layout.{part, rectCount, polygonIn, rectNumbers}
 use Rattle.memory.proofs.SoundTested.{has-is}
 use Rattle.memory.specs.Fanout.{fanout}
 use Rattle.layout.proofs.NodeLaws.{lent-polygon}
@@ -24,7 +23,7 @@ any-of p [] = refl
 any-of p (r ∷ l) = ap (λ b. p r || b) (any-of p l)
 
 -- the tests of the polygon at part k, from the part and its rectangles as they are lent
-module _ (m : List ℕ) (k : ℕ) (p l : List ℕ) (r : ℕ) (p-is : p ≡ part m k) (l-is : l ≡ drop 2 p) (r-is : r ≡ rectCount p) (b : Bool) where
+module _ (m : List ℕ) (k : ℕ) (p l : List ℕ) (r : ℕ) (p-is : p ≡ part m k) (l-is : l ≡ rectNumbers p) (r-is : r ≡ rectCount p) (b : Bool) where
   pub polygon-has : (c : Cell) → b ≡ anyHas (rectsIn l r) c → b ≡ hasTest c (polygonIn (part m k))
   unfolding hasTest
   polygon-has c e = e ∙ ap (λ q. anyHas q c) (lent-polygon m k p l r p-is l-is r-is) ∙ sym (has-is fanout (polygonIn (part m k)) c)

@@ -13,10 +13,11 @@ use Rattle.tree.specs.Walk.{nodeWalkVisits, nodeWalkEntries}
 use Rattle.tree.proofs.Counts.{length-keep}
 use Rattle.plane.specs.Lines.{CellEntry}
 use Rattle.plane.specs.Plane.{planeSpace}
-use Rattle.memory.specs.Layout.{rightLength, part, rectCount, itemCount, polygonIn, entriesIn, childrenIn, NodePart, PolygonPart}
+use Rattle.memory.specs.Layout.{rightLength, part, rectCount, itemCount, polygonIn, entriesIn, childrenIn}
 use Rattle.memory.specs.Reading.{readRow, readNode}
 use Rattle.memory.proofs.ReadingLaws.{row-parts, fits-as, leaf-parts, node-parts, node-below, entries-length, part-length, length-right}
 use Rattle.memory.specs.Fanout.{fanout}
+use Rattle.layout.specs.Nodes.{NodePart, PolygonPart}
 use Rattle.index.specs.Walks.{visitsFrom, visitsBelow, entriesFrom, entriesBelow, leafEntries, Walkable}
 
 -- A row of children in a memory of a right length reads.

@@ -11,7 +11,8 @@ use Rattle.geometry.specs.declared.rect.Cell.{Cell}
 use Rattle.geometry.specs.declared.rect.Rect.{Rect}
 use Rattle.geometry.specs.Cells.{hasCell}
 use Rattle.plane.specs.Lines.{CellEntry}
-use Rattle.memory.specs.Layout.{part, itemCount, entryIn, polygonIn, childAt, countAt, NodePart}
+use Rattle.memory.specs.Layout.{part, itemCount, entryIn, polygonIn}
+use Rattle.layout.specs.Nodes.{childAt, countAt, NodePart}
 use Rattle.index.specs.declared.window_query.Matched.{Matched}
 use Rattle.index.specs.Walks.{meetsTest, insideTest, visitsBelow, leafEntries, Walkable, matched, matchesBelow}
 use Rattle.index.proofs.WalkLeaf.{AtEntry, entry-start, entry-miss, entry-hit, entry-end}

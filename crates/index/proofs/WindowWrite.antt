@@ -8,7 +8,8 @@ use lib.ListN.{length, set, length-append, length-set}
 use Rattle.geometry.specs.declared.rect.Cell.{Cell}
 use Rattle.geometry.specs.declared.rect.Rect.{Rect}
 use Rattle.plane.specs.Lines.{CellEntry}
-use Rattle.memory.specs.Layout.{part, itemCount, entryIn, polygonIn, childAt, countAt}
+use Rattle.memory.specs.Layout.{part, itemCount, entryIn, polygonIn}
+use Rattle.layout.specs.Nodes.{childAt, countAt}
 use Rattle.index.specs.Walks.{meetsTest, insideTest, leafEntries, Walkable, putEntry, putEntries, Listed, LeafRoom, WalkRoom, matchesBelow}
 use Rattle.index.proofs.WalkLeaf.{AtEntry, entry-start, entry-miss, entry-hit, entry-end}
 use Rattle.index.proofs.WalkRows.{leaf-entries, node-part}

@@ -10,9 +10,10 @@ use Rattle.geometry.specs.Numbers.{rectsIn}
 use Rattle.tree.specs.Nodes.{Item, nodes}
 use Rattle.plane.specs.Plane.{planeSpace}
 use Rattle.memory.specs.Fanout.{fanout}
-use Rattle.memory.specs.Layout.{PolygonPart, part, polygonIn}
+use Rattle.memory.specs.Layout.{part, polygonIn}
 use Rattle.memory.specs.SoundTest.{allPass, pairsPass, coveredBy, apart, polygonFits, countTest, apartTest, itemTest}
 use Rattle.memory.specs.Reading.{readNode}
+use Rattle.layout.specs.Nodes.{PolygonPart}
 
 -- a node is sound in itself, all below it included
 unfoldable pub nodeTest : (n : ℕ) → Item (planeSpace fanout) (suc n) → Bool

@@ -14,9 +14,10 @@ use Rattle.tree.specs.Walk.{nodeWalkVisits, nodeWalkEntries}
 use Rattle.plane.specs.Lines.{CellEntry}
 use Rattle.plane.specs.Plane.{planeSpace}
 use Rattle.plane.specs.Windows.{planeWindow}
-use Rattle.memory.specs.Layout.{rightLength, PartIn, itemCount, entriesIn, countAt, NodePart}
+use Rattle.memory.specs.Layout.{rightLength, itemCount, entriesIn}
 use Rattle.memory.specs.Reading.{readNode, reading}
 use Rattle.memory.specs.Fanout.{fanout}
+use Rattle.layout.specs.Nodes.{PartIn, countAt, NodePart}
 use Rattle.index.specs.declared.walk.Found.{Found}
 use Rattle.index.specs.declared.window_query.Matched.{Matched}
 use Rattle.index.specs.declared.answer.WindowFound.{WindowFound}

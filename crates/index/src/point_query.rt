@@ -2,9 +2,10 @@
 ghost use mathlib.Core.Path.{_≡_};
 ghost use Prim.Native.Nat.{_<_};
 ghost use lib.ListN.{length};
-ghost use Rattle.memory.specs.Layout.{entryIn, NodePart};
+ghost use Rattle.memory.specs.Layout.{entryIn};
 ghost use Rattle.memory.specs.Reading.{reading};
 ghost use Rattle.memory.specs.Fanout.{fanout};
+ghost use Rattle.layout.specs.Nodes.{NodePart};
 ghost use Rattle.index.specs.Answers.{pointRead, pointAnswer};
 ghost use Rattle.index.specs.Open.{TreeIn, OpenedAs};
 ghost use Rattle.index.specs.Walks.{hasTest, cellTest, visitsBelow, heldBelow, leafEntries, Walkable, found};

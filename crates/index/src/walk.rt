@@ -1,7 +1,8 @@
 // The walks of the queries: what both of them read of a node's part.
 ghost use mathlib.Core.Path.{_≡_};
 ghost use Prim.Native.Nat.{_+_, _≤_};
-ghost use Rattle.memory.specs.Layout.{part, polygonIn, PolygonPart};
+ghost use Rattle.memory.specs.Layout.{part, polygonIn};
+ghost use Rattle.layout.specs.Nodes.{PolygonPart};
 ghost use Rattle.index.specs.Walks.{hasTest, meetsTest, joined};
 use crate::leaf::any_has;
 use geometry::Cell;

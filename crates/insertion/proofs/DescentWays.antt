@@ -11,7 +11,7 @@ use Rattle.geometry.specs.declared.rect.Cell.{Cell}
 use Rattle.geometry.specs.declared.rect.Rect.{Rect}
 use Rattle.geometry.specs.declared.polygon.Polygon.{Polygon}
 use Rattle.geometry.specs.Numbers.{rectsOf, PolygonOf}
-use Rattle.memory.specs.Layout.{countAt, childAt}
+use Rattle.layout.specs.Nodes.{countAt, childAt}
 use Rattle.step2.specs.declared.choosing.Choice.{Choice}
 use Rattle.step2.specs.declared.choosing.Taken.the-variants.{Branch, Over}
 use Rattle.step2.specs.Choose.{Routing, ChosenAt, ChoiceIs}

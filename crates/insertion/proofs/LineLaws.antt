@@ -17,7 +17,7 @@ use Rattle.plane.specs.Plane.{planeSpace}
 use Rattle.plane.proofs.Kept.{map-all}
 use Rattle.plane.proofs.Rects.{plane-space-laws}
 use Rattle.plane.proofs.Steps.{plane-steps}
-use Rattle.memory.specs.Layout.{part, countAt}
+use Rattle.memory.specs.Layout.{part}
 use Rattle.memory.specs.Fanout.{fanout}
 use Rattle.index.specs.Changes.{entryOf}
 use Rattle.index.specs.Walks.{Walkable}
@@ -31,6 +31,7 @@ use Rattle.insertion.specs.Planning.{Full, LineOfLevel}
 use Rattle.insertion.proofs.DescentLaws.{items-are}
 use Rattle.tree.proofs.Ways.{way-entries}
 use Rattle.tree.proofs.SplitGroups.{row-entries, line-row, bag-all, bag-sym}
+use Rattle.layout.specs.Nodes.{countAt}
 use Rattle.index.specs.Count as count
 use Rattle.index.specs.Count.{entriesAt}
 use Rattle.insertion.proofs.NodePlan.{node-line-is, node-line-fits}

@@ -5,7 +5,7 @@ use mathlib.Core.List.{List}
 use native.Mathlib.Omega.{arith}
 use lib.ListN.{length}
 use Rattle.geometry.specs.declared.rect.Cell.{Cell}
-use Rattle.memory.specs.Layout.{PartIn}
+use Rattle.layout.specs.Nodes.{PartIn}
 use Rattle.emission.specs.Path.{partOn, PathNode}
 use Rattle.insertion.specs.Planning.{Full}
 use Rattle.insertion.proofs.PathLaws.{path-below, node-at}

@@ -27,7 +27,7 @@ use Rattle.plane.proofs.Rects.{plane-space-laws}
 use Rattle.plane.proofs.Steps.{plane-steps, fits-of-fit}
 use Rattle.plane.proofs.NodeLine.{Fits}
 use Rattle.plane.proofs.Extents.{on-same, count-same, node-same}
-use Rattle.memory.specs.Layout.{part, itemCount, childrenIn, countAt}
+use Rattle.memory.specs.Layout.{part, itemCount, childrenIn}
 use Rattle.memory.specs.Reading.{readNode}
 use Rattle.memory.proofs.ReadingLaws.{node-parts, row-length, children-length, node-below}
 use Rattle.memory.specs.Fanout.{fanout}
@@ -39,6 +39,7 @@ use Rattle.insertion.proofs.DescentLaws.{items-are, row-is}
 use Rattle.tree.proofs.GoodWays.{GoodWay}
 use Rattle.tree.proofs.Ways.{Descent, descent, way-entries}
 use Rattle.tree.proofs.SplitGroups.{split-groups, few-row, row-entries, line-row, bag-keep, bag-length, bag-all, alike-mid, alike-all, map-append}
+use Rattle.layout.specs.Nodes.{countAt}
 
 abbrev laws : Laws (planeSpace fanout)
 laws = plane-space-laws fanout

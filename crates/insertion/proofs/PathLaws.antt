@@ -14,12 +14,12 @@ use Rattle.geometry.proofs.NumberLaws.{rects-same}
 use Rattle.tree.specs.Plan.{Way, descend}
 use Rattle.plane.specs.Lines.{CellEntry}
 use Rattle.plane.specs.Plane.{planeSpace}
-use Rattle.memory.specs.Layout.{countAt}
 use Rattle.memory.specs.Fanout.{fanout}
 use Rattle.index.specs.Changes.{entryOf}
 use Rattle.index.specs.Walks.{Walkable}
 use Rattle.emission.specs.Path.{partOn, placeOn, lineOn, polygonOn, wayAt, PathNode, PathFrom}
 use Rattle.tree.proofs.GoodWays.{GoodWay}
+use Rattle.layout.specs.Nodes.{countAt}
 use Rattle.insertion.specs.Descent.{itemsAt}
 use Rattle.insertion.specs.Planning.{GoodPath}
 

@@ -6,9 +6,9 @@ use mir.Syntax.{w32}
 use mir.Val.{Fits}
 use lib.ListN.{length}
 use Rattle.geometry.specs.declared.rect.Cell.{Cell}
-use Rattle.memory.specs.Layout.{PartIn}
 use Rattle.memory.proofs.ReadingLaws.{level-range}
 use Rattle.memory.specs.Fanout.{fanout}
+use Rattle.layout.specs.Nodes.{PartIn}
 use Rattle.emission.specs.Path.{partOn, PathNode}
 use Rattle.insertion.proofs.NodeBounds.{part-in, line-in, part-ends}
 use Rattle.insertion.proofs.PlanLoop.{Planning, plan-node}

@@ -14,7 +14,7 @@ use Rattle.tree.specs.Split.{split}
 use Rattle.tree.specs.Plan.{row, few, lineAt}
 use Rattle.plane.specs.Plane.{planeSpace}
 use Rattle.plane.specs.Candidates.{rankLine}
-use Rattle.memory.specs.Layout.{part, itemCount, entriesIn, countAt}
+use Rattle.memory.specs.Layout.{part, itemCount, entriesIn}
 use Rattle.memory.proofs.ReadingLaws.{entries-length}
 use Rattle.memory.specs.Fanout.{fanout}
 use Rattle.index.specs.Changes.{entryOf}
@@ -22,6 +22,7 @@ use Rattle.index.specs.Walks.{Walkable}
 use Rattle.emission.specs.Path.{partOn, lineOn, polygonOn, wayAt, PathNode, PathFrom}
 use Rattle.insertion.specs.Planning.{GoodPath, Plannable, PlannedAt, Planned, SplitBelow, Full, LineOfLevel, PlanMade}
 use Rattle.tree.proofs.SplitGroups.{split-one, split-two, few-row}
+use Rattle.layout.specs.Nodes.{countAt}
 use Rattle.insertion.proofs.NodePlan.{way-fits, row-length-is}
 use Rattle.insertion.proofs.PathLaws.{part-kept, line-kept, line-put, way-kept, polygon-kept, path-few, good-kept, path-below, node-at}
 

@@ -7,7 +7,7 @@ use mathlib.Core.Option.{Option, none, some, bind, Option·some-injective}
 use native.Mathlib.Omega.{arith}
 use native.Mathlib.Nat.{le-refl}
 use native.Mathlib.Decide.{ℕ-discrete}
-use lib.ListN.{length, drop, length-drop}
+use lib.ListN.{length}
 use Rattle.geometry.specs.declared.rect.Cell.{Cell}
 use Rattle.geometry.specs.declared.rect.Rect.{Rect}
 use Rattle.geometry.specs.Cells.{onGrid}
@@ -33,10 +33,11 @@ use Rattle.plane.specs.Plane.{planeSpace, planeRoot}
 use Rattle.plane.proofs.Rects.{plane-space-laws}
 use Rattle.plane.proofs.Steps.{plane-steps}
 use Rattle.plane.proofs.Roots.{plane-root-laws}
-use Rattle.memory.specs.Layout.{PartIn, part, rectCount, polygonIn, rootIn}
+use Rattle.memory.specs.Layout.{part, rectCount, polygonIn, rootIn, rectNumbers}
 use Rattle.memory.specs.Reading.{readNode, reading}
 use Rattle.memory.proofs.ReadingLaws.{ReadAs, read-as, read-sound, leaf-parts, node-parts}
 use Rattle.memory.specs.Fanout.{fanout}
+use Rattle.layout.proofs.NodeLaws.{rects-length}
 use Rattle.index.specs.Changes.{entryOf}
 use Rattle.index.specs.Walks.{Walkable}
 use Rattle.index.proofs.WalkRows.{walkable}
@@ -49,6 +50,7 @@ use Rattle.insertion.specs.Planning.{GoodPath, Plannable, PlanMade}
 use Rattle.insertion.specs.Insert.{Inserting, PathPlanned, PathRefused}
 use Rattle.insertion.proofs.DescentLaws.{items-are, same-drop, same-polygon}
 use Rattle.tree.proofs.Ways.{sound-way}
+use Rattle.layout.specs.Nodes.{PartIn}
 use Rattle.insertion.proofs.PlanTree.{planned-insert}
 
 abbrev laws : Laws (planeSpace fanout)
@@ -92,11 +94,11 @@ module _ (m : List ℕ) (c : Cell) (x : Tree (planeSpace fanout)) (reads : readi
   p = planeRoot fanout .growRoot (x .root) c
 
   -- the rectangle that the code grows
-  grown-root : (r g : Rect) → r ≡ rectAt (drop 2 (part m root)) 0 → g ≡ grown r c → g ∷ [] ≡ p
+  grown-root : (r g : Rect) → r ≡ rectAt (rectNumbers (part m root)) 0 → g ≡ grown r c → g ∷ [] ≡ p
   grown-root r g e f =
       let q = polygon-reads (x .level) m 0 root (top (planeSpace fanout) x) (read-x .root-node) in
-      let o : length (rectsIn (drop 2 (part m root)) (rectCount (part m root))) ≡ 1 = ap length (sym q) ∙ sound .one in
-      let w : x .root ≡ rectAt (drop 2 (part m root)) 0 ∷ [] = q ∙ one-rect (drop 2 (part m root)) (rectCount (part m root)) o in
+      let o : length (rectsIn (rectNumbers (part m root)) (rectCount (part m root))) ≡ 1 = ap length (sym q) ∙ sound .one in
+      let w : x .root ≡ rectAt (rectNumbers (part m root)) 0 ∷ [] = q ∙ one-rect (rectNumbers (part m root)) (rectCount (part m root)) o in
       ap (λ (z : Rect). z ∷ []) (f ∙ ap (λ (z : Rect). grown z c) e) ∙ ap (λ (l : List Rect). planeRoot fanout .growRoot l c) (sym w)
 
   items-x : itemsAt (x .level) m root ≡ x .items
@@ -181,11 +183,11 @@ module _ (m : List ℕ) (c : Cell) (x : Tree (planeSpace fanout)) (reads : readi
         }
 
 -- the first rectangle of a part
-pub first-in : (p l : List ℕ) → length p ≡ 128 → l ≡ drop 2 p → 4 ≤ length l
-first-in p l n e = rw e (let d = length-drop 2 p in omega arith)
+pub first-in : (p l : List ℕ) → length p ≡ 128 → l ≡ rectNumbers p → 4 ≤ length l
+first-in p l n e = let d = rects-length p l n e in omega arith
 
-pub first-is : (m : List ℕ) (k : ℕ) (p l : List ℕ) (r : Rect) → p ≡ part m k → l ≡ drop 2 p → r ≡ rectAt l 0 → r ≡ rectAt (drop 2 (part m k)) 0
-first-is m k p l r e f g = g ∙ ap (λ (x : List ℕ). rectAt x 0) (f ∙ ap (drop 2) e)
+pub first-is : (m : List ℕ) (k : ℕ) (p l : List ℕ) (r : Rect) → p ≡ part m k → l ≡ rectNumbers p → r ≡ rectAt l 0 → r ≡ rectAt (rectNumbers (part m k)) 0
+first-is m k p l r e f g = g ∙ ap (λ (x : List ℕ). rectAt x 0) (f ∙ ap rectNumbers e)
 
 -- The same for the code: the tree's level and root by their numbers.
 module _ (m : List ℕ) (level root : ℕ) (c : Cell) (v : Inserting m level root c) where
@@ -212,10 +214,10 @@ module _ (m : List ℕ) (level root : ℕ) (c : Cell) (v : Inserting m level roo
   cell-y = grid-of c (v .grid) .y-most
 
   module _ (path path₁ : List ℕ) (h : 68 * level + 68 ≤ length path) (q : Polygon) (put : LevelPut path level root (rectsOf q) path₁) (g : Rect) (u : PolygonOf (g ∷ []) q)
-      (r : Rect) (f : g ≡ grown r c) (e : r ≡ rectAt (drop 2 (part m root)) 0) where
+      (r : Rect) (f : g ≡ grown r c) (e : r ≡ rectAt (rectNumbers (part m root)) 0) where
     put-tree : LevelPut path (tree .level) (rootIn m) grownRoot path₁
     put-tree =
-        let a : r ≡ rectAt (drop 2 (part m (rootIn m))) 0 = e ∙ ap (λ (i : ℕ). rectAt (drop 2 (part m i)) 0) (sym (v .tree-in .root-is)) in
+        let a : r ≡ rectAt (rectNumbers (part m (rootIn m))) 0 = e ∙ ap (λ (i : ℕ). rectAt (rectNumbers (part m i)) 0) (sym (v .tree-in .root-is)) in
         let b : rectsOf q ≡ grownRoot = u .list ∙ grown-root m c tree (v .tree-in .reads) (v .grid) tree-new r g a f in
         subst (λ (i : ℕ). LevelPut path i (rootIn m) grownRoot path₁) (sym (v .tree-in .level-is))
         (subst (λ (i : ℕ). LevelPut path level i grownRoot path₁) (sym (v .tree-in .root-is)) (subst (λ (l : List Rect). LevelPut path level root l path₁) b put))

@@ -12,12 +12,12 @@ use Rattle.tree.specs.Plan.{descend, few, lineAt}
 use Rattle.plane.specs.Lines.{CellEntry}
 use Rattle.plane.specs.Plane.{planeSpace}
 use Rattle.plane.specs.Candidates.{rankLine}
-use Rattle.memory.specs.Layout.{countAt}
 use Rattle.memory.specs.Fanout.{fanout}
 use Rattle.index.specs.Changes.{entryOf}
 use Rattle.split_line.specs.LineNumber.{LineIs}
 use Rattle.emission.specs.Path.{partOn, lineOn, polygonOn, wayAt, PathFrom}
 use Rattle.tree.proofs.GoodWays.{GoodWay}
+use Rattle.layout.specs.Nodes.{countAt}
 use Rattle.insertion.specs.Descent.{itemsAt}
 
 -- A path that is that of the definition from each level on, through sound nodes.

@@ -1,11 +1,12 @@
 // Insertion.
 ghost use mathlib.Core.Path.{_≡_};
 ghost use Prim.Native.Nat.{_+_, _*_, _≤_};
-ghost use lib.ListN.{length, drop};
+ghost use lib.ListN.{length};
 ghost use mathlib.Core.Bool.{true};
 ghost use Rattle.geometry.specs.Cells.{onGrid};
 ghost use Rattle.geometry.specs.Numbers.{rectAt};
-ghost use Rattle.memory.specs.Layout.{PartIn, part};
+ghost use Rattle.memory.specs.Layout.{part, rectNumbers};
+ghost use Rattle.layout.specs.Nodes.{PartIn};
 ghost use Rattle.index.specs.Changes.{entryOf, InsertCall};
 ghost use Rattle.index.specs.Open.{TreeIn, OpenedAs};
 ghost use Rattle.insertion.specs.Insert.{Inserting, PathFound, Built, InsertDone};
@@ -34,7 +35,7 @@ use layout::right_length;
 // The first rectangle of the node at part k.
 fn first_rect(m: &[u32], k: u32) -> Rect
     requires { ⌜ PartIn (now m) k ⌝ }
-    ensures { λ r. ⌜ r ≡ rectAt (drop 2 (part (now (m .entry)) k)) 0 ⌝ }
+    ensures { λ r. ⌜ r ≡ rectAt (rectNumbers (part (now (m .entry)) k)) 0 ⌝ }
 {
     rect_at(rects(part_at(m, k)), 0)
 }

@@ -11,7 +11,8 @@ use lib.Seq.{getD-set-same, getD-set-other, getD-take, getD-drop, getD-at, ext-g
 use Rattle.geometry.specs.Numbers.{rectAt, rectsIn}
 use Rattle.geometry.proofs.Booleans.{both, split-and}
 use Rattle.plane.specs.Lines.{CellEntry}
-use Rattle.memory.specs.Layout.{rectCount, itemCount, polygonIn, entryIn, entriesIn, childrenIn, allZero, restZero, NodePart}
+use Rattle.memory.specs.Layout.{rectCount, itemCount, polygonIn, entryIn, entriesIn, childrenIn, allZero, restZero}
+use Rattle.layout.specs.Nodes.{NodePart}
 use Rattle.memory.proofs.ReadingLaws.{entries-length, zero-at}
 use Rattle.layout.specs.Gap.{withoutAt, MovedDown, ItemIn, ItemDropped, EntryDropped, BranchDropped}
 use Rattle.layout.proofs.GapLists.{zeros-of, length-without, without-before, without-behind}

@@ -6,8 +6,9 @@ use native.Mathlib.Omega.{arith}
 use lib.ListN.{length, take, drop, getD, length-take, length-drop}
 use lib.Seq.{take-all, getD-take, getD-drop}
 use Rattle.geometry.specs.Numbers.{rectsIn}
-use Rattle.memory.specs.Layout.{PartIn, NodePart, PolygonPart, part, rectCount, itemCount, polygonIn, entryIn, childIn, childrenIn, countAt, childAt}
+use Rattle.memory.specs.Layout.{part, rectCount, itemCount, polygonIn, entryIn, childrenIn, rectNumbers}
 use Rattle.memory.proofs.ReadingLaws.{part-length}
+use Rattle.layout.specs.Nodes.{PartIn, NodePart, PolygonPart, childIn, countAt, childAt}
 
 pub part-is : (m : List ℕ) (k : ℕ) → take (64 + 128 * k + 128 - (64 + 128 * k)) (drop (64 + 128 * k) m) ≡ part m k
 unfolding part
@@ -48,24 +49,23 @@ pub children-are : (p : List ℕ) → take (66 + getD p 1 0 - 66) (drop 66 p) �
 children-are p = let e : 66 + getD p 1 0 - 66 ≡ getD p 1 0 = omega arith in rw e
 
 -- the polygon at part k, from the part and its rectangles as they are lent
-pub lent-polygon : (m : List ℕ) (k : ℕ) (p l : List ℕ) (r : ℕ) → p ≡ part m k → l ≡ drop 2 p → r ≡ rectCount p → rectsIn l r ≡ polygonIn (part m k)
+pub lent-polygon : (m : List ℕ) (k : ℕ) (p l : List ℕ) (r : ℕ) → p ≡ part m k → l ≡ rectNumbers p → r ≡ rectCount p → rectsIn l r ≡ polygonIn (part m k)
 lent-polygon m k p l r e f g = rw (f, g, e)
 
-pub polygon-part : (m : List ℕ) (k : ℕ) → PolygonPart m k → PartIn m k
-polygon-part m k x = let b = x .below in omega arith
+-- the numbers of a part's rectangles are enough
+pub rects-length : (p l : List ℕ) → length p ≡ 128 → l ≡ rectNumbers p → length l ≡ 126
+rects-length p l n e = ap length e ∙ length-drop 2 p ∙ omega arith
 
-pub polygon-few : (m : List ℕ) (k : ℕ) (p l : List ℕ) (r : ℕ) → PolygonPart m k → p ≡ part m k → l ≡ drop 2 p → r ≡ rectCount p → 4 * r ≤ length l
+pub polygon-few : (m : List ℕ) (k : ℕ) (p l : List ℕ) (r : ℕ) → PolygonPart m k → p ≡ part m k → l ≡ rectNumbers p → r ≡ rectCount p → 4 * r ≤ length l
 polygon-few m k p l r x e f g =
     let c = x .few-rects in
     let n = ap length e ∙ part-length m k (x .below) in
     let q : rectCount p ≡ rectCount (part m k) = ap rectCount e in
-    let d : length l ≡ 126 = ap length f ∙ length-drop 2 p ∙ omega arith in
+    let d = rects-length p l n f in
     omega arith
 
--- the rectangles of a part as they are lent
-pub rects-long : (p l : List ℕ) (r : ℕ) → NodePart p → l ≡ drop 2 p → r ≡ rectCount p → 4 * r ≤ length l
+pub rects-long : (p l : List ℕ) (r : ℕ) → NodePart p → l ≡ rectNumbers p → r ≡ rectCount p → 4 * r ≤ length l
 rects-long p l r v e f =
-    let n = v .length-is in
     let c = v .few-rects in
-    let d : length l ≡ 126 = ap length e ∙ length-drop 2 p ∙ omega arith in
+    let d = rects-length p l (v .length-is) e in
     omega arith

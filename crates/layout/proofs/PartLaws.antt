@@ -11,9 +11,10 @@ use lib.Dec.{leb, eqb}
 use lib.ListN.{length, take, drop, length-drop, take-append-drop}
 use lib.Seq.{drop-drop, take-all}
 use Rattle.geometry.proofs.Booleans.{is-false, not-both, neither, both, all4}
-use Rattle.memory.specs.Layout.{partsOf, part, inUse, allZero, othersZero, rectCount, itemCount, countsFit, restZero, nodeFits, NodePart}
+use Rattle.memory.specs.Layout.{partsOf, part, inUse, allZero, othersZero, rectCount, itemCount, countsFit, restZero, nodeFits}
 use Rattle.memory.proofs.ReadingLaws.{RightLength, part-length, unused-zero}
 use Rattle.memory.specs.Fanout.{fanout}
+use Rattle.layout.specs.Nodes.{NodePart}
 
 -- the counts, tested one after the other
 module _ (p : List ℕ) (r : ℕ) (x : r ≡ rectCount p) where

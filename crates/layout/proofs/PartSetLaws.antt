@@ -8,7 +8,8 @@ use native.Mathlib.Decide.{decLt}
 use borrow.Rule.Slice.PartMut.{putMid}
 use lib.ListN.{length, getD, take, drop, take-append-drop, length-append, length-take, length-drop, List·getD-append}
 use lib.Seq.{take-at, drop-at, take-append-le, drop-append-le, drop-append-add, drop-drop, length-take-le, getD-take}
-use Rattle.memory.specs.Layout.{part, inUse, onesOf, bitsSet, PartIn}
+use Rattle.memory.specs.Layout.{part, inUse, onesOf, bitsSet}
+use Rattle.layout.specs.Nodes.{PartIn}
 use Rattle.layout.specs.Gap.{ItemIn, EntryDropped, BranchDropped}
 use Rattle.layout.specs.PartSet.{setPart, EntryDroppedAt, BranchDroppedAt}
 use Rattle.layout.proofs.NodeLaws.{part-is}

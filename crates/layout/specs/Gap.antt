@@ -5,7 +5,8 @@ use mathlib.Core.List.{List, _++_}
 use mathlib.Core.Logic.{_⊎_}
 use mathlib.Core.Path.{_≡_}
 use lib.ListN.{length, getD, take, drop}
-use Rattle.memory.specs.Layout.{rectCount, itemCount, polygonIn, entriesIn, childrenIn, restZero, NodePart}
+use Rattle.memory.specs.Layout.{rectCount, itemCount, polygonIn, entriesIn, childrenIn, restZero}
+use Rattle.layout.specs.Nodes.{NodePart}
 
 -- a list without its i-th element
 abbrev pub withoutAt : {A : Type 0} → ℕ → List A → List A

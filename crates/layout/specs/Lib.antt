@@ -1,3 +1,4 @@
+pub mod Nodes
 pub mod Gap
 pub mod PartSet
 pub mod Writing

@@ -4,7 +4,8 @@ use mathlib.Core.Bool.{true}
 use mathlib.Core.List.{List, _++_}
 use mathlib.Core.Path.{_≡_}
 use lib.ListN.{getD, set, take, drop, replicate}
-use Rattle.memory.specs.Layout.{part, inUse, PartIn}
+use Rattle.memory.specs.Layout.{part, inUse}
+use Rattle.layout.specs.Nodes.{PartIn}
 use Rattle.layout.specs.Gap.{EntryDropped, BranchDropped}
 
 -- the memory with the numbers p in part k

@@ -1,7 +1,8 @@
 // Taking an item out of a node's part: the later ones move down, and the last place becomes zero.
 ghost use Prim.Native.Nat.{_+_, _≤_};
 ghost use lib.ListN.{length};
-ghost use Rattle.memory.specs.Layout.{PartIn, part};
+ghost use Rattle.memory.specs.Layout.{part};
+ghost use Rattle.layout.specs.Nodes.{PartIn};
 ghost use Rattle.layout.specs.Gap.{MovedDown, ItemIn, EntryDropped, BranchDropped};
 ghost use Rattle.layout.specs.PartSet.{EntryDroppedAt, BranchDroppedAt};
 use crate::numbers::ENTRY;

@@ -1,8 +1,9 @@
 // Reading a node: its part, and what stands in it. Nothing is copied but the number or the cell that is asked for.
 ghost use mathlib.Core.Path.{_≡_};
 ghost use Prim.Native.Nat.{_+_, _≤_, _<_};
-ghost use lib.ListN.{length, drop};
-ghost use Rattle.memory.specs.Layout.{PartIn, part, rectCount, itemCount, entryIn, childIn, childrenIn, countAt, childAt};
+ghost use lib.ListN.{length};
+ghost use Rattle.memory.specs.Layout.{part, rectCount, itemCount, entryIn, childrenIn, rectNumbers};
+ghost use Rattle.layout.specs.Nodes.{PartIn, childIn, countAt, childAt};
 use crate::numbers::ENTRY;
 use crate::numbers::HEAD;
 use crate::numbers::ITEM_COUNT;
@@ -33,7 +34,7 @@ pub fn rect_count(p: &[u32]) -> u32
 // The numbers of a part from its rectangles on, four a rectangle.
 pub fn rects(p: &[u32]) -> &[u32]
     requires { ⌜ length (now p) ≡ 128 ⌝ }
-    ensures { λ r. ⌜ now r ≡ drop 2 (now (p .entry)) ⌝ }
+    ensures { λ r. ⌜ now r ≡ rectNumbers (now (p .entry)) ⌝ }
 {
     &p[RECTS..]
 }

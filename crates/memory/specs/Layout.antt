@@ -1,8 +1,7 @@
 -- Document 01, 'Memory is a list of 32-bit numbers': where each number stands. docs/LAYOUT.md has the same as a table.
-use Prim.Native.Nat.{ℕ, zero, suc, _+_, _*_, _-_, _/_, _%_, _^_, _≤_, _<_}
+use Prim.Native.Nat.{ℕ, zero, suc, _+_, _*_, _-_, _/_, _%_, _^_}
 use mathlib.Core.Bool.{Bool, true, _&&_, _||_}
 use mathlib.Core.List.{List, [], _∷_, _++_}
-use mathlib.Core.Path.{_≡_}
 use lib.Count.{ones}
 use lib.Dec.{leb, ltb, eqb}
 use lib.ListN.{length, take, drop, getD}
@@ -56,8 +55,11 @@ rectCount p = getD p 0 0
 abbrev pub itemCount : List ℕ → ℕ
 itemCount p = getD p 1 0
 
+abbrev pub rectNumbers : List ℕ → List ℕ
+rectNumbers p = drop 2 p
+
 abbrev pub polygonIn : List ℕ → List Rect
-polygonIn p = rectsIn (drop 2 p) (rectCount p)
+polygonIn p = rectsIn (rectNumbers p) (rectCount p)
 
 -- the i-th entry of a leaf's part
 unfoldable pub entryIn : List ℕ → ℕ → CellEntry
@@ -71,23 +73,9 @@ unfoldable pub entriesIn : List ℕ → ℕ → List CellEntry
 entriesIn p zero = []
 entriesIn p (suc n) = entriesIn p n ++ (entryIn p n ∷ [])
 
--- the i-th child of a routing node, by its part number, and all of them
-abbrev pub childIn : List ℕ → ℕ → ℕ
-childIn p i = getD p (66 + i) 0
-
+-- the children of a routing node, by their part numbers
 abbrev pub childrenIn : List ℕ → List ℕ
 childrenIn p = take (itemCount p) (drop 66 p)
-
--- part k is one of the memory's
-abbrev pub PartIn : List ℕ → ℕ → Type 0
-PartIn m k = 64 + 128 * k + 128 ≤ length m
-
--- of the node at part k: the count of its items, and its i-th child
-abbrev pub countAt : List ℕ → ℕ → ℕ
-countAt m k = itemCount (part m k)
-
-abbrev pub childAt : List ℕ → ℕ → ℕ → ℕ
-childAt m k i = childIn (part m k) i
 
 -- 'Unused numbers are zero': of a part whose items take w numbers each
 unfoldable pub restZero : ℕ → List ℕ → Bool
@@ -105,14 +93,3 @@ nodeFits fanout w m k = ltb k (partsOf m) && inUse m k && countsFit fanout (part
 unfoldable pub othersZero : List ℕ → ℕ → Bool
 othersZero m zero = true
 othersZero m (suc k) = othersZero m k && (inUse m k || allZero (part m k))
-
--- What the functions on a part rely on: its counts are no larger than the layout admits.
-pub record NodePart (p : List ℕ) : Type 0 where
-  pub length-is : length p ≡ 128
-  pub few-rects : rectCount p ≤ 16
-  pub few-items : itemCount p ≤ 8
-
--- part k is one of the memory's, and its polygon has at most 16 rectangles
-pub record PolygonPart (m : List ℕ) (k : ℕ) : Type 0 where
-  pub below : k < partsOf m
-  pub few-rects : rectCount (part m k) ≤ 16

@@ -8,8 +8,9 @@ use native.Mathlib.Omega.{arith}
 use native.Mathlib.Decide.{ℕ-discrete}
 use lib.ListN.{length, replicate, length-replicate}
 use Rattle.tree.proofs.Booleans.{contrary}
-use Rattle.memory.specs.Layout.{partsOf, part, inUse, bitsSet, allZero, othersZero, PartIn}
+use Rattle.memory.specs.Layout.{partsOf, part, inUse, bitsSet, allZero, othersZero}
 use Rattle.memory.proofs.ReadingLaws.{unused-zero, zero-unused, zeros-zero}
+use Rattle.layout.specs.Nodes.{PartIn}
 use Rattle.layout.specs.PartSet.{setPart, withoutBit, freed, UsedPart}
 use Rattle.layout.proofs.FreeLaws.{cleared-length, cleared-bits, cleared-others, cleared-head, cleared-part}
 use Rattle.layout.proofs.PartSetLaws.{set-length, set-part, set-others, set-head, set-in-use, set-bits}

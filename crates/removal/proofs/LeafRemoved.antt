@@ -13,9 +13,10 @@ use Rattle.tree.specs.Remove.{prune, without}
 use Rattle.plane.specs.Lines.{CellEntry}
 use Rattle.plane.specs.Plane.{planeSpace}
 use Rattle.plane.proofs.Rects.{plane-space-laws}
-use Rattle.memory.specs.Layout.{partsOf, part, itemCount, entryIn, polygonIn, NodePart}
+use Rattle.memory.specs.Layout.{partsOf, part, itemCount, entryIn, polygonIn}
 use Rattle.memory.proofs.ReadingLaws.{LeafParts, FitsAs, leaf-parts, make-leaf, fits-as, length-right, part-length, entries-length}
 use Rattle.memory.specs.Fanout.{fanout}
+use Rattle.layout.specs.Nodes.{NodePart}
 use Rattle.layout.specs.Gap.{withoutAt}
 use Rattle.layout.specs.PartSet.{setPart, freed, UsedPart}
 use Rattle.layout.proofs.GapLists.{length-without}

@@ -18,10 +18,11 @@ use Rattle.tree.proofs.Counts.{total-append}
 use Rattle.tree.proofs.Prune.{prune-one}
 use Rattle.plane.specs.Plane.{planeSpace}
 use Rattle.plane.proofs.Rects.{plane-space-laws}
-use Rattle.memory.specs.Layout.{partsOf, part, inUse, bitsSet, itemCount, polygonIn, childrenIn, countAt, childAt}
+use Rattle.memory.specs.Layout.{partsOf, part, inUse, bitsSet, itemCount, polygonIn, childrenIn}
 use Rattle.memory.specs.Reading.{readNode}
 use Rattle.memory.proofs.ReadingLaws.{NodeParts, FitsAs, node-parts, fits-as, length-right, part-length, lowAt, low-from, low-to, part-below, row-at, row-length, change-node, remove-node}
 use Rattle.memory.specs.Fanout.{fanout}
+use Rattle.layout.specs.Nodes.{countAt, childAt}
 use Rattle.layout.specs.Gap.{withoutAt}
 use Rattle.layout.specs.PartSet.{setPart, freed, UsedPart}
 use Rattle.layout.proofs.GapLists.{length-without}

@@ -12,8 +12,9 @@ use mir.Val.{Fits}
 use lib.ListN.{length, getD, length-take, length-drop}
 use Rattle.geometry.specs.declared.rect.Cell.{Cell}
 use Rattle.tree.proofs.Booleans.{contrary}
-use Rattle.memory.specs.Layout.{part, itemCount, entryIn, polygonIn, childrenIn, countAt, childAt, PartIn, PolygonPart}
+use Rattle.memory.specs.Layout.{part, itemCount, entryIn, polygonIn, childrenIn}
 use Rattle.memory.proofs.ReadingLaws.{lowAt, part-length}
+use Rattle.layout.specs.Nodes.{countAt, childAt, PartIn, PolygonPart}
 use Rattle.index.specs.Walks.{hasTest, cellTest}
 use Rattle.layout.proofs.NodeLaws.{child-in}
 use Rattle.removal.specs.Place.{EntryPlace, HoldsCell, ChildrenHave, ChildPlace}

@@ -3,7 +3,8 @@ use Prim.Native.Nat.{ℕ, _≤_}
 use mathlib.Core.Path.{_≡_, sym, _∙_}
 use mathlib.Core.List.{List}
 use native.Mathlib.Omega.{arith}
-use Rattle.memory.specs.Layout.{part, itemCount, countAt}
+use Rattle.memory.specs.Layout.{part, itemCount}
+use Rattle.layout.specs.Nodes.{countAt}
 use Rattle.layout.specs.PartSet.{freed, EntryDroppedAt, BranchDroppedAt}
 use Rattle.removal.specs.Below.{TakesItem, LeafShorter, NodeShorter, NodeFreed}
 

@@ -4,8 +4,9 @@ use mathlib.Core.Bool.{true}
 use mathlib.Core.List.{List}
 use mathlib.Core.Path.{_≡_}
 use Rattle.geometry.specs.declared.rect.Cell.{Cell}
-use Rattle.memory.specs.Layout.{part, itemCount, entryIn, polygonIn, childrenIn, countAt, childAt, PartIn, NodePart, PolygonPart}
+use Rattle.memory.specs.Layout.{part, itemCount, entryIn, polygonIn, childrenIn}
 use Rattle.memory.proofs.ReadingLaws.{lowAt}
+use Rattle.layout.specs.Nodes.{countAt, childAt, PartIn, NodePart, PolygonPart}
 use Rattle.index.specs.Walks.{hasTest, cellTest}
 use Rattle.removal.specs.declared.place.Child.{Child}
 

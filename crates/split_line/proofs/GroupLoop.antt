@@ -22,10 +22,11 @@ use Rattle.tree.proofs.Lists.{all-append, all-head, all-tail, flatMap-all}
 use Rattle.plane.specs.Lines.{CellEntry}
 use Rattle.plane.specs.Plane.{planeSpace}
 use Rattle.plane.specs.Candidates.{rankLine}
-use Rattle.memory.specs.Layout.{part, childrenIn, countAt, childAt}
+use Rattle.memory.specs.Layout.{part, childrenIn}
 use Rattle.memory.specs.Reading.{readNode}
 use Rattle.memory.proofs.ReadingLaws.{RowParts, row-parts, row-none, row-length, node-parts}
 use Rattle.memory.specs.Fanout.{fanout}
+use Rattle.layout.specs.Nodes.{countAt, childAt}
 use Rattle.index.specs.Changes.{entryOf}
 use Rattle.index.specs.Count.{entriesAt, entriesOf}
 use Rattle.index.proofs.WalkRows.{RowWalkable, walkable}

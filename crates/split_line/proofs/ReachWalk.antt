@@ -12,8 +12,9 @@ use Rattle.tree.specs.Walk.{nodeWalkEntries}
 use Rattle.tree.proofs.Lists.{flatMap-single, flatMap-same, keep-flatMap, all-first, all-second, all-head}
 use Rattle.plane.specs.Lines.{CellEntry}
 use Rattle.plane.specs.Plane.{planeSpace}
-use Rattle.memory.specs.Layout.{part, itemCount, entryIn, countAt, childAt}
+use Rattle.memory.specs.Layout.{part, itemCount, entryIn}
 use Rattle.memory.specs.Fanout.{fanout}
+use Rattle.layout.specs.Nodes.{countAt, childAt}
 use Rattle.index.specs.Count.{entriesAt, entriesOf}
 use Rattle.index.specs.Walks.{visitsBelow, entriesFrom, entriesBelow, leafEntries, Walkable}
 use Rattle.index.proofs.WalkRows.{leaf-entries, node-part}

@@ -10,8 +10,9 @@ use Rattle.tree.specs.Lists.{All, Pairs, total}
 use Rattle.tree.specs.Sound.{Apart}
 use Rattle.plane.specs.Lines.{CellEntry, xOf, yOf, leafLine}
 use Rattle.plane.specs.Plane.{planeSpace}
-use Rattle.memory.specs.Layout.{itemCount, entriesIn, NodePart}
+use Rattle.memory.specs.Layout.{itemCount, entriesIn}
 use Rattle.memory.specs.Fanout.{fanout}
+use Rattle.layout.specs.Nodes.{NodePart}
 use Rattle.index.specs.Changes.{entryOf}
 use Rattle.split_line.specs.LineNumber.{LineIs}
 use Rattle.split_line.specs.declared.leaf.Sums.{Sums}

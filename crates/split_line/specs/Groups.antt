@@ -18,8 +18,8 @@ use Rattle.plane.specs.Candidates.{rankLine}
 use Rattle.plane.proofs.NodeLine.{Fits, GridGroups}
 use Rattle.plane.proofs.Extents.{SomeEach}
 use Rattle.memory.specs.Reading.{readNode}
-use Rattle.memory.specs.Layout.{countAt}
 use Rattle.memory.specs.Fanout.{fanout}
+use Rattle.layout.specs.Nodes.{countAt}
 use Rattle.index.specs.Walks.{Walkable}
 use Rattle.index.specs.Changes.{entryOf}
 use Rattle.index.specs.Count.{entriesAt}

@@ -11,7 +11,7 @@ use Rattle.tree.specs.Lists.{keep, notEmpty}
 use Rattle.plane.specs.Lines.{CellEntry}
 use Rattle.plane.specs.Candidates.{Extent, extentOf}
 use Rattle.plane.specs.Plane.{cellRect}
-use Rattle.memory.specs.Layout.{NodePart}
+use Rattle.layout.specs.Nodes.{NodePart}
 use Rattle.index.specs.Count.{entriesAt}
 use Rattle.index.specs.Walks.{Walkable, leafEntries}
 use Rattle.sides.specs.Sides.{onEvery}

@@ -8,12 +8,13 @@ use lib.ListN.{length, drop, getD, drop-of-length-le, List·getD-map}
 use lib.Seq.{drop-cons, getD-drop}
 use Rattle.geometry.specs.declared.polygon.Polygon.{Polygon}
 use Rattle.geometry.specs.Numbers.{rectsIn, PolygonOf}
-use Rattle.memory.specs.Layout.{part, rectCount, polygonIn, childrenIn, countAt, childAt, PolygonPart}
+use Rattle.memory.specs.Layout.{part, rectCount, polygonIn, childrenIn, rectNumbers}
+use Rattle.layout.specs.Nodes.{countAt, childAt, PolygonPart}
 use Rattle.layout.proofs.NodeLaws.{lent-polygon, child-in}
 use Rattle.step2.specs.Branches.{polygonsIn, Branches}
 
 -- the polygon loaded from the part p of a node, by its rectangles r and their count n
-module _ (m : List ℕ) (k : ℕ) (p r : List ℕ) (n : ℕ) (e : p ≡ part m k) (f : r ≡ drop 2 p) (g : n ≡ rectCount p) where
+module _ (m : List ℕ) (k : ℕ) (p r : List ℕ) (n : ℕ) (e : p ≡ part m k) (f : r ≡ rectNumbers p) (g : n ≡ rectCount p) where
   pub loaded : (q : Polygon) → PolygonOf (rectsIn r n) q → PolygonOf (polygonIn (part m k)) q
   loaded q v = rw (← (lent-polygon m k p r n e f g)) v
 

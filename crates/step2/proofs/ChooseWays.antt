@@ -20,8 +20,9 @@ use Rattle.tree.specs.Lists.{All}
 use Rattle.tree.specs.Nodes.{Item}
 use Rattle.tree.specs.Step2.{choose}
 use Rattle.plane.specs.Plane.{plane, planeSpace}
-use Rattle.memory.specs.Layout.{part, polygonIn, countAt, childAt, PolygonPart}
+use Rattle.memory.specs.Layout.{part, polygonIn}
 use Rattle.memory.specs.Fanout.{fanout}
+use Rattle.layout.specs.Nodes.{countAt, childAt, PolygonPart}
 use Rattle.index.specs.Walks.{hasTest}
 use Rattle.step2.specs.declared.extra.Nearest.{Nearest}
 use Rattle.step2.specs.Branches.{polygonsIn, Branches, firstPlace}

@@ -15,7 +15,8 @@ use Rattle.geometry.proofs.CellLaws.{grid-of, Valid, valid-of, valid-at}
 use Rattle.geometry.proofs.GrowLaws.{grow-valid, area-grows}
 use Rattle.geometry.proofs.NumberLaws.{length-rects, rects-at, rects-next, rects-end}
 use Rattle.plane.specs.Plane.{extraOf}
-use Rattle.memory.specs.Layout.{part, rectCount, polygonIn, countAt, childAt}
+use Rattle.memory.specs.Layout.{part, rectCount, polygonIn, rectNumbers}
+use Rattle.layout.specs.Nodes.{countAt, childAt}
 use Rattle.layout.proofs.NodeLaws.{lent-polygon, polygon-few}
 use Rattle.step2.specs.declared.extra.Nearest.{Nearest}
 use Rattle.step2.specs.Branches.{polygonsIn, GoodPart, Branches}
@@ -86,7 +87,7 @@ module _ (c : Cell) (list : List ℕ) (n branch : ℕ) (known : Nearest) where
     compare-end h = sym (v .rest ∙ rw (rects-end list n i h))
 
 -- the rectangles s of the part p of a child, and their count n
-module _ (m : List ℕ) (j : ℕ) (p s : List ℕ) (n : ℕ) (e : p ≡ part m j) (f : s ≡ drop 2 p) (g : n ≡ rectCount p) where
+module _ (m : List ℕ) (j : ℕ) (p s : List ℕ) (n : ℕ) (e : p ≡ part m j) (f : s ≡ rectNumbers p) (g : n ≡ rectCount p) where
   module _ (v : GoodPart m j) where
     pub good-fit : 4 * n ≤ length s
     good-fit = polygon-few m j p s n (v .polygon) e f g

@@ -7,7 +7,8 @@ use native.Mathlib.Omega.{arith}
 use lib.ListN.{length, take, drop, getD}
 use Rattle.geometry.specs.declared.rect.Cell.{Cell}
 use Rattle.tree.specs.Lists.{All}
-use Rattle.memory.specs.Layout.{part, polygonIn, countAt, childAt, PolygonPart}
+use Rattle.memory.specs.Layout.{part, polygonIn}
+use Rattle.layout.specs.Nodes.{countAt, childAt, PolygonPart}
 use Rattle.index.specs.Walks.{hasTest}
 use Rattle.step2.specs.Branches.{polygonsIn, Branches, firstPlace}
 use Rattle.step2.proofs.ChildParts.{next-polygon, no-polygon}

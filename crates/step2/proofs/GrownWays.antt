@@ -4,7 +4,7 @@ use mathlib.Core.Path.{_≡_, sym, ap, _∙_}
 use mathlib.Core.List.{List, [], _∷_}
 use mathlib.Core.Option.{Option, bind}
 use native.Mathlib.Omega.{arith}
-use lib.ListN.{length, drop, getD, length-drop}
+use lib.ListN.{length, getD, length-drop}
 use Rattle.geometry.specs.declared.rect.Cell.{Cell}
 use Rattle.geometry.specs.declared.rect.Rect.{Rect}
 use Rattle.geometry.specs.declared.cut.Count.{Count}
@@ -14,7 +14,8 @@ use Rattle.geometry.specs.Cut.{cutLimited, commonLimited}
 use Rattle.geometry.specs.Grow.{grown}
 use Rattle.geometry.specs.Numbers.{rectAt, rectsIn, putAt, counted, Written}
 use Rattle.geometry.proofs.NumberLaws.{length-rects, length-put, rects-at, put-behind}
-use Rattle.memory.specs.Layout.{part, rectCount, polygonIn, countAt, childAt, PolygonPart}
+use Rattle.memory.specs.Layout.{part, rectCount, polygonIn, rectNumbers}
+use Rattle.layout.specs.Nodes.{countAt, childAt, PolygonPart}
 use Rattle.layout.proofs.NodeLaws.{lent-polygon}
 use Rattle.step2.specs.Branches.{polygonsIn, Branches}
 use Rattle.step2.specs.Pieces.{siblings, innerPieces, replaced, refinedLimited, grownAt}
@@ -58,7 +59,7 @@ module _ (g : Rect) (ss p : List Rect) (list₀ list list₁ out₀ out₁ : Lis
     inner-parts b out₂ w = record { list = w .list ∙ sym (cut-first ∙ rw q); few = w .few; same-length = w .same-length ∙ o }
 
 -- the rectangles s of the part p at j, and the rect-th of them
-module _ (m : List ℕ) (j : ℕ) (p s : List ℕ) (rect : ℕ) (e : p ≡ part m j) (f : s ≡ drop 2 p) (h : rect < rectCount (part m j)) where
+module _ (m : List ℕ) (j : ℕ) (p s : List ℕ) (rect : ℕ) (e : p ≡ part m j) (f : s ≡ rectNumbers p) (h : rect < rectCount (part m j)) where
   pub rect-room : PolygonPart m j → length p ≡ 128 → 4 * rect + 4 ≤ length s
   rect-room v l = let x = v .few-rects in rw (f, length-drop) (omega arith)
 

@@ -11,11 +11,12 @@ use Rattle.geometry.proofs.NumberLaws.{length-rects}
 use Rattle.tree.specs.Lists.{All}
 use Rattle.tree.specs.Nodes.{Item}
 use Rattle.plane.specs.Plane.{planeSpace}
-use Rattle.memory.specs.Layout.{rightLength, part, rectCount, polygonIn, childrenIn, countAt}
+use Rattle.memory.specs.Layout.{rightLength, part, rectCount, polygonIn, childrenIn}
 use Rattle.memory.specs.Reading.{readRow, readNode}
 use Rattle.memory.proofs.ReadingLaws.{row-none, row-parts, node-parts, node-below, fits-as, children-length}
 use Rattle.memory.proofs.SoundTested.{valid-of-fine}
 use Rattle.memory.specs.Fanout.{fanout}
+use Rattle.layout.specs.Nodes.{countAt}
 use Rattle.layout.proofs.NodeLaws.{child-in}
 use Rattle.index.proofs.WalkRows.{polygon-is, walkable, walk-polygon}
 use Rattle.step2.specs.Branches.{polygonsIn, GoodPart, Branches}

@@ -15,7 +15,8 @@ use Rattle.geometry.specs.Numbers.{rectsIn, rectsOf, counted, Written, PolygonO
 use Rattle.geometry.proofs.ArrayLaws.{array-next, array-end}
 use Rattle.geometry.proofs.CutLaws.{cut-limited-append}
 use Rattle.tree.proofs.Lists.{flatMap-append}
-use Rattle.memory.specs.Layout.{part, polygonIn, countAt, childAt, PolygonPart}
+use Rattle.memory.specs.Layout.{part, polygonIn}
+use Rattle.layout.specs.Nodes.{countAt, childAt, PolygonPart}
 use Rattle.step2.specs.Branches.{polygonsIn, Branches}
 use Rattle.step2.specs.Pieces.{rectsAll, siblings}
 use Rattle.step2.proofs.ChildParts.{polygon-there}

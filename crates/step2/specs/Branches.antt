@@ -6,7 +6,8 @@ use mathlib.Core.Path.{_≡_}
 use lib.ListN.{length}
 use Rattle.geometry.specs.declared.rect.Rect.{Rect}
 use Rattle.geometry.specs.Cells.{allValid}
-use Rattle.memory.specs.Layout.{partsOf, part, rectCount, polygonIn, childrenIn, countAt, childAt, PolygonPart}
+use Rattle.memory.specs.Layout.{partsOf, part, rectCount, polygonIn, childrenIn}
+use Rattle.layout.specs.Nodes.{countAt, childAt, PolygonPart}
 
 -- the polygons of the children of the node at part k, in order
 unfoldable pub polygonsIn : List ℕ → ℕ → List (List Rect)

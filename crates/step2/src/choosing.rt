@@ -4,7 +4,7 @@ ghost use mathlib.Core.Bool.{true};
 ghost use Prim.Native.Nat.{_≤_};
 ghost use Rattle.geometry.specs.Cells.{onGrid};
 ghost use Rattle.geometry.specs.Numbers.{rectsOf};
-ghost use Rattle.memory.specs.Layout.{countAt};
+ghost use Rattle.layout.specs.Nodes.{countAt};
 ghost use Rattle.index.specs.Walks.{hasTest};
 ghost use Rattle.step2.specs.Branches.{polygonsIn, Branches, firstPlace};
 ghost use Rattle.step2.specs.Choose.{Routing, ChoiceIs};

@@ -2,7 +2,8 @@
 ghost use Prim.Native.Nat.{_+_, _*_, _-_, _≤_, _<_};
 ghost use lib.ListN.{length, drop};
 ghost use Rattle.geometry.specs.Numbers.{rectsIn, Appended, Written};
-ghost use Rattle.memory.specs.Layout.{part, rectCount, polygonIn, PolygonPart};
+ghost use Rattle.memory.specs.Layout.{part, rectCount, polygonIn};
+ghost use Rattle.layout.specs.Nodes.{PolygonPart};
 ghost use Rattle.step2.specs.Pieces.{replaced, refinedLimited};
 use geometry::Count;
 use geometry::put_rect;

@@ -4,7 +4,7 @@ ghost use Prim.Native.Nat.{_≤_, _<_};
 ghost use lib.ListN.{length, take, drop};
 ghost use Rattle.geometry.specs.Cut.{cutLimited};
 ghost use Rattle.geometry.specs.Numbers.{rectsIn, Written};
-ghost use Rattle.memory.specs.Layout.{countAt};
+ghost use Rattle.layout.specs.Nodes.{countAt};
 ghost use Rattle.step2.specs.Branches.{polygonsIn, Branches};
 ghost use Rattle.step2.specs.Pieces.{rectsAll, siblings};
 use crate::branch::polygon_at;

@@ -1,6 +1,7 @@
 -- `node::put_left` meets its contract.
 use borrow.Author.Needs.{needs}
-use Rattle.emission.proofs.LeftNode.{polygon-long, left-put}
+use Rattle.layout.proofs.NodeLaws.{rects-long}
+use Rattle.emission.proofs.LeftNode.{left-put}
 use Rattle.emission.proofs.node.put_left.Statement.{statement}
 use Rattle.emission.proofs.node.put_left.Tie as tie
 
@@ -16,7 +17,7 @@ cast-load : tie.Need-cast-load
 cast-load c = search needs
 
 load-requires : tie.Need-load-requires
-load-requires c κs = (search needs, search polygon-long)
+load-requires c κs = (search needs, search rects-long)
 
 clipped-requires : tie.Need-clipped-requires
 clipped-requires c κs = search needs

@@ -1,7 +1,7 @@
 -- `place::child_place` meets its contract; its loop is in PlaceLoops.
 use Prim.Native.Nat.{_-_}
 use borrow.Author.Needs.{needs}
-use Rattle.memory.specs.Layout.{countAt}
+use Rattle.layout.specs.Nodes.{countAt}
 use Rattle.removal.proofs.PlaceLoops.{SeekChild, seek-child-start, seek-polygon, seek-fits, seek-child-few, seek-child-again, seek-child-found}
 use Rattle.removal.proofs.place.child_place.Statement.{statement}
 use Rattle.removal.proofs.place.child_place.Tie as tie
