@@ -1,4 +1,4 @@
--- Document 01: 'Commands: `I x y tag`, `R x y`, `P x y`, `S llx lly urx ury`, `C`. Fields are decimal .., after one space each. Other
+-- Document 01: 'Commands: `I x y tag`, `R x y`, `P x y`, `S llx lly urx ury`, `C`. Fields are decimal .., after one space each; .. Other
 -- lines, or lines over 80 bytes, print `?`.'
 use Prim.Native.Nat.{ℕ}
 use mathlib.Core.Bool.{Bool, cond, _&&_}

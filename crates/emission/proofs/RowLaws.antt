@@ -18,11 +18,12 @@ use Rattle.memory.specs.Layout.{part, childrenIn}
 use Rattle.memory.specs.Image.{emitRow, emitNode}
 use Rattle.memory.specs.Reading.{readNode}
 use Rattle.memory.proofs.NodeImage.{length-node}
-use Rattle.memory.proofs.ReadingLaws.{lowAt, row-at, row-length, node-parts, node-lower, node-below, children-length}
+use Rattle.memory.proofs.ReadingLaws.{lowAt, row-at, row-length, node-parts, node-lower}
 use Rattle.memory.specs.Fanout.{fanout}
 use Rattle.layout.specs.Nodes.{childAt, countAt}
 use Rattle.index.specs.Walks.{Walkable}
 use Rattle.layout.proofs.NodeLaws.{child-in}
+use Rattle.index.proofs.WalkLoop.{children-count}
 use Rattle.index.proofs.WalkRows.{walkable}
 use Rattle.emission.specs.declared.tops.Tops.{Tops}
 use Rattle.emission.specs.Emits.{Emits, Room, deepOf, deepAt}
@@ -43,17 +44,12 @@ module _ (n : ℕ) (m : List ℕ) (k : ℕ) (v : Walkable (suc n) m 0 k) where
   unfolding rowAt rowOr
   row-is = rw (node-parts fanout n m 0 k (v .node) (v .reads) .row)
 
-  children-count : length (childrenIn (part m k)) ≡ countAt m k
-  children-count =
-      let f = v .few in
-      children-length fanout m k (node-below fanout m (suc n) 0 k (v .node) (v .reads)) (omega arith)
-
   -- a node has as many branches as its part says
   pub row-count : length (rowAt n m k) ≡ countAt m k
   row-count =
       ap length row-is
       ∙ row-length (readNode fanout n m) 0 k (childrenIn (part m k)) (v .node .child) (node-parts fanout n m 0 k (v .node) (v .reads) .row)
-      ∙ children-count
+      ∙ children-count (suc n) m 0 k v
 
   pub branch-at : (i j : ℕ) → i < countAt m k → j ≡ childAt m k i → BranchAt n m k i j
   branch-at i j h q =
@@ -61,7 +57,7 @@ module _ (n : ℕ) (m : List ℕ) (k : ℕ) (v : Walkable (suc n) m 0 k) where
       let ks : List ℕ = childrenIn (part m k) in
       let d : Item (planeSpace fanout) (suc n) = record { poly = []; child = [] } in
       let b : Item (planeSpace fanout) (suc n) = getD (v .node .child) i d in
-      let s : i < length ks = rw children-count h in
+      let s : i < length ks = rw (children-count (suc n) m 0 k v) h in
       let l : i < length (v .node .child) = rw (← row-is, row-count) h in
       let low = node-lower fanout n m (lowAt 0 ks i) 0 (getD ks i 0) b (omega arith) (row-at (readNode fanout n m) 0 k ks i (v .node .child) d (p .row) s) in
       let r : readNode fanout n m 0 j ≡ some b = rw (child-in (part m k) i h, ← q) at low in

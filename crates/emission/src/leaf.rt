@@ -4,7 +4,7 @@ ghost use Prim.Native.Nat.{_≤_, _<_};
 ghost use lib.ListN.{length};
 ghost use Rattle.tree.specs.Lists.{notEmpty};
 ghost use Rattle.memory.specs.Layout.{entryIn};
-ghost use Rattle.layout.specs.Nodes.{NodePart};
+ghost use Rattle.layout.specs.Nodes.{IsPart, NodePart};
 ghost use Rattle.emission.specs.Leaves.{onTest, leafLeft, LeafGathered};
 use layout::copy_entry;
 use layout::entry_cell;
@@ -13,7 +13,7 @@ use sides::on_all;
 
 // Whether the i-th entry of a leaf's part is on every side.
 fn is_left(p: &[u32], i: usize, sides: &[u32]) -> bool
-    requires { ⌜ (length (now p) ≡ 128) × (i < 8) ⌝ }
+    requires { ⌜ IsPart (now p) × (i < 8) ⌝ }
     ensures { λ b. ⌜ b ≡ onTest (now (sides .entry)) (entryIn (now (p .entry)) i) ⌝ }
 {
     on_all(sides, entry_cell(p, i))

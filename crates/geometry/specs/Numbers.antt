@@ -1,4 +1,4 @@
--- Lists of rectangles as numbers, 'four numbers a rectangle': llx, lly, urx, ury.
+-- Lists of rectangles as numbers, four a rectangle: llx, lly, urx, ury.
 use Prim.Native.Nat.{ℕ, zero, suc, _+_, _-_, _*_, _≤_, _<_}
 use mathlib.Core.Bool.{false}
 use mathlib.Core.List.{List, [], _∷_, _++_}

@@ -1,4 +1,5 @@
--- Document 01's sample for the line program, from the definitions: its nine commands get the numbers and values that its output lines print.
+-- Document 01's sample for the line program, from the definitions: its nine commands get the numbers and values that its output lines print
+-- (of a window query the matches and visits; the entries that it lists are not among them).
 use mathlib.Core.List.{List, [], _∷_, flatMap}
 use mathlib.Core.Option.{none, bind}
 use mathlib.Core.Path.{_≡_, refl}

@@ -23,7 +23,8 @@ use Rattle.layout.specs.Nodes.{PolygonPart}
 use Rattle.index.specs.Answers.{matchesIn}
 use Rattle.index.specs.Open.{TreeIn}
 use Rattle.index.specs.Walks.{hasTest, cellTest, meetsTest, insideTest, visitsFrom, visitsBelow, entriesFrom, entriesBelow, Walkable, heldBelow, matchesBelow}
-use Rattle.index.proofs.WalkRows.{walkable, walk-polygon, polygon-is}
+use Rattle.index.proofs.CheckLaws.{node-polygon}
+use Rattle.index.proofs.WalkRows.{walkable, walk-polygon}
 
 module _ (m : List ℕ) (level root : ℕ) (v : TreeIn m level root) where
   pub tree-walkable : Walkable level m 0 root
@@ -39,7 +40,7 @@ module _ (m : List ℕ) (level root : ℕ) (v : TreeIn m level root) where
   root-polygon =
       let t = v .tree in
       let r = read-as fanout m t (v .reads) in
-      rw (← (v .root-is)) (sym (polygon-is (t .level) m 0 (rootIn m) (top (planeSpace fanout) t) (r .root-node)))
+      rw (← (v .root-is)) (sym (node-polygon (t .level) m 0 (rootIn m) (top (planeSpace fanout) t) (r .root-node)))
 
   walk-visits : (t : List Rect → Bool) → cond (t (polygonIn (part m root))) (visitsBelow t level m 0 root) 0 ≡ walkVisits (planeSpace fanout) t (some (v .tree))
   unfolding visitsBelow visitsFrom

@@ -1,35 +1,18 @@
 -- The loop over a leaf's entries: those that passed so far and the entries that are left give all that pass.
-use Prim.Native.Nat.{ℕ, zero, suc, _+_, _≤_, _<_}
+use Prim.Native.Nat.{ℕ, _+_, _≤_, _<_}
 use mathlib.Core.Path.{_≡_, refl, sym, _∙_}
 use mathlib.Core.Bool.{Bool, true, false, cond}
 use mathlib.Core.List.{List, [], _∷_, _++_, append-nil}
 use native.Mathlib.Omega.{arith}
-use native.Mathlib.Decide.{decLt}
-use lib.ListN.{length, drop, length-append, drop-of-length-le}
-use lib.Seq.{drop-append-le, drop-at, append-snoc}
+use lib.ListN.{length, drop, drop-of-length-le}
+use lib.Seq.{append-snoc}
 use Rattle.tree.specs.Lists.{keep}
 use Rattle.plane.specs.Lines.{CellEntry}
 use Rattle.memory.specs.Layout.{itemCount, entryIn, entriesIn}
 use Rattle.memory.proofs.ReadingLaws.{entries-length}
 use Rattle.layout.specs.Nodes.{NodePart}
 use Rattle.index.specs.Walks.{leafEntries}
-
--- the next entry
-next-entry : (p : List ℕ) (n i : ℕ) → i < n → drop i (entriesIn p n) ≡ entryIn p i ∷ drop (i + 1) (entriesIn p n)
-unfolding entriesIn
-next-entry p zero i h = absurd (omega arith)
-next-entry p (suc n) i h = go (decLt i n) (next-entry p n i) (entries-length p n)
-  where
-    go : Dec (i < n) → (i < n → drop i (entriesIn p n) ≡ entryIn p i ∷ drop (i + 1) (entriesIn p n)) → length (entriesIn p n) ≡ n
-        → drop i (entriesIn p n ++ (entryIn p n ∷ [])) ≡ entryIn p i ∷ drop (i + 1) (entriesIn p n ++ (entryIn p n ∷ []))
-    go (yes k) ih l =
-        let a : i ≤ length (entriesIn p n) = omega arith in
-        let b : i + 1 ≤ length (entriesIn p n) = omega arith in
-        rw (drop-append-le i (entriesIn p n) (entryIn p n ∷ []) a, drop-append-le (i + 1) (entriesIn p n) (entryIn p n ∷ []) b, ih k)
-    go (no k) ih l =
-        let e : i ≡ n = omega arith in
-        let f : length (entriesIn p n ++ (entryIn p n ∷ [])) ≤ n + 1 = rw length-append (omega arith) in
-        rw (e, drop-at (entriesIn p n) (entryIn p n ∷ []) n l, drop-of-length-le (entriesIn p n ++ (entryIn p n ∷ [])) f)
+use Rattle.index.proofs.LeafLaws.{entries-next}
 
 -- Before the i-th of the n entries of a leaf's part: es passed so far.
 pub record AtEntry (u : CellEntry → Bool) (p : List ℕ) (n i : ℕ) (es : List CellEntry) : Type 0 where
@@ -55,7 +38,7 @@ module _ (u : CellEntry → Bool) (p : List ℕ) (n : ℕ) where
     module _ (h : i < n) (b : Bool) (e : b ≡ u (entryIn p i)) where
       whole : es ++ cond b (entryIn p i ∷ keep u (drop (i + 1) (entriesIn p (itemCount p)))) (keep u (drop (i + 1) (entriesIn p (itemCount p)))) ≡ leafEntries u p
       unfolding keep
-      whole = rw e (rw (next-entry p (itemCount p) i (rw (a .count) at h)) at (a .entries))
+      whole = rw e (rw (entries-next p (itemCount p) i (rw (a .count) at h)) at (a .entries))
 
       pub entry-miss : b ≡ false → AtEntry u p n (i + 1) es
       entry-miss f = record { count = a .count; i-le = omega arith; leaf = a .leaf; entries = rw f at whole }

@@ -19,6 +19,7 @@ use Rattle.memory.proofs.ReadingLaws.{row-parts, fits-as, leaf-parts, node-part
 use Rattle.memory.specs.Fanout.{fanout}
 use Rattle.layout.specs.Nodes.{NodePart, PolygonPart}
 use Rattle.index.specs.Walks.{visitsFrom, visitsBelow, entriesFrom, entriesBelow, leafEntries, Walkable}
+use Rattle.index.proofs.CheckLaws.{node-polygon}
 
 -- A row of children in a memory of a right length reads.
 pub record RowWalkable (n : ℕ) (m : List ℕ) (lo hi : ℕ) (ks : List ℕ) : Type 0 where
@@ -27,10 +28,6 @@ pub record RowWalkable (n : ℕ) (m : List ℕ) (lo hi : ℕ) (ks : List ℕ) : 
   pub reads : readRow (readNode fanout n m) lo hi ks ≡ some row
 
 -- a node that reads has a polygon, which is the one of its part
-pub polygon-is : (n : ℕ) (m : List ℕ) (lo k : ℕ) (b : Item (planeSpace fanout) (suc n)) → readNode fanout n m lo k ≡ some b → b .poly ≡ polygonIn (part m k)
-polygon-is zero m lo k b e = leaf-parts fanout m lo k b e .polygon
-polygon-is (suc n) m lo k b e = node-parts fanout n m lo k b e .polygon
-
 polygon-few : (n : ℕ) (m : List ℕ) (lo k : ℕ) (b : Item (planeSpace fanout) (suc n)) → readNode fanout n m lo k ≡ some b → rectCount (part m k) ≤ 16
 polygon-few zero m lo k b e = fits-as fanout 3 m k (leaf-parts fanout m lo k b e .fits) .few-rects
 polygon-few (suc n) m lo k b e = fits-as fanout 1 m k (node-parts fanout n m lo k b e .fits) .few-rects
@@ -127,7 +124,7 @@ module _ (t : List Rect → Bool) (u : CellEntry → Bool) where
   unfolding visitsBelow visitsFrom visitsRow rowVisits entriesBelow entriesFrom entriesRow rowEntries total flatMap
   row-step n m lo hi j ks v =
       let r = row-parts (readNode fanout n m) lo hi j ks (v .row) (v .reads) in
-      let q = polygon-is n m lo j (r .first) (r .head) in
+      let q = node-polygon n m lo j (r .first) (r .head) in
       let e : readRow (readNode fanout n m) lo hi (j ∷ ks) ≡ some (r .first ∷ r .others) = v .reads ∙ ap some (sym (r .whole)) in
       record {
         below = r .below;

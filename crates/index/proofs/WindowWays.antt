@@ -27,7 +27,8 @@ use Rattle.index.specs.Answers.{matchesIn, windowRead, windowWritten, wi
 use Rattle.index.specs.declared.opening.Opened.{Opened}
 use Rattle.index.specs.declared.opening.Opened.the-variants as O
 use Rattle.index.specs.Open.{OpenedAs, TreeIn}
-use Rattle.index.specs.Walks.{WindowCall, meetsTest, visitsBelow, matched, putEntry, putEntries, Listed, WalkRoom, WindowDone, matchesBelow}
+use Rattle.layout.specs.Items.{putEntry}
+use Rattle.index.specs.Walks.{WindowCall, meetsTest, visitsBelow, matched, putEntries, Listed, WalkRoom, WindowDone, matchesBelow}
 use Rattle.index.proofs.TreeWalk.{tree-walkable, tree-window-visits, tree-matches}
 use Rattle.index.proofs.WindowWrite.{length-put}
 

@@ -4,13 +4,13 @@ use mathlib.Core.Path.{_≡_, refl, sym, ap, _∙_}
 use mathlib.Core.Bool.{Bool, true, false}
 use mathlib.Core.List.{List, [], _∷_, _++_}
 use native.Mathlib.Omega.{arith}
-use lib.ListN.{length, set, length-append, length-set}
-use Rattle.geometry.specs.declared.rect.Cell.{Cell}
+use lib.ListN.{length, length-append, length-set}
 use Rattle.geometry.specs.declared.rect.Rect.{Rect}
 use Rattle.plane.specs.Lines.{CellEntry}
 use Rattle.memory.specs.Layout.{part, itemCount, entryIn, polygonIn}
+use Rattle.layout.specs.Items.{putEntry}
 use Rattle.layout.specs.Nodes.{childAt, countAt}
-use Rattle.index.specs.Walks.{meetsTest, insideTest, leafEntries, Walkable, putEntry, putEntries, Listed, LeafRoom, WalkRoom, matchesBelow}
+use Rattle.index.specs.Walks.{meetsTest, insideTest, leafEntries, Walkable, putEntries, Listed, LeafRoom, WalkRoom, matchesBelow}
 use Rattle.index.proofs.WalkLeaf.{AtEntry, entry-start, entry-miss, entry-hit, entry-end}
 use Rattle.index.proofs.WalkRows.{leaf-entries, node-part}
 use Rattle.index.proofs.WalkLoop.{AtChild, child-start, child-miss, child-hit, end-entries, child-walkable}
@@ -18,12 +18,6 @@ use Rattle.index.proofs.WalkLoop.{AtChild, child-start, child-miss, chi
 pub length-put : (l : List ℕ) (at : ℕ) (e : CellEntry) → length (putEntry l at e) ≡ length l
 unfolding putEntry
 length-put l at e = simp length-set
-
--- an entry's numbers, written one by one
-pub put-is : (l : List ℕ) (at : ℕ) (e : CellEntry) (c : Cell) (t : ℕ) → c ≡ e .cell → t ≡ e .tag
-    → set (set (set l (3 * at) (c .x)) (3 * at + 1) (c .y)) (3 * at + 2) t ≡ putEntry l at e
-unfolding putEntry
-put-is l at e c t c-is t-is = rw (c-is, t-is)
 
 -- entries put in two goes
 put-append : (l : List ℕ) (at : ℕ) (es fs : List CellEntry) → putEntries l at (es ++ fs) ≡ putEntries (putEntries l at es) (at + length es) fs
@@ -72,7 +66,7 @@ module _ (w : Rect) (p : List ℕ) (n : ℕ) (l₀ : List ℕ) (at₀ : ℕ) whe
     write-end h = rw (entry-end (insideTest w) p n i (x .es) (x .at) h) at (x .so-far)
 
     module _ (h : i < n) (b : Bool) (e : b ≡ insideTest w (entryIn p i)) where
-      pub write-room : b ≡ true → 3 * next + 3 ≤ length l
+      pub write-room : b ≡ true → 3 * (next + 1) ≤ length l
       write-room f =
           let a = entry-hit (insideTest w) p n i (x .es) (x .at) h b e f .entries in
           let q = simp length-append at (ap length a) in

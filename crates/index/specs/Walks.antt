@@ -4,7 +4,7 @@ use mathlib.Core.Bool.{Bool, true, false, _||_, cond}
 use mathlib.Core.List.{List, [], _∷_, head?}
 use mathlib.Core.Option.{Option, none, some}
 use mathlib.Core.Path.{_≡_}
-use lib.ListN.{length, set}
+use lib.ListN.{length}
 use Rattle.geometry.specs.declared.rect.Cell.{Cell}
 use Rattle.geometry.specs.declared.rect.Rect.{Rect}
 use Rattle.tree.specs.Lists.{keep}
@@ -17,6 +17,7 @@ use Rattle.plane.specs.Windows.{planeWindow}
 use Rattle.memory.specs.Layout.{rightLength, itemCount, entriesIn}
 use Rattle.memory.specs.Reading.{readNode, reading}
 use Rattle.memory.specs.Fanout.{fanout}
+use Rattle.layout.specs.Items.{putEntry}
 use Rattle.layout.specs.Nodes.{PartIn, countAt, NodePart}
 use Rattle.index.specs.declared.walk.Found.{Found}
 use Rattle.index.specs.declared.window_query.Matched.{Matched}
@@ -93,10 +94,6 @@ joined a b = record { held = a .held || b .held; tag = cond (a .held) (a .tag) (
 -- what a walk for a window found: how many entries match, and the visits
 unfoldable pub matched : List CellEntry → ℕ → Matched
 matched es v = record { matches = length es; visits = v }
-
--- a list with an entry's numbers at the at-th place, three numbers a place
-unfoldable pub putEntry : List ℕ → ℕ → CellEntry → List ℕ
-putEntry l at e = set (set (set l (3 * at) (e .cell .x)) (3 * at + 1) (e .cell .y)) (3 * at + 2) (e .tag)
 
 -- a list with the numbers of some entries from the at-th place on
 unfoldable pub putEntries : List ℕ → ℕ → List CellEntry → List ℕ

@@ -1,4 +1,4 @@
-// What the calls answer. The definitions in specs/Answers.antt give document 01's number and values for each case.
+// What the calls answer. specs/Answers.antt defines which case it is, specs/Numbers.antt document 01's number and values for each.
 
 pub enum Inserted {
     // the entries held after the call

@@ -7,7 +7,7 @@ ghost use Rattle.geometry.specs.Numbers.{rectsIn};
 ghost use Rattle.memory.specs.Layout.{itemCount, polygonIn, entryIn, entriesIn};
 ghost use Rattle.memory.specs.SoundTest.{allPass, pairsPass, apartTest, itemTest};
 ghost use Rattle.memory.specs.Fanout.{fanout};
-ghost use Rattle.layout.specs.Nodes.{NodePart};
+ghost use Rattle.layout.specs.Nodes.{IsPart, NodePart};
 use geometry::Cell;
 use geometry::rect_at;
 use layout::entry_cell;
@@ -52,7 +52,7 @@ pub fn entries_inside(p: &[u32]) -> bool
 // Whether none of the entries behind the i-th of n has its cell. All eight places are compared, so that the lengths of the
 // loops are constants; the count is asked only where two are equal, since the places behind it are zeros.
 fn none_like(p: &[u32], n: usize, i: usize) -> bool
-    requires { ⌜ (i < n) × (n ≤ 8) × (length (now p) ≡ 128) ⌝ }
+    requires { ⌜ (i < n) × (n ≤ 8) × IsPart (now p) ⌝ }
     ensures { λ b. ⌜ b ≡ allPass (apartTest fanout 0 (entryIn (now (p .entry)) i)) (drop (i + 1) (entriesIn (now (p .entry)) n)) ⌝ }
 {
     let c = entry_cell(p, i);

@@ -1,11 +1,10 @@
 // The point query: the walk into the nodes whose polygon has the cell.
 ghost use mathlib.Core.Path.{_≡_};
 ghost use Prim.Native.Nat.{_<_};
-ghost use lib.ListN.{length};
 ghost use Rattle.memory.specs.Layout.{entryIn};
 ghost use Rattle.memory.specs.Reading.{reading};
 ghost use Rattle.memory.specs.Fanout.{fanout};
-ghost use Rattle.layout.specs.Nodes.{NodePart};
+ghost use Rattle.layout.specs.Nodes.{IsPart, NodePart};
 ghost use Rattle.index.specs.Answers.{pointRead, pointAnswer};
 ghost use Rattle.index.specs.Open.{TreeIn, OpenedAs};
 ghost use Rattle.index.specs.Walks.{hasTest, cellTest, visitsBelow, heldBelow, leafEntries, Walkable, found};
@@ -25,7 +24,7 @@ use layout::right_length;
 
 // Whether the i-th entry of a leaf's part is of the cell.
 pub fn is_of_cell(p: &[u32], i: usize, c: Cell) -> bool
-    requires { ⌜ (length (now p) ≡ 128) × (i < 8) ⌝ }
+    requires { ⌜ IsPart (now p) × (i < 8) ⌝ }
     ensures { λ b. ⌜ b ≡ cellTest c (entryIn (now (p .entry)) i) ⌝ }
 {
     let held = entry_cell(p, i);

@@ -1,4 +1,4 @@
-// The walks of the queries: what both of them read of a node's part.
+// What the walks of the queries ask of a node's polygon, and what the walk for a cell found.
 ghost use mathlib.Core.Path.{_≡_};
 ghost use Prim.Native.Nat.{_+_, _≤_};
 ghost use Rattle.memory.specs.Layout.{part, polygonIn};

@@ -1,21 +1,21 @@
 // The window query: two walks into the nodes whose polygon shares a cell with the window. The first
 // counts, the second writes: a list that is too short is left as it was.
 ghost use mathlib.Core.Path.{_≡_};
-ghost use Prim.Native.Nat.{_+_, _*_, _≤_, _<_};
+ghost use Prim.Native.Nat.{_+_, _*_, _<_};
 ghost use lib.ListN.{length};
 ghost use Rattle.memory.specs.Layout.{entryIn};
-ghost use Rattle.layout.specs.Nodes.{NodePart};
+ghost use Rattle.layout.specs.Nodes.{IsPart, NodePart};
 ghost use Rattle.index.specs.Open.{TreeIn, OpenedAs};
-ghost use Rattle.index.specs.Walks.{meetsTest, insideTest, visitsBelow, matchesBelow, leafEntries, Walkable, matched, putEntry, Listed, LeafRoom, WalkRoom, WindowDone, WindowCall};
+ghost use Rattle.index.specs.Walks.{meetsTest, insideTest, visitsBelow, matchesBelow, leafEntries, Walkable, matched, Listed, LeafRoom, WalkRoom, WindowDone, WindowCall};
 use crate::answer::WindowFound;
 use crate::opening::Opened;
 use crate::opening::open;
 use crate::walk::polygon_meets;
 use geometry::Rect;
 use layout::child_at;
+use layout::copy_entry;
 use layout::count_at;
 use layout::entry_cell;
-use layout::entry_tag;
 use layout::item_count;
 use layout::part_at;
 use layout::right_length;
@@ -28,7 +28,7 @@ pub struct Matched {
 
 // Whether the cell of the i-th entry of a leaf's part is in the window.
 fn is_inside(p: &[u32], i: usize, w: Rect) -> bool
-    requires { ⌜ (length (now p) ≡ 128) × (i < 8) ⌝ }
+    requires { ⌜ IsPart (now p) × (i < 8) ⌝ }
     ensures { λ b. ⌜ b ≡ insideTest w (entryIn (now (p .entry)) i) ⌝ }
 {
     w.has_cell(entry_cell(p, i))
@@ -81,19 +81,6 @@ pub fn count_below(m: &[u32], level: u32, lo: u32, k: u32, w: Rect) -> Matched
     so_far
 }
 
-// Writes the i-th entry of a leaf's part at the at-th place of the list.
-fn put_entry(p: &[u32], i: usize, list: &mut [u32], at: usize)
-    requires { ⌜ (length (now p) ≡ 128) × (i < 8) × (3 * at + 3 ≤ length (now list)) ⌝ }
-    ensures { λ _. ⌜ now (list .exit) ≡ putEntry (now (list .entry)) at (entryIn (now (p .entry)) i) ⌝ }
-{
-    let c = entry_cell(p, i);
-    let tag = entry_tag(p, i);
-    let to = 3 * at;
-    list[to] = c.x;
-    list[to + 1] = c.y;
-    list[to + 2] = tag;
-}
-
 // Writes the entries of a leaf's part that are in the window, from the at-th place of the list on;
 // answers the next place.
 fn write_leaf(p: &[u32], w: Rect, list: &mut [u32], at: usize) -> usize
@@ -105,7 +92,7 @@ fn write_leaf(p: &[u32], w: Rect, list: &mut [u32], at: usize) -> usize
     let mut i = 0;
     while i < n {
         if is_inside(p, i, w) {
-            put_entry(p, i, list, next);
+            copy_entry(p, i, list, next);
             next += 1;
         }
         i += 1;

@@ -33,13 +33,14 @@ use Rattle.plane.specs.Plane.{planeSpace, planeRoot}
 use Rattle.plane.proofs.Rects.{plane-space-laws}
 use Rattle.plane.proofs.Steps.{plane-steps}
 use Rattle.plane.proofs.Roots.{plane-root-laws}
-use Rattle.memory.specs.Layout.{part, rectCount, polygonIn, rootIn, rectNumbers}
-use Rattle.memory.specs.Reading.{readNode, reading}
-use Rattle.memory.proofs.ReadingLaws.{ReadAs, read-as, read-sound, leaf-parts, node-parts}
+use Rattle.memory.specs.Layout.{part, rectCount, rootIn, rectNumbers}
+use Rattle.memory.specs.Reading.{reading}
+use Rattle.memory.proofs.ReadingLaws.{ReadAs, read-as, read-sound}
 use Rattle.memory.specs.Fanout.{fanout}
 use Rattle.layout.proofs.NodeLaws.{rects-length}
 use Rattle.index.specs.Changes.{entryOf}
 use Rattle.index.specs.Walks.{Walkable}
+use Rattle.index.proofs.CheckLaws.{node-polygon}
 use Rattle.index.proofs.WalkRows.{walkable}
 use Rattle.index.proofs.TreeWalk.{tree-walkable}
 use Rattle.emission.specs.Path.{partOn, polygonOn, wayAt, plannedTree}
@@ -58,11 +59,6 @@ laws = plane-space-laws fanout
 
 abbrev steps : Steps (planeSpace fanout)
 steps = plane-steps fanout (omega arith)
-
--- the polygon of a node that reads
-polygon-reads : (n : ℕ) (m : List ℕ) (lo k : ℕ) (b : Item (planeSpace fanout) (suc n)) → readNode fanout n m lo k ≡ some b → b .poly ≡ polygonIn (part m k)
-polygon-reads zero m lo k b h = leaf-parts fanout m lo k b h .polygon
-polygon-reads (suc n) m lo k b h = node-parts fanout n m lo k b h .polygon
 
 one-rect : (l : List ℕ) (n : ℕ) → length (rectsIn l n) ≡ 1 → rectsIn l n ≡ rectAt l 0 ∷ []
 unfolding rectsIn
@@ -96,7 +92,7 @@ module _ (m : List ℕ) (c : Cell) (x : Tree (planeSpace fanout)) (reads : readi
   -- the rectangle that the code grows
   grown-root : (r g : Rect) → r ≡ rectAt (rectNumbers (part m root)) 0 → g ≡ grown r c → g ∷ [] ≡ p
   grown-root r g e f =
-      let q = polygon-reads (x .level) m 0 root (top (planeSpace fanout) x) (read-x .root-node) in
+      let q = node-polygon (x .level) m 0 root (top (planeSpace fanout) x) (read-x .root-node) in
       let o : length (rectsIn (rectNumbers (part m root)) (rectCount (part m root))) ≡ 1 = ap length (sym q) ∙ sound .one in
       let w : x .root ≡ rectAt (rectNumbers (part m root)) 0 ∷ [] = q ∙ one-rect (rectNumbers (part m root)) (rectCount (part m root)) o in
       ap (λ (z : Rect). z ∷ []) (f ∙ ap (λ (z : Rect). grown z c) e) ∙ ap (λ (l : List Rect). planeRoot fanout .growRoot l c) (sym w)

@@ -21,7 +21,7 @@ use Rattle.index.specs.Open.{TreeIn}
 use Rattle.emission.specs.Path.{PathFrom, plannedTree}
 use Rattle.index.specs.Held.{heldRead}
 
--- The memory reads as a tree that does not hold the cell, and the path has room for all its levels.
+-- The memory reads as a tree that does not hold the cell, which is on the grid.
 pub record Inserting (m : List ℕ) (level root : ℕ) (c : Cell) : Type 0 where
   pub tree-in : TreeIn m level root
   pub grid : onGrid c ≡ true

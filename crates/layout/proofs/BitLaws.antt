@@ -1,6 +1,6 @@
 -- The loop that counts the bits set.
 use mathlib.Core.Path.{_≡_, refl, ap, _∙_}
-use mathlib.Core.List.{List, [], _∷_, _++_}
+use mathlib.Core.List.{List}
 use Prim.Native.Nat.{ℕ, _+_, _*_, _^_, _<_, _≤_}
 use native.Mathlib.Omega.{arith}
 use native.Mathlib.Numerals.{add-one}
@@ -8,6 +8,7 @@ use lib.Count.{ones, ones-le}
 use lib.ListN.{length, getD, take}
 use lib.Seq.{take-suc}
 use Rattle.memory.specs.Layout.{onesOf, bitsSet}
+use Rattle.memory.proofs.UsedParts.{ones-last}
 
 -- the bits of the first i numbers are counted
 pub record Counting (m : List ℕ) (i sum : ℕ) : Type 0 where
@@ -15,11 +16,6 @@ pub record Counting (m : List ℕ) (i sum : ℕ) : Type 0 where
   pub enough : 8 ≤ length m
   pub few : sum ≤ 32 * i
   pub sum-is : sum ≡ onesOf (take i m)
-
-ones-last : (l : List ℕ) (w : ℕ) → onesOf (l ++ (w ∷ [])) ≡ onesOf l + ones w
-unfolding onesOf
-ones-last [] w = omega arith
-ones-last (v ∷ l) w = let ih = ones-last l w in omega arith
 
 pub count-start : (m : List ℕ) → 8 ≤ length m → Counting m 0 0
 unfolding onesOf

@@ -73,7 +73,7 @@ bit-kept (suc s) (suc t) w h n =
     ∙ bit-kept s t (w / 2) (sym (bit-half w s) ∙ h) (λ e. n (ap suc e)) ∙ sym (bit-half w t)
 
 -- the power of a bit, as the code shifts it
-shifted : (s : ℕ) → s < 32 → 1 * 2 ^ s % 2 ^ 32 ≡ 2 ^ s
+pub shifted : (s : ℕ) → s < 32 → 1 * 2 ^ s % 2 ^ 32 ≡ 2 ^ s
 shifted s h = ap (λ (p : ℕ). p % 2 ^ 32) (one-mul (2 ^ s)) ∙ mod-eq-of-lt (pow-lt h)
 
 -- the bits set of a list in which one number changed

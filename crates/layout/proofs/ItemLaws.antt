@@ -9,7 +9,7 @@ use Rattle.geometry.specs.declared.rect.Cell.{Cell}
 use Rattle.plane.specs.Lines.{CellEntry}
 use Rattle.memory.specs.Layout.{entryIn}
 use Rattle.memory.specs.Image.{entryNumbers}
-use Rattle.layout.specs.Items.{EntryPut}
+use Rattle.layout.specs.Items.{putEntry, EntryPut}
 
 -- three numbers stored one after another
 pub entry-put : (l : List ℕ) (at : ℕ) (e : CellEntry) → 3 * (at + 1) ≤ length l
@@ -41,3 +41,7 @@ entry-put l at e h =
 pub entry-copied : (l p : List ℕ) (i at : ℕ) (c : Cell) (t : ℕ) (l′ : List ℕ) → c ≡ entryIn p i .cell → t ≡ entryIn p i .tag → EntryPut l at (record { cell = c; tag = t }) l′
     → EntryPut l at (entryIn p i) l′
 entry-copied l p i at c t l′ q r x = rw (q, r) at x
+
+pub entry-same : (l p : List ℕ) (i at : ℕ) (c : Cell) (t : ℕ) (l′ : List ℕ) → c ≡ entryIn p i .cell → t ≡ entryIn p i .tag → l′ ≡ putEntry l at (record { cell = c; tag = t })
+    → l′ ≡ putEntry l at (entryIn p i)
+entry-same l p i at c t l′ q r x = rw (q, r) at x

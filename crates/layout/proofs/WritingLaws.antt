@@ -1,16 +1,16 @@
 -- The memory written from a work area is the image of its parts.
-use Prim.Native.Nat.{ℕ, suc, _+_, _*_, _-_, _%_, _^_, _≤_, _<_, min}
+use Prim.Native.Nat.{ℕ, _+_, _*_, _-_, _%_, _^_, _≤_, _<_, min}
 use mathlib.Core.Path.{_≡_, sym, ap, _∙_}
 use mathlib.Core.List.{List, [], _++_, append-assoc, append-nil, flatMap}
 use native.Mathlib.Omega.{arith}
-use native.Mathlib.Nat.{pow-suc}
-use lib.Pow.{pow-pos, pow-mono}
+use lib.Pow.{pow-pos}
 use lib.ListN.{length, take, drop, set, replicate, length-append, length-take, length-drop, drop-of-length-le}
 use lib.Seq.{take-at, take-add, drop-at, length-take-le}
 use Rattle.plane.specs.Best.{upFrom}
 use Rattle.memory.specs.Image.{padded, bitsWord, headNumbers, memoryOf}
 use Rattle.memory.proofs.HeadImage.{head-length}
 use Rattle.layout.specs.Writing.{written}
+use Rattle.layout.proofs.FreeLaws.{shifted}
 
 -- the bits of a word
 pub no-bits : (n j : ℕ) → n ≤ 32 * j → 0 ≡ bitsWord n j
@@ -131,13 +131,6 @@ module _ (m w h mid z : List ℕ) (parts height : ℕ) (fits : 64 + 128 * parts 
       (ap (λ (x : List ℕ). take stop two ++ (x ++ drop (length two - stop) (drop stop two))) (f ∙ ap (λ (y : ℕ). replicate y 0) k) ∙ ap (λ (x : List ℕ). take stop two ++ (replicate (length two - stop) 0 ++ x)) o)
 
 -- a shift that stays within 32 bits
-shifted : (s : ℕ) → s < 32 → 1 * 2 ^ s % 4294967296 ≡ 2 ^ s
-shifted s h =
-    let q : 2 ^ suc s ≤ 2 ^ 32 = pow-mono h in
-    let p = pow-suc 2 s in
-    let z = pow-pos s in
-    omega arith
-
 pub bit-room : (n j : ℕ) → n - 32 * j < 32 → 1 ≤ 1 * 2 ^ (n - 32 * j) % 4294967296
 bit-room n j h = let e = shifted (n - 32 * j) h in let z = pow-pos (n - 32 * j) in omega arith
 

@@ -5,6 +5,10 @@ use mathlib.Core.Path.{_≡_}
 use lib.ListN.{length, getD}
 use Rattle.memory.specs.Layout.{partsOf, part, rectCount, itemCount}
 
+-- a list as long as a part
+abbrev pub IsPart : List ℕ → Type 0
+IsPart p = length p ≡ 128
+
 -- the i-th child of a routing node's part
 abbrev pub childIn : List ℕ → ℕ → ℕ
 childIn p i = getD p (66 + i) 0

@@ -14,7 +14,6 @@ mod writing;
 mod zeros;
 
 pub use bits::bits_set;
-pub use bits::in_use;
 pub use copies::copy_node;
 pub use copies::copy_part;
 pub use empty::no_tree;

@@ -1,9 +1,8 @@
 // Reading a node: its part, and what stands in it. Nothing is copied but the number or the cell that is asked for.
 ghost use mathlib.Core.Path.{_≡_};
 ghost use Prim.Native.Nat.{_+_, _≤_, _<_};
-ghost use lib.ListN.{length};
 ghost use Rattle.memory.specs.Layout.{part, rectCount, itemCount, entryIn, childrenIn, rectNumbers};
-ghost use Rattle.layout.specs.Nodes.{PartIn, childIn, countAt, childAt};
+ghost use Rattle.layout.specs.Nodes.{IsPart, PartIn, childIn, countAt, childAt};
 use crate::numbers::ENTRY;
 use crate::numbers::HEAD;
 use crate::numbers::ITEM_COUNT;
@@ -16,7 +15,7 @@ use geometry::Cell;
 pub fn part_at(m: &[u32], k: u32) -> &[u32]
     requires { ⌜ PartIn (now m) k ⌝ }
     ensures { λ p. ⌜ now p ≡ part (now (m .entry)) k ⌝ }
-    ensures { λ p. ⌜ length (now p) ≡ 128 ⌝ }
+    ensures { λ p. ⌜ IsPart (now p) ⌝ }
 {
     let a = HEAD + PART * (k as usize);
     let e = a + PART;
@@ -25,7 +24,7 @@ pub fn part_at(m: &[u32], k: u32) -> &[u32]
 
 // How many rectangles its polygon has.
 pub fn rect_count(p: &[u32]) -> u32
-    requires { ⌜ length (now p) ≡ 128 ⌝ }
+    requires { ⌜ IsPart (now p) ⌝ }
     ensures { λ n. ⌜ n ≡ rectCount (now (p .entry)) ⌝ }
 {
     p[0]
@@ -33,7 +32,7 @@ pub fn rect_count(p: &[u32]) -> u32
 
 // The numbers of a part from its rectangles on, four a rectangle.
 pub fn rects(p: &[u32]) -> &[u32]
-    requires { ⌜ length (now p) ≡ 128 ⌝ }
+    requires { ⌜ IsPart (now p) ⌝ }
     ensures { λ r. ⌜ now r ≡ rectNumbers (now (p .entry)) ⌝ }
 {
     &p[RECTS..]
@@ -41,7 +40,7 @@ pub fn rects(p: &[u32]) -> &[u32]
 
 // How many items it has: entries, or children.
 pub fn item_count(p: &[u32]) -> u32
-    requires { ⌜ length (now p) ≡ 128 ⌝ }
+    requires { ⌜ IsPart (now p) ⌝ }
     ensures { λ n. ⌜ n ≡ itemCount (now (p .entry)) ⌝ }
 {
     p[ITEM_COUNT]
@@ -49,7 +48,7 @@ pub fn item_count(p: &[u32]) -> u32
 
 // The cell of the i-th entry of a leaf.
 pub fn entry_cell(p: &[u32], i: usize) -> Cell
-    requires { ⌜ (length (now p) ≡ 128) × (i < 8) ⌝ }
+    requires { ⌜ IsPart (now p) × (i < 8) ⌝ }
     ensures { λ c. ⌜ c ≡ entryIn (now (p .entry)) i .cell ⌝ }
 {
     let at = ITEMS + ENTRY * i;
@@ -61,7 +60,7 @@ pub fn entry_cell(p: &[u32], i: usize) -> Cell
 
 // Its tag.
 pub fn entry_tag(p: &[u32], i: usize) -> u32
-    requires { ⌜ (length (now p) ≡ 128) × (i < 8) ⌝ }
+    requires { ⌜ IsPart (now p) × (i < 8) ⌝ }
     ensures { λ t. ⌜ t ≡ entryIn (now (p .entry)) i .tag ⌝ }
 {
     p[ITEMS + ENTRY * i + 2]
@@ -69,7 +68,7 @@ pub fn entry_tag(p: &[u32], i: usize) -> u32
 
 // The i-th child of a routing node, by its part number.
 fn child(p: &[u32], i: usize) -> u32
-    requires { ⌜ (length (now p) ≡ 128) × (i < 8) ⌝ }
+    requires { ⌜ IsPart (now p) × (i < 8) ⌝ }
     ensures { λ j. ⌜ j ≡ childIn (now (p .entry)) i ⌝ }
 {
     p[ITEMS + i]
@@ -77,7 +76,7 @@ fn child(p: &[u32], i: usize) -> u32
 
 // The children of a routing node, by their part numbers.
 pub fn children(p: &[u32]) -> &[u32]
-    requires { ⌜ (length (now p) ≡ 128) × (itemCount (now p) ≤ 62) ⌝ }
+    requires { ⌜ IsPart (now p) × (itemCount (now p) ≤ 62) ⌝ }
     ensures { λ l. ⌜ now l ≡ childrenIn (now (p .entry)) ⌝ }
 {
     let end = ITEMS + (p[ITEM_COUNT] as usize);

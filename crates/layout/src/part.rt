@@ -2,11 +2,11 @@
 ghost use mathlib.Core.Path.{_≡_};
 ghost use mathlib.Core.Bool.{_||_};
 ghost use Prim.Native.Nat.{_+_, _-_, _*_, _≤_, _<_};
-ghost use lib.ListN.{length, take, drop};
+ghost use lib.ListN.{take, drop};
 ghost use Rattle.memory.specs.Layout.{partsOf, part, inUse, allZero, rectCount, countsFit, restZero, nodeFits, othersZero};
 ghost use Rattle.memory.proofs.ReadingLaws.{RightLength};
 ghost use Rattle.memory.specs.Fanout.{fanout};
-ghost use Rattle.layout.specs.Nodes.{NodePart};
+ghost use Rattle.layout.specs.Nodes.{IsPart, NodePart};
 use crate::bits::in_use;
 use crate::head::part_count;
 use crate::node::item_count;
@@ -19,7 +19,7 @@ use crate::zeros::all_zero;
 
 // Whether a part has 1 to 16 rectangles and 1 to 8 entries or branches.
 fn counts_fit(p: &[u32]) -> bool
-    requires { ⌜ length (now p) ≡ 128 ⌝ }
+    requires { ⌜ IsPart (now p) ⌝ }
     ensures { λ b. ⌜ b ≡ countsFit fanout (now (p .entry)) ⌝ }
 {
     let rects = rect_count(p);

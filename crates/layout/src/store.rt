@@ -4,6 +4,7 @@ ghost use Prim.Native.Nat.{_≤_};
 ghost use lib.ListN.{length};
 ghost use Rattle.geometry.specs.Numbers.{rectsOf};
 ghost use Rattle.memory.specs.Image.{nodePart};
+ghost use Rattle.layout.specs.Nodes.{IsPart};
 ghost use Rattle.layout.specs.Parts.{RectsStored, PartRoom, PartPut};
 use crate::numbers::HEAD;
 use crate::numbers::ITEM_COUNT;
@@ -26,7 +27,7 @@ fn store_rects(list: &mut [u32], p: Polygon)
 
 // Writes a node's part: its polygon, the count of its items and their numbers; every other number is zero.
 fn store_node(part: &mut [u32], p: Polygon, count: u32, items: &[u32])
-    requires { ⌜ (length (now part) ≡ 128) × (p .count ≤ 16) × (length (now items) ≤ 62) ⌝ }
+    requires { ⌜ IsPart (now part) × (p .count ≤ 16) × (length (now items) ≤ 62) ⌝ }
     ensures { λ _. ⌜ now (part .exit) ≡ nodePart (rectsOf p) count (now (items .entry)) ⌝ }
 {
     store_rects(&mut part[RECTS..], p);

@@ -176,7 +176,7 @@ word-bits m i =
     let r : (32 * i + j) % 32 ≡ j = omega arith in
     rw (d, r)
 
-ones-last : (l : List ℕ) (w : ℕ) → onesOf (l ++ (w ∷ [])) ≡ onesOf l + ones w
+pub ones-last : (l : List ℕ) (w : ℕ) → onesOf (l ++ (w ∷ [])) ≡ onesOf l + ones w
 unfolding onesOf
 ones-last [] w = omega arith
 ones-last (v ∷ l) w = let ih = ones-last l w in omega arith

@@ -1,5 +1,5 @@
--- The test for 'Sound' on a tree that was read: each clause of Sound as a test. The theorem sound-tested says that it passes exactly where
--- the tree is sound.
+-- The test for 'Sound' on a tree that was read: each clause of Sound as a test. The theorems sound-tested and test-of-sound say that it
+-- passes exactly where the tree is sound.
 use Prim.Native.Nat.{ℕ, zero, suc}
 use mathlib.Core.Bool.{Bool, true, false, _&&_, not}
 use mathlib.Core.List.{List, [], _∷_}

@@ -28,7 +28,8 @@ use Rattle.layout.specs.PartSet.{setPart, freed, UsedPart}
 use Rattle.layout.proofs.GapLists.{length-without}
 use Rattle.layout.proofs.PartSetLaws.{set-part, set-in-use, set-bits}
 use Rattle.index.specs.Walks.{hasTest, Walkable}
-use Rattle.index.proofs.WalkRows.{walkable, walk-polygon, polygon-is}
+use Rattle.index.proofs.CheckLaws.{node-polygon}
+use Rattle.index.proofs.WalkRows.{walkable, walk-polygon}
 use Rattle.removal.specs.Parts.{Beside}
 use Rattle.removal.specs.Place.{ChildHas, ChildrenHave}
 use Rattle.removal.specs.Below.{nodeLeft, TakesItem, NodeShorter, NodeFreed, BranchTaken, Removable, RemovedBelow}
@@ -98,7 +99,7 @@ module _ (n : ℕ) (m : List ℕ) (lo k : ℕ) (c : Cell) (v : Removable (suc n)
     child-node = Option·some-injective _ _ (sym (child-walk .reads) ∙ child-reads)
 
     child-polygon : getD (v .walk .node .child) i blank .poly ≡ polygonIn (part m (childAt m k i))
-    child-polygon = rw (← child-is) (polygon-is n m _ _ (getD (v .walk .node .child) i blank) child-reads)
+    child-polygon = rw (← child-is) (node-polygon n m _ _ (getD (v .walk .node .child) i blank) child-reads)
 
     child-sound : SoundItem (planeSpace fanout) (suc n) (v .walk .node .poly) (getD (v .walk .node .child) i blank)
     unfolding SoundItem

@@ -16,8 +16,9 @@ use Rattle.commands.specs.declared.parsing.Command.{Command}
 use Rattle.commands.specs.declared.parsing.Command.the-variants.{Insert, Remove, Point, Window, Clear, Other}
 use Rattle.commands.specs.AnswerText.{insertText, removeText, clearText, pointText, windowText, listed}
 use Rattle.session.specs.Response.{Lent, cellAt, rectOf, CarriedOut}
-use Rattle.session.specs.Stream.{Ran, none, first}
+use Rattle.session.specs.Stream.{Ran, none, first, Session}
 use Rattle.session.specs.LinesClaim.{callsOf, listedTold, textBy, Printed, nothing, other, called, LinesClaim}
+use Rattle.session.proofs.RunLaws.{session-ran}
 
 -- the calls that commands made, from the lists a to the lists b
 record Calling (cs : List Command) (a b : Lent) (text : List ℕ) : Type 0 where
@@ -92,3 +93,8 @@ pub lines-history : (N : ℕ) → 1 ≤ N → N ≤ 256 → {cs : List Command} 
 lines-history N p q {cs} {a} {b} {text} r e =
     let v = calling r in
     record { calls = v .calls; printed = v .printed; claim = kept-history N p q (v .calls) (b .index) (v .kept) (subst (λ (m : List ℕ). Linked m (v .calls) (b .index)) e (v .linked)) }
+
+-- The same over a whole session: calls of answer_lines and answer_line one after another, each handed what the last one left. Only the first
+-- is handed a fresh memory.
+pub session-history : (N : ℕ) → 1 ≤ N → N ≤ 256 → {cs : List Command} {a b : Lent} {text : List ℕ} → Session cs a b text → a .index ≡ freshMemory N → LinesClaim N cs b text
+session-history N p q s e = lines-history N p q (session-ran s) e

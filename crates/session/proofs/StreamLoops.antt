@@ -2,7 +2,7 @@
 use Prim.Native.Nat.{ℕ, suc, _+_, _*_, _-_, _≤_, _<_, min}
 use mathlib.Core.Path.{_≡_, refl, sym, _∙_}
 use mathlib.Core.Bool.{Bool, true, false, true≢false, false≢true}
-use mathlib.Core.List.{List, [], _∷_, _++_, append-nil, append-assoc}
+use mathlib.Core.List.{List, [], _∷_, _++_, append-assoc}
 use native.Mathlib.Numerals.{add-one}
 use native.Mathlib.Omega.{arith}
 use native.Mathlib.Decide.{decLe}
@@ -14,15 +14,11 @@ use Rattle.commands.specs.Commands.{commandOf}
 use Rattle.index.specs.declared.opening.Opened.{Opened}
 use Rattle.index.specs.Open.{OpenedAs, Reads}
 use Rattle.session.specs.Opening.{isIndex}
-use Rattle.session.specs.Response.{Lent, lent, CarriedOut, longest, Responded}
-use Rattle.session.specs.Stream.{commandsOf, Ran, none, first, LinesAnswered, Kept}
+use Rattle.session.specs.Response.{Lent, lent, longest, Responded}
+use Rattle.session.specs.Stream.{commandsOf, Ran, none, LinesAnswered, Kept}
 use Rattle.session.proofs.OpeningLaws.{opened-reads, carried-reads}
+use Rattle.session.proofs.RunLaws.{ran-append, ran-one}
 use Rattle.session.proofs.StreamLaws.{line-ended}
-
--- one more command
-ran-more : {cs : List Command} {a b : Lent} {ts : List ℕ} (c : Command) (d : Lent) (t : List ℕ) → Ran cs a b ts → CarriedOut c b d t → Ran (cs ++ (c ∷ [])) a d (ts ++ t)
-ran-more c d t (none {a = a}) v = rw (← (append-nil t)) (first d t v none)
-ran-more c d t (first {ts = ts} e s u r) v = rw append-assoc (first e s u (ran-more c d t r v))
 
 -- The lines before the place next were answered; their answers are the bytes written.
 pub record Answering (input : List ℕ) (from : ℕ) (a b : Lent) (out₀ out : List ℕ) (room next written : ℕ) (known : Bool) : Type 0 where
@@ -113,7 +109,7 @@ module _ (input : List ℕ) (from : ℕ) (a : Lent) (out₀ : List ℕ) where
       answer-again g o q known′ e b′ out′ written′ r i w l = record {
         commands = v .commands ++ (commandOf (take (end - next) (drop next input)) ∷ []);
         read = λ more. v .read more ∙ rw (line-read more, append-assoc);
-        ran = rw (r .put .bytes) (ran-more _ b′ (r .text) (v .ran) (r .done));
+        ran = rw (r .put .bytes) (ran-append (v .ran) (ran-one (r .done)));
         fits = omega (arith, v .space, r .put .next-is, r .put .few, r .put .same-length);
         forward = omega (arith, v .forward, p .forward);
         within = omega (arith, ended);

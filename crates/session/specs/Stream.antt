@@ -9,7 +9,7 @@ use Rattle.commands.specs.Bytes.{lineFeed}
 use Rattle.commands.specs.Split.{splitAt}
 use Rattle.commands.specs.Commands.{commandOf}
 use Rattle.session.specs.declared.stream.Progress.{Progress}
-use Rattle.session.specs.Response.{Lent, CarriedOut}
+use Rattle.session.specs.Response.{Lent, CarriedOut, Responded}
 
 -- 'LF ends a line, the last may lack it': what follows the last line feed is a line if it has a byte
 unfoldable pub linesIn : List (List ℕ) → List (List ℕ)
@@ -45,6 +45,15 @@ pub record LinesAnswered (input : List ℕ) (from : ℕ) (a b : Lent) (out' : Li
   pub within : r .next ≤ length input
   pub onward : r .done ≡ false → from < r .next
   pub rest : r .done ≡ true → OnePiece (drop (r .next) input)
+
+-- Calls of answer_lines and answer_line one after another, from the lists a on, each handed the lists that the last one left: the commands
+-- they carried out, the lists they left, and the answers that each put at the start of its out, one behind another.
+pub data Session : List Command → Lent → Lent → List ℕ → Type 0 where
+  start : {a : Lent} → Session [] a a []
+  lines : {cs : List Command} {a b d : Lent} {text input out' : List ℕ} {from : ℕ} {r : Progress} → Session cs a b text
+      → (v : LinesAnswered input from b d out' r) → Session (cs ++ v .commands) a d (text ++ take (r .written) out')
+  line : {cs : List Command} {a b d : Lent} {text s out out' : List ℕ} {next : ℕ} → Session cs a b text
+      → Responded s b d out 0 out' next → Session (cs ++ (commandOf s ∷ [])) a d (text ++ take next out')
 
 -- The bytes of the input between two places, or the first 81 of them, are at its start.
 pub record Kept (input : List ℕ) (from to : ℕ) (input' : List ℕ) (r : ℕ) : Type 0 where

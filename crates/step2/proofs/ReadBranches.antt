@@ -18,7 +18,8 @@ use Rattle.memory.proofs.SoundTested.{valid-of-fine}
 use Rattle.memory.specs.Fanout.{fanout}
 use Rattle.layout.specs.Nodes.{countAt}
 use Rattle.layout.proofs.NodeLaws.{child-in}
-use Rattle.index.proofs.WalkRows.{polygon-is, walkable, walk-polygon}
+use Rattle.index.proofs.CheckLaws.{node-polygon}
+use Rattle.index.proofs.WalkRows.{walkable, walk-polygon}
 use Rattle.step2.specs.Branches.{polygonsIn, GoodPart, Branches}
 use Rattle.step2.specs.Choose.{Routing}
 
@@ -28,7 +29,7 @@ module _ (n : ℕ) (m : List ℕ) where
   row-polygons lo hi [] bs e = rw (row-none (readNode fanout n m) lo hi bs e)
   row-polygons lo hi (k ∷ ks) bs e =
       let r = row-parts (readNode fanout n m) lo hi k ks bs e in
-      let q = polygon-is n m lo k (r .first) (r .head) in
+      let q = node-polygon n m lo k (r .first) (r .head) in
       ap (map (λ b. b .poly)) (sym (r .whole)) ∙ rw (q, row-polygons (k + 1) hi ks (r .others) (r .tail))
 
   row-good : (lo hi : ℕ) (ks : List ℕ) (bs : List (Item (planeSpace fanout) (suc n))) → rightLength m ≡ true
@@ -37,7 +38,7 @@ module _ (n : ℕ) (m : List ℕ) where
   row-good lo hi [] bs z e f = tt
   row-good lo hi (k ∷ ks) bs z e f =
       let r = row-parts (readNode fanout n m) lo hi k ks bs e in
-      let q = polygon-is n m lo k (r .first) (r .head) in
+      let q = node-polygon n m lo k (r .first) (r .head) in
       let g : All (λ b. planeSpace fanout .Fine (b .poly)) (r .first ∷ r .others) = subst (λ (l : List (Item (planeSpace fanout) (suc n))). All (λ b. planeSpace fanout .Fine (b .poly)) l) (sym (r .whole)) f in
       let h : planeSpace fanout .Fine (polygonIn (part m k)) = subst (λ (p : List Rect). planeSpace fanout .Fine p) q (g .0) in
       let l : 1 ≤ length (polygonIn (part m k)) = h .lower in (

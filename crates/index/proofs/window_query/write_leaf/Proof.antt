@@ -23,8 +23,8 @@ loop-holds c = search write-start
 is-inside-requires : tie.Need-is-inside-requires Inv-loop μ-loop
 is-inside-requires c κs = search needs
 
-put-entry-requires : tie.Need-put-entry-requires Inv-loop μ-loop
-put-entry-requires c κs = (search needs, search needs, search write-room)
+copy-entry-requires : tie.Need-copy-entry-requires Inv-loop μ-loop
+copy-entry-requires c κs = (search needs, search needs, search write-room)
 
 add-next : tie.Need-add-next Inv-loop μ-loop
 add-next c = search needs
@@ -54,7 +54,7 @@ write-leaf-spec =
     cast-n
     loop-holds
     is-inside-requires
-    put-entry-requires
+    copy-entry-requires
     add-next
     add-i
     loop-less

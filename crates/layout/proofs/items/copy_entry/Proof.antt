@@ -1,6 +1,6 @@
 -- `items::copy_entry` meets its contract.
 use borrow.Author.Needs.{needs}
-use Rattle.layout.proofs.ItemLaws.{entry-copied}
+use Rattle.layout.proofs.ItemLaws.{entry-same, entry-copied}
 use Rattle.layout.proofs.items.copy_entry.Statement.{statement}
 use Rattle.layout.proofs.items.copy_entry.Tie as tie
 
@@ -17,7 +17,7 @@ same-length : tie.Need-same-length
 same-length c = search needs
 
 returns : tie.Need-returns
-returns c = search entry-copied
+returns c = (search entry-same, search entry-copied)
 
 pub copy-entry-spec : {M : Type 1} → statement M
 copy-entry-spec =

@@ -1,7 +1,9 @@
 -- `items::put_entry` meets its contract.
+use mathlib.Core.Path.{refl}
 use native.Mathlib.Omega.{arith}
 use borrow.Author.Needs.{needs}
 use lib.ListN.{length-set}
+use Rattle.layout.specs.Items.{putEntry}
 use Rattle.layout.proofs.ItemLaws.{entry-put}
 use Rattle.layout.proofs.items.put_entry.Statement.{statement}
 use Rattle.layout.proofs.items.put_entry.Tie as tie
@@ -37,7 +39,8 @@ same-length : tie.Need-same-length
 same-length c = search needs
 
 returns : tie.Need-returns
-returns c = search entry-put
+unfolding putEntry
+returns c = (refl, search entry-put)
 
 pub put-entry-spec : {M : Type 1} → statement M
 put-entry-spec =
