@@ -1,10 +1,9 @@
 -- The copy of a subtree: the leaf, the loop over the children, the node itself.
-use Prim.Native.Nat.{ℕ, zero, suc, _+_, _*_, _-_, _≤_, _<_}
+use Prim.Native.Nat.{ℕ, zero, suc, _+_, _-_, _≤_, _<_}
 use mathlib.Core.Path.{_≡_, refl, sym, ap, _∙_}
 use mathlib.Core.List.{List, [], _∷_, flatMap}
 use native.Mathlib.Omega.{arith}
-use lib.ListN.{length, take, set}
-use lib.Seq.{length-take-le}
+use lib.ListN.{length}
 use Rattle.tree.specs.Lists.{keep, total}
 use Rattle.tree.specs.Nodes.{Item, nodes}
 use Rattle.tree.specs.Pass.{onAll}
@@ -14,16 +13,19 @@ use Rattle.memory.specs.Layout.{part, itemCount, polygonIn, entriesIn}
 use Rattle.memory.specs.Image.{nodePart, entryNumbers}
 use Rattle.memory.proofs.ReadingLaws.{fits-as, leaf-parts, node-parts, part-length, entries-length}
 use Rattle.memory.specs.Fanout.{fanout}
-use Rattle.layout.specs.Nodes.{childAt}
-use Rattle.layout.specs.Parts.{PartRoom, PartPut, withItems}
-use Rattle.layout.proofs.PartCopies.{leaf-image, items-replaced}
+use Rattle.layout.specs.declared.node.Node.{Node}
+use Rattle.layout.specs.Loaded.{nodeOf, withNode, withChild}
+use Rattle.layout.specs.Nodes.{countAt, childAt}
+use Rattle.layout.specs.Parts.{PartRoom, PartPut}
+use Rattle.layout.proofs.PartCopies.{leaf-image, node-replaced}
+use Rattle.layout.proofs.LoadedLaws.{count-children, routing-length}
 use Rattle.index.specs.Walks.{Walkable, leafEntries}
 use Rattle.sides.specs.Sides.{sidesOf, onEvery}
 use Rattle.emission.specs.Emits.{Emits, Room, deepAt}
 use Rattle.emission.specs.Leaves.{onTest, leafLeft, leafUnder}
-use Rattle.emission.proofs.EmitLaws.{nodesOf, topsFrom, emits-leaf, emits-node}
+use Rattle.emission.proofs.EmitLaws.{nodesOf, topsFrom, emits-leaf, emits-node, row-part}
 use Rattle.emission.proofs.DeepRows.{deep-leaf, deep-node, childrenLeft}
-use Rattle.emission.proofs.EmitLoop.{EmitLoop, child-walk, again-one, all-written, own-room}
+use Rattle.emission.proofs.EmitLoop.{EmitLoop, emit-start, count-small, child-walk, child-room, again-one, all-written, own-room}
 
 -- without sides every entry is left
 all-left : (es : List CellEntry) → keep (onTest []) es ≡ es
@@ -74,64 +76,77 @@ module _ (level : ℕ) (m : List ℕ) (lo k : ℕ) (w : List ℕ) (next : ℕ) (
       let y : PartPut w next (nodePart (polygonIn p) (length es) (flatMap entryNumbers es)) w′ = rw (q ∙ i) at x in
       rw (z, deep-leaf m lo k [] v′, leaf-plain p) (emits-leaf w next (polygonIn p) es w′ y)
 
-module _ (level : ℕ) (m : List ℕ) (lo k : ℕ) (w₀ : List ℕ) (next₀ size i low : ℕ) (w : List ℕ) (next : ℕ) (tops : List ℕ)
-    (a : EmitLoop level m lo k [] w₀ next₀ size i low w next tops i) where
-  -- the child at part j was copied
-  module _ (j : ℕ) (h : i < size) (j-is : j ≡ childAt m k i) (w′ : List ℕ) (next′ : ℕ) (e : Emits (level - 1) w next (deepAt (level - 1) m low j []) w′ next′) where
-    on : next < next′
-    on = moved-on (level - 1) m low j w next w′ next′ (child-walk level m lo k [] w₀ next₀ size i low w next tops i a h j j-is) e
+-- Before the i-th child: those passed were copied, and the node has as many children.
+pub record CopyLoop (level : ℕ) (m : List ℕ) (lo k : ℕ) (w₀ : List ℕ) (next₀ size i low : ℕ) (w : List ℕ) (next : ℕ) (node : Node) : Type 0 where
+  pub row : EmitLoop level m lo k [] w₀ next₀ size i low w next node
+  pub count-is : node .count ≡ i
 
-    pub copy-again : EmitLoop level m lo k [] w₀ next₀ size (i + 1) (j + 1) w′ next′ (set tops i (next′ - 1)) (i + 1)
-    copy-again =
-        let g = on in
-        again-one level m lo k [] w₀ next₀ size i low w next tops i a h j j-is w′ next′ e (λ q. omega arith)
+pub copy-start : (level : ℕ) (m : List ℕ) (lo k : ℕ) (w₀ : List ℕ) (next₀ size : ℕ) (node : Node) → (level ≡ 0 → ⊥) → Walkable level m lo k
+    → Room level w₀ next₀ (deepAt level m lo k []) → size ≡ countAt m k → node ≡ nodeOf 0 [] → CopyLoop level m lo k w₀ next₀ size 0 lo w₀ next₀ node
+unfolding nodeOf
+copy-start level m lo k w₀ next₀ size node ne v r q e = record { row = emit-start level m lo k [] w₀ next₀ size node ne v r q e; count-is = rw e }
 
-    pub copy-moved : 1 ≤ next′
-    copy-moved = let g = on in omega arith
+module _ (level : ℕ) (m : List ℕ) (lo k : ℕ) (w₀ : List ℕ) (next₀ size i low : ℕ) (w : List ℕ) (next : ℕ) (node : Node)
+    (a : CopyLoop level m lo k w₀ next₀ size i low w next node) where
+  pub copy-few : i < size → node .count < 9
+  copy-few h = count-small level m lo k [] w₀ next₀ size i low w next node (a .row) h
 
-  -- the children's parts, as they are lent
-  pub tops-count : size ≡ length (take size tops)
-  tops-count = let f = a .at .walk .few in let q = a .at .size-is in let l = a .long in sym (length-take-le size tops (omega arith))
+  -- the child at part j
+  module _ (j : ℕ) (h : i < size) (j-is : j ≡ childAt m k i) where
+    pub copy-walk : Walkable (level - 1) m low j
+    copy-walk = child-walk level m lo k [] w₀ next₀ size i low w next node (a .row) h j j-is
 
-  pub tops-few : length (take size tops) ≤ 62
-  tops-few = let f = a .at .walk .few in let q = a .at .size-is in let c = tops-count in omega arith
+    pub copy-child-room : Room (level - 1) w next (deepAt (level - 1) m low j [])
+    copy-child-room = child-room level m lo k [] w₀ next₀ size i low w next node (a .row) h j j-is
 
+    -- it was copied
+    module _ (w′ : List ℕ) (next′ : ℕ) (e : Emits (level - 1) w next (deepAt (level - 1) m low j []) w′ next′) where
+      on : next < next′
+      on = moved-on (level - 1) m low j w next w′ next′ copy-walk e
+
+      pub copy-again : (node′ : Node) → node′ ≡ withChild node (next′ - 1) → CopyLoop level m lo k w₀ next₀ size (i + 1) (j + 1) w′ next′ node′
+      unfolding withChild
+      copy-again node′ q =
+          let g = on in
+          let c = a .count-is in
+          rw q (record { row = again-one level m lo k [] w₀ next₀ size i low w next node (a .row) h j j-is w′ next′ e (λ z. omega arith); count-is = omega arith })
+
+      pub copy-moved : 1 ≤ next′
+      copy-moved = let g = on in omega arith
+
+  -- all children are there
   module _ (h : size ≤ i) where
-    -- all children are there
-    at-end : i ≡ size
-    at-end = let l = a .at .i-le in omega arith
-
-    some-children : 1 ≤ i
+    some-children : 1 ≤ node .count
     some-children =
-        let v = a .at .walk in
+        let v = a .row .at .walk in
         let f = fits-as fanout 1 m k (node-parts fanout (level - 1) m lo k (v .node) (v .reads) .fits) in
         let s = f .some-items in
-        let q = a .at .size-is in
+        let q = a .row .at .size-is in
+        let c = a .count-is in
         omega arith
 
-    pub copy-room : PartRoom w next
-    copy-room = own-room level m lo k [] w₀ next₀ size i low w next tops i a h some-children
+    copy-most : node .count ≤ 8
+    copy-most = let c = a .count-is in let g = a .row .at .i-le in let f = a .row .at .walk .few in let q = a .row .at .size-is in omega arith
 
-    pub copy-end : (p w′ : List ℕ) → p ≡ part m k → PartPut w next (withItems p (take size tops)) w′ → Emits level w₀ next₀ (deepAt level m lo k []) w′ (next + 1)
+    pub copy-room : PartRoom w next
+    copy-room = own-room level m lo k [] w₀ next₀ size i low w next node (a .row) h some-children
+
+    pub copy-end : (p w′ : List ℕ) → p ≡ part m k → PartPut w next (withNode p node) w′ → Emits level w₀ next₀ (deepAt level m lo k []) w′ (next + 1)
     copy-end p₀ w′ p-is x =
-        let v = a .at .walk in
+        let v = a .row .at .walk in
         let n : ℕ = level - 1 in
         let p = part m k in
         let f = fits-as fanout 1 m k (node-parts fanout n m lo k (v .node) (v .reads) .fits) in
-        let l = part-length m k (f .below) in
-        let r = all-written level m lo k [] w₀ next₀ size i low w next tops i a h in
-        let bs : List (Item (planeSpace fanout) (suc n)) = childrenLeft n m lo k [] in
-        let ts : List ℕ = take size tops in
-        let z = a .at .size-is in
         let few = f .few-items in
-        let d = a .long in
-        let ie = at-end in
-        let s : length ts ≡ 1 * itemCount p = length-take-le size tops (omega arith) ∙ (let q : size ≡ 1 * itemCount p = omega arith in q) in
-        let t : ts ≡ topsFrom n next₀ bs = ap (λ (j : ℕ). take j tops) (sym ie) ∙ r .tops-are in
-        let o : itemCount p ≡ length bs = (let q : itemCount p ≡ i = omega arith in q) ∙ r .count-is in
-        let image : withItems p₀ ts ≡ nodePart (polygonIn p) (length bs) (topsFrom n next₀ bs) =
-        ap (λ (y : List ℕ). withItems y ts) p-is
-        ∙ items-replaced 1 p l (f .few-rects) (omega arith) (f .rest) ts s
-        ∙ ap (λ (j : ℕ). nodePart (polygonIn p) j ts) o ∙ ap (nodePart (polygonIn p) (length bs)) t in
+        let l = part-length m k (f .below) in
+        let bs : List (Item (planeSpace fanout) (suc n)) = childrenLeft n m lo k [] in
+        let r = all-written level m lo k [] w₀ next₀ size i low w next node (a .row) h in
+        let ts : List ℕ = topsFrom n next₀ bs in
+        let c : node .count ≡ length ts = ap (λ (y : Node). y .count) (r .node-is) ∙ count-children ts in
+        let d = copy-most in
+        let s : length (node .items) ≡ 27 = ap (λ (y : Node). length (y .items)) (r .node-is) ∙ routing-length ts (omega arith) in
+        let image : withNode p₀ node ≡ nodePart (polygonIn p) (length bs) (topsFrom n next₀ bs) =
+        ap (λ (y : List ℕ). withNode y node) p-is ∙ node-replaced 1 p l (f .few-rects) (omega arith) (f .rest) (omega arith) node s
+        ∙ row-part n w₀ next₀ bs w next node r (polygonIn p) in
         let y : PartPut w next (nodePart (polygonIn p) (length bs) (topsFrom n next₀ bs)) w′ = rw image at x in
-        rw (a .level-is, node-plain n m lo k v) (emits-node n w₀ next₀ (polygonIn p) bs w next w′ (r .emitted) y)
+        rw (a .row .level-is, node-plain n m lo k v) (emits-node n w₀ next₀ (polygonIn p) bs w next w′ (r .emitted) y)

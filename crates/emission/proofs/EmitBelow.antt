@@ -1,26 +1,27 @@
 -- What is left of a subtree under sides, written: no sides, the leaf, the loop over the children, the node itself.
-use Prim.Native.Nat.{ℕ, suc, _+_, _*_, _-_, _≤_, _<_}
-use mathlib.Core.Path.{_≡_, refl, sym, ap, _∙_}
+use Prim.Native.Nat.{ℕ, suc, _+_, _-_, _≤_, _<_}
+use mathlib.Core.Path.{_≡_, refl, ap, _∙_}
 use mathlib.Core.List.{List, [], _∷_, flatMap}
 use native.Mathlib.Omega.{arith}
-use lib.ListN.{length, take, set}
-use lib.Seq.{length-take-le}
+use lib.ListN.{length}
 use Rattle.tree.specs.Lists.{total}
 use Rattle.tree.specs.Nodes.{Item, nodes}
 use Rattle.tree.specs.Plan.{clips}
 use Rattle.plane.specs.Plane.{planeSpace}
 use Rattle.memory.specs.Layout.{part, polygonIn}
 use Rattle.memory.specs.Image.{nodePart, entryNumbers, emitRow}
-use Rattle.memory.proofs.PartImage.{length-entries}
 use Rattle.memory.specs.Fanout.{fanout}
+use Rattle.layout.specs.declared.node.Node.{Node}
+use Rattle.layout.specs.Loaded.{leafOf, withChild}
 use Rattle.layout.specs.Nodes.{childAt}
 use Rattle.layout.specs.Parts.{PartRoom, PartPut}
+use Rattle.layout.proofs.LoadedLaws.{count-entries, leaf-part}
 use Rattle.index.specs.Walks.{Walkable}
 use Rattle.sides.specs.Sides.{sidesOf}
 use Rattle.emission.specs.Emits.{Emits, Room, deepAt}
 use Rattle.emission.specs.Parts.{leftPart}
-use Rattle.emission.specs.Leaves.{leafLeft, leafUnder, LeafGathered}
-use Rattle.emission.proofs.EmitLaws.{topsFrom, emits-none, emits-leaf, emits-node}
+use Rattle.emission.specs.Leaves.{leafLeft, leafUnder}
+use Rattle.emission.proofs.EmitLaws.{topsFrom, emits-none, emits-leaf, emits-node, row-part}
 use Rattle.emission.proofs.DeepRows.{under-some, under-none, length-sides, deep-leaf, deep-node, childrenLeft}
 use Rattle.emission.proofs.EmitLoop.{EmitLoop, again-one, again-nothing, all-written, own-room}
 
@@ -50,38 +51,26 @@ empty : {A : Type 0} (l : List A) → length l ≡ 0 → l ≡ []
 empty [] h = refl
 empty (x ∷ l) h = absurd (omega arith)
 
--- a leaf
-module _ (ss p l w : List ℕ) (next count : ℕ) (g : LeafGathered ss p l count) where
-  items-length : length (take (3 * count) l) ≡ 3 * count
-  items-length =
-      let e = ap length (g .gathered .numbers) ∙ length-entries (leafLeft ss p) in
-      let c = g .gathered .count-is in
-      omega arith
+-- a leaf, with the entries that are left
+module _ (ss p w : List ℕ) (next : ℕ) (left : Node) (g : left ≡ leafOf (leafLeft ss p)) where
+  left-entries : left .count ≡ length (leafLeft ss p)
+  left-entries = ap (λ (n : Node). n .count) g ∙ count-entries (leafLeft ss p)
 
-  pub items-count : 3 * count ≡ length (take (3 * count) l)
-  items-count = sym items-length
-
-  pub items-few : length (take (3 * count) l) ≤ 62
-  items-few = let e = items-length in let f = g .few in omega arith
-
-  pub leaf-gone : 1 ≤ length ss → count ≡ 0 → Emits 0 w next (leafUnder ss p) w next
+  pub leaf-gone : 1 ≤ length ss → left .count ≡ 0 → Emits 0 w next (leafUnder ss p) w next
   unfolding leafUnder
   leaf-gone h z =
       let s = length-sides ss in
-      let c = g .gathered .count-is in
+      let c = left-entries in
       let e : leafLeft ss p ≡ [] = empty (leafLeft ss p) (omega arith) in
       rw (under-none (polygonIn p) (leafLeft ss p) (sidesOf ss) (omega arith) e) (emits-none 0 w next)
 
-  module _ (ne : count ≡ 0 → ⊥) where
+  module _ (ne : left .count ≡ 0 → ⊥) where
+    some-left : 1 ≤ length (leafLeft ss p)
+    some-left = let c = left-entries in omega arith
+
     leaf-branch : leafUnder ss p ≡ record { poly = clips (planeSpace fanout) (sidesOf ss) (polygonIn p); child = leafLeft ss p } ∷ []
     unfolding leafUnder
-    leaf-branch =
-        let c = g .gathered .count-is in
-        let h : 1 ≤ length (leafLeft ss p) = some-left c in
-        under-some (polygonIn p) (leafLeft ss p) (sidesOf ss) h
-      where
-        some-left : count ≡ length (leafLeft ss p) → 1 ≤ length (leafLeft ss p)
-        some-left c = omega arith
+    leaf-branch = under-some (polygonIn p) (leafLeft ss p) (sidesOf ss) some-left
 
     pub leaf-room : Room 0 w next (leafUnder ss p) → PartRoom w next
     unfolding total nodes
@@ -89,13 +78,11 @@ module _ (ss p l w : List ℕ) (next count : ℕ) (g : LeafGathered ss p l count
         let f = rw leaf-branch at (r .fits) in
         record { fits = omega arith; small = r .small }
 
-    pub leaf-emits : (w′ : List ℕ) → PartPut w next (leftPart ss p count (take (3 * count) l)) w′
-        → Emits 0 w next (leafUnder ss p) w′ (next + 1)
+    pub leaf-emits : (w′ : List ℕ) → PartPut w next (leftPart ss p left) w′ → Emits 0 w next (leafUnder ss p) w′ (next + 1)
     leaf-emits w′ x =
         let q = clips (planeSpace fanout) (sidesOf ss) (polygonIn p) in
-        let e : nodePart q count (take (3 * count) l) ≡ nodePart q (length (leafLeft ss p)) (flatMap entryNumbers (leafLeft ss p)) =
-        ap (λ (c : ℕ). nodePart q c (take (3 * count) l)) (g .gathered .count-is)
-        ∙ ap (nodePart q (length (leafLeft ss p))) (g .gathered .numbers) in
+        let e : leftPart ss p left ≡ nodePart q (length (leafLeft ss p)) (flatMap entryNumbers (leafLeft ss p)) =
+        ap (leftPart ss p) g ∙ leaf-part q (leafLeft ss p) in
         rw leaf-branch (emits-leaf w next q (leafLeft ss p) w′ (rw e at x))
 
 -- a node that is a leaf
@@ -113,31 +100,20 @@ module _ (level : ℕ) (m : List ℕ) (lo k : ℕ) (ss w : List ℕ) (next : ℕ
       rw (z, deep-leaf m lo k ss v′, ← p-is) e
 
 -- the loop over the children
-module _ (level : ℕ) (m : List ℕ) (lo k : ℕ) (ss w₀ : List ℕ) (next₀ size i low : ℕ) (w : List ℕ) (next : ℕ) (tops : List ℕ) (count : ℕ)
-    (a : EmitLoop level m lo k ss w₀ next₀ size i low w next tops count) where
+module _ (level : ℕ) (m : List ℕ) (lo k : ℕ) (ss w₀ : List ℕ) (next₀ size i low : ℕ) (w : List ℕ) (next : ℕ) (node : Node)
+    (a : EmitLoop level m lo k ss w₀ next₀ size i low w next node) where
   module _ (j : ℕ) (h : i < size) (j-is : j ≡ childAt m k i) (w′ : List ℕ) (next′ : ℕ) (e : Emits (level - 1) w next (deepAt (level - 1) m low j ss) w′ next′) where
-    pub emit-one : (tops′ : List ℕ) (count′ : ℕ) → (next′ ≡ next → ⊥) → tops′ ≡ set tops count (next′ - 1) → count′ ≡ count + 1
-        → EmitLoop level m lo k ss w₀ next₀ size (i + 1) (j + 1) w′ next′ tops′ count′
-    emit-one tops′ count′ ne q r = rw (q, r) (again-one level m lo k ss w₀ next₀ size i low w next tops count a h j j-is w′ next′ e ne)
+    pub emit-one : (node″ node′ : Node) → (next′ ≡ next → ⊥) → node″ ≡ withChild node (next′ - 1) → node′ ≡ node″
+        → EmitLoop level m lo k ss w₀ next₀ size (i + 1) (j + 1) w′ next′ node′
+    emit-one node″ node′ ne q r = rw (r ∙ q) (again-one level m lo k ss w₀ next₀ size i low w next node a h j j-is w′ next′ e ne)
 
-    pub emit-nothing : (tops′ : List ℕ) (count′ : ℕ) → next′ ≡ next → tops′ ≡ tops → count′ ≡ count
-        → EmitLoop level m lo k ss w₀ next₀ size (i + 1) (j + 1) w′ next′ tops′ count′
-    emit-nothing tops′ count′ z q r = rw (q, r) (again-nothing level m lo k ss w₀ next₀ size i low w next tops count a h j j-is w′ next′ e z)
-
-  -- the children's parts, as they are lent
-  tops-long : count ≤ 8
-  tops-long = let f = a .few in let g = a .at .i-le in let b = a .at .walk .few in let q = a .at .size-is in omega arith
-
-  pub left-count : count ≡ length (take count tops)
-  left-count = let f = tops-long in let l = a .long in sym (length-take-le count tops (omega arith))
-
-  pub left-few : length (take count tops) ≤ 62
-  left-few = let f = tops-long in let c = left-count in omega arith
+    pub emit-nothing : (node′ : Node) → next′ ≡ next → node′ ≡ node → EmitLoop level m lo k ss w₀ next₀ size (i + 1) (j + 1) w′ next′ node′
+    emit-nothing node′ z q = rw q (again-nothing level m lo k ss w₀ next₀ size i low w next node a h j j-is w′ next′ e z)
 
   module _ (h : size ≤ i) where
-    pub node-gone : (length ss ≡ 0 → ⊥) → count ≡ 0 → Emits level w₀ next₀ (deepAt level m lo k ss) w next
+    pub node-gone : (length ss ≡ 0 → ⊥) → node .count ≡ 0 → Emits level w₀ next₀ (deepAt level m lo k ss) w next
     node-gone ne z =
-        let r = all-written level m lo k ss w₀ next₀ size i low w next tops count a h in
+        let r = all-written level m lo k ss w₀ next₀ size i low w next node a h in
         let bs = childrenLeft (level - 1) m lo k ss in
         let c = r .count-is in
         let e : bs ≡ [] = empty bs (omega arith) in
@@ -146,21 +122,20 @@ module _ (level : ℕ) (m : List ℕ) (lo k : ℕ) (ss w₀ : List ℕ) (next₀
         rw (a .level-is, deep-node (level - 1) m lo k ss (a .at .walk), under-none (polygonIn (part m k)) bs (sidesOf ss) (omega arith) e)
         (nothing-left (level - 1) (suc (level - 1)) w₀ next₀ w next x)
 
-    module _ (ne : count ≡ 0 → ⊥) where
+    module _ (ne : node .count ≡ 0 → ⊥) where
       pub node-own-room : PartRoom w next
-      node-own-room = own-room level m lo k ss w₀ next₀ size i low w next tops count a h (omega arith)
+      node-own-room = own-room level m lo k ss w₀ next₀ size i low w next node a h (omega arith)
 
-      pub node-emits : (p w′ : List ℕ) → p ≡ part m k → PartPut w next (leftPart ss p count (take count tops)) w′
+      pub node-emits : (p w′ : List ℕ) → p ≡ part m k → PartPut w next (leftPart ss p node) w′
           → Emits level w₀ next₀ (deepAt level m lo k ss) w′ (next + 1)
       node-emits p w′ p-is x =
-          let r = all-written level m lo k ss w₀ next₀ size i low w next tops count a h in
+          let r = all-written level m lo k ss w₀ next₀ size i low w next node a h in
           let n : ℕ = level - 1 in
           let bs : List (Item (planeSpace fanout) (suc n)) = childrenLeft n m lo k ss in
           let v = a .at .walk in
           let c = r .count-is in
           let q = clips (planeSpace fanout) (sidesOf ss) (polygonIn (part m k)) in
-          let image : leftPart ss p count (take count tops) ≡ nodePart q (length bs) (topsFrom n next₀ bs) =
-          ap (λ (y : List ℕ). leftPart ss y count (take count tops)) p-is
-          ∙ ap (λ (j : ℕ). nodePart q j (take count tops)) c ∙ ap (nodePart q (length bs)) (r .tops-are) in
+          let image : leftPart ss p node ≡ nodePart q (length bs) (topsFrom n next₀ bs) =
+          ap (λ (y : List ℕ). leftPart ss y node) p-is ∙ row-part n w₀ next₀ bs w next node r q in
           rw (a .level-is, deep-node n m lo k ss v, under-some (polygonIn (part m k)) bs (sidesOf ss) (omega arith))
           (emits-node n w₀ next₀ q bs w next w′ (r .emitted) (rw image at x))

@@ -1,12 +1,10 @@
 -- Writing nodes in several goes: nothing, rows one after another, a part, a node on top of its children; and the loop over a node's items that
--- keeps the parts of their top nodes.
+-- keeps their top nodes as the children of a node.
 use Prim.Native.Nat.{ℕ, suc, _+_, _*_, _-_, _≤_, _<_}
 use mathlib.Core.Path.{_≡_, refl, sym, ap, _∙_}
 use mathlib.Core.List.{List, [], _∷_, _++_, append-assoc, append-nil, flatMap}
 use native.Mathlib.Omega.{arith}
-use native.Mathlib.Numerals.{add-one}
-use lib.ListN.{length, take, set, length-append}
-use lib.Seq.{take-suc-set}
+use lib.ListN.{length, take, length-append}
 use Rattle.geometry.specs.declared.rect.Rect.{Rect}
 use Rattle.tree.specs.Lists.{total}
 use Rattle.tree.specs.Nodes.{Item, nodes}
@@ -17,7 +15,10 @@ use Rattle.plane.specs.Plane.{planeSpace}
 use Rattle.memory.specs.Image.{nodePart, entryNumbers, emitRow, emitNode}
 use Rattle.memory.proofs.NodeImage.{length-row, length-node}
 use Rattle.memory.specs.Fanout.{fanout}
+use Rattle.layout.specs.declared.node.Node.{Node}
+use Rattle.layout.specs.Loaded.{nodeOf, routingOf, withChild}
 use Rattle.layout.specs.Parts.{PartPut}
+use Rattle.layout.proofs.LoadedLaws.{no-children, count-children, child-more, routing-part}
 use Rattle.emission.specs.Emits.{Emits}
 
 -- the numbers of some parts, one after another
@@ -126,19 +127,26 @@ emits-node n w next p bs w₁ next₁ w₂ x y =
       same-length = y .same-length ∙ x .same-length;
     }
 
--- While the items of a node are written one after another: the branches bs were written so far, and the first count numbers of tops are the
--- parts of their top nodes.
-pub record Row (n : ℕ) (w : List ℕ) (next : ℕ) (bs : List (Item (planeSpace fanout) (suc n))) (w₁ : List ℕ) (next₁ : ℕ) (tops : List ℕ) (count : ℕ) : Type 0 where
+-- While the items of a node are written one after another: the branches bs were written so far, and the node has their top nodes as children.
+pub record Row (n : ℕ) (w : List ℕ) (next : ℕ) (bs : List (Item (planeSpace fanout) (suc n))) (w₁ : List ℕ) (next₁ : ℕ) (node : Node) : Type 0 where
   pub emitted : Emits n w next bs w₁ next₁
-  pub count-is : count ≡ length bs
-  pub tops-are : take count tops ≡ topsFrom n next bs
+  pub count-is : node .count ≡ length bs
+  pub node-is : node ≡ routingOf (topsFrom n next bs)
 
-pub row-start : (n : ℕ) (w : List ℕ) (next : ℕ) (tops : List ℕ) → Row n w next [] w next tops 0
-unfolding emitRow
-row-start n w next tops = record { emitted = emits-none n w next; count-is = refl; tops-are = refl }
+-- the part of that node
+pub row-part : (n : ℕ) (w : List ℕ) (next : ℕ) (bs : List (Item (planeSpace fanout) (suc n))) (w₁ : List ℕ) (next₁ : ℕ) (node : Node) → Row n w next bs w₁ next₁ node
+    → (p : List Rect) → nodePart p (node .count) (node .items) ≡ nodePart p (length bs) (topsFrom n next bs)
+row-part n w next bs w₁ next₁ node x p =
+    let ts : List ℕ = topsFrom n next bs in
+    let s : length ts ≡ length bs = sym (count-children ts) ∙ sym (ap (λ (m : Node). m .count) (x .node-is)) ∙ x .count-is in
+    ap (λ (m : Node). nodePart p (m .count) (m .items)) (x .node-is) ∙ routing-part p ts ∙ ap (λ (j : ℕ). nodePart p j ts) s
 
-module _ (n : ℕ) (w : List ℕ) (next : ℕ) (bs : List (Item (planeSpace fanout) (suc n))) (w₁ : List ℕ) (next₁ : ℕ) (tops : List ℕ) (count : ℕ)
-    (x : Row n w next bs w₁ next₁ tops count) (cs : List (Item (planeSpace fanout) (suc n))) (w₂ : List ℕ) (next₂ : ℕ) (y : Emits n w₁ next₁ cs w₂ next₂)
+pub row-start : (n : ℕ) (w : List ℕ) (next : ℕ) (node : Node) → node ≡ nodeOf 0 [] → Row n w next [] w next node
+unfolding emitRow nodeOf
+row-start n w next node e = record { emitted = emits-none n w next; count-is = rw e; node-is = e ∙ no-children }
+
+module _ (n : ℕ) (w : List ℕ) (next : ℕ) (bs : List (Item (planeSpace fanout) (suc n))) (w₁ : List ℕ) (next₁ : ℕ) (node : Node)
+    (x : Row n w next bs w₁ next₁ node) (cs : List (Item (planeSpace fanout) (suc n))) (w₂ : List ℕ) (next₂ : ℕ) (y : Emits n w₁ next₁ cs w₂ next₂)
     (one : length cs ≤ 1) where
   -- no branch where the next free part stayed
   none-written : next₂ ≡ next₁ → cs ≡ []
@@ -149,23 +157,23 @@ module _ (n : ℕ) (w : List ℕ) (next : ℕ) (bs : List (Item (planeSpace fano
       go [] h = refl
       go (c ∷ cs) h = absurd (omega arith)
 
-  pub row-nothing : next₂ ≡ next₁ → Row n w next (bs ++ cs) w₂ next₂ tops count
+  pub row-nothing : next₂ ≡ next₁ → Row n w next (bs ++ cs) w₂ next₂ node
   row-nothing e =
       let z = none-written e in
       let q : bs ++ cs ≡ bs = ap (λ (l : List (Item (planeSpace fanout) (suc n))). bs ++ l) z ∙ append-nil bs in
       record {
         emitted = emits-more n w next bs w₁ next₁ cs w₂ next₂ (x .emitted) y;
         count-is = x .count-is ∙ sym (ap length q);
-        tops-are = x .tops-are ∙ ap (topsFrom n next) (sym q);
+        node-is = x .node-is ∙ ap (λ (l : List (Item (planeSpace fanout) (suc n))). routingOf (topsFrom n next l)) (sym q);
       }
 
   -- one branch where it moved on: its top node is the last that was written
-  pub row-one : (next₂ ≡ next₁ → ⊥) → count < length tops → Row n w next (bs ++ cs) w₂ next₂ (set tops count (next₂ - 1)) (count + 1)
-  unfolding emitRow total
+  pub row-one : (next₂ ≡ next₁ → ⊥) → node .count < 9 → Row n w next (bs ++ cs) w₂ next₂ (withChild node (next₂ - 1))
+  unfolding emitRow total withChild
   row-one ne h = go cs y one
     where
       go : (cs : List (Item (planeSpace fanout) (suc n))) → Emits n w₁ next₁ cs w₂ next₂ → length cs ≤ 1
-          → Row n w next (bs ++ cs) w₂ next₂ (set tops count (next₂ - 1)) (count + 1)
+          → Row n w next (bs ++ cs) w₂ next₂ (withChild node (next₂ - 1))
       go [] z o = absurd (ne (let a = z .next-is in omega arith))
       go (c ∷ c′ ∷ cs) z o = absurd (omega arith)
       go (c ∷ []) z o =
@@ -176,11 +184,12 @@ module _ (n : ℕ) (w : List ℕ) (next : ℕ) (bs : List (Item (planeSpace fano
           let d = x .count-is in
           let e : next + length (partsFrom n next bs) ≡ next₁ = omega arith in
           let f : next₁ + length (emitNode fanout n next₁ c) - 1 ≡ next₂ - 1 = omega arith in
+          let ts : List ℕ = topsFrom n next bs in
+          let s : node .count ≡ length ts = ap (λ (m : Node). m .count) (x .node-is) ∙ count-children ts in
+          let all : ts ++ ((next₂ - 1) ∷ []) ≡ topsFrom n next (bs ++ (c ∷ [])) =
+          sym (row-tops-append (emitNode fanout n) next bs (c ∷ []) ∙ ap (λ (j : ℕ). ts ++ topsFrom n j (c ∷ [])) e ∙ ap (λ (j : ℕ). ts ++ (j ∷ [])) f) in
           record {
             emitted = emits-more n w next bs w₁ next₁ (c ∷ []) w₂ next₂ (x .emitted) z;
             count-is = rw length-append (omega arith);
-            tops-are =
-                rw (add-one, take-suc-set tops count (next₂ - 1), x .tops-are)
-                (sym (row-tops-append (emitNode fanout n) next bs (c ∷ []) ∙ ap (λ (j : ℕ). topsFrom n next bs ++ topsFrom n j (c ∷ [])) e
-                ∙ ap (λ (j : ℕ). topsFrom n next bs ++ (j ∷ [])) f));
+            node-is = ap (λ (m : Node). withChild m (next₂ - 1)) (x .node-is) ∙ child-more ts (next₂ - 1) (omega arith) ∙ ap routingOf all;
           }

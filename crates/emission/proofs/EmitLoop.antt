@@ -3,7 +3,7 @@ use Prim.Native.Nat.{ℕ, suc, _+_, _*_, _-_, _≤_, _<_}
 use mathlib.Core.Path.{_≡_, refl, ap, _∙_}
 use mathlib.Core.List.{List, [], _∷_, _++_}
 use native.Mathlib.Omega.{arith}
-use lib.ListN.{length, drop, set, length-set}
+use lib.ListN.{length, drop}
 use Rattle.geometry.specs.declared.rect.Line.{Line}
 use Rattle.geometry.specs.declared.rect.Rect.{Rect}
 use Rattle.tree.specs.Lists.{total}
@@ -14,6 +14,8 @@ use Rattle.tree.proofs.Counts.{total-append}
 use Rattle.plane.specs.Plane.{planeSpace}
 use Rattle.memory.specs.Layout.{part, polygonIn, childrenIn}
 use Rattle.memory.specs.Fanout.{fanout}
+use Rattle.layout.specs.declared.node.Node.{Node}
+use Rattle.layout.specs.Loaded.{nodeOf, withChild}
 use Rattle.layout.specs.Nodes.{countAt, childAt}
 use Rattle.layout.specs.Parts.{PartRoom}
 use Rattle.index.specs.Walks.{Walkable}
@@ -54,23 +56,23 @@ module _ (n : ℕ) (m : List ℕ) (lo k : ℕ) (ss w : List ℕ) (next : ℕ) (v
       let g = nodes-some n (polygonIn (part m k)) (sidesOf ss) (childrenLeft n m lo k ss) h in
       omega arith
 
--- Before the i-th of the size children: what is left of those passed was written from next₀ on; the first count numbers of tops are the parts of their top
--- nodes, and next is the next free part.
-pub record EmitLoop (level : ℕ) (m : List ℕ) (lo k : ℕ) (ss w₀ : List ℕ) (next₀ size i low : ℕ) (w : List ℕ) (next : ℕ) (tops : List ℕ) (count : ℕ) : Type 0 where
+-- Before the i-th of the size children: what is left of those passed was written from next₀ on; the node has their top nodes as children, and
+-- next is the next free part.
+pub record EmitLoop (level : ℕ) (m : List ℕ) (lo k : ℕ) (ss w₀ : List ℕ) (next₀ size i low : ℕ) (w : List ℕ) (next : ℕ) (node : Node) : Type 0 where
   pub level-is : level ≡ suc (level - 1)
   pub bs : List (Item (planeSpace fanout) (suc (level - 1)))
   pub at : AtDeep (level - 1) m lo k ss size i low bs
-  pub row : Row (level - 1) w₀ next₀ bs w next tops count
+  pub row : Row (level - 1) w₀ next₀ bs w next node
   pub room : Room level w₀ next₀ (deepAt level m lo k ss)
-  pub long : length tops ≡ 8
-  pub few : count ≤ i
+  pub few : node .count ≤ i
   pub next-small : next ≤ 256
   pub same-length : length w ≡ length w₀
 
 module _ (level : ℕ) (m : List ℕ) (lo k : ℕ) (ss w₀ : List ℕ) (next₀ : ℕ) where
-  pub emit-start : (size : ℕ) (tops : List ℕ) → (level ≡ 0 → ⊥) → Walkable level m lo k → Room level w₀ next₀ (deepAt level m lo k ss) → size ≡ countAt m k → length tops ≡ 8
-      → EmitLoop level m lo k ss w₀ next₀ size 0 lo w₀ next₀ tops 0
-  emit-start size tops ne v r q l =
+  pub emit-start : (size : ℕ) (node : Node) → (level ≡ 0 → ⊥) → Walkable level m lo k → Room level w₀ next₀ (deepAt level m lo k ss) → size ≡ countAt m k → node ≡ nodeOf 0 []
+      → EmitLoop level m lo k ss w₀ next₀ size 0 lo w₀ next₀ node
+  unfolding nodeOf
+  emit-start size node ne v r q l =
       let e : level ≡ suc (level - 1) = omega arith in
       let f = r .fits in
       let s = r .small in
@@ -78,20 +80,19 @@ module _ (level : ℕ) (m : List ℕ) (lo k : ℕ) (ss w₀ : List ℕ) (next₀
         level-is = e;
         bs = [];
         at = deep-start (level - 1) m lo k ss size q (rw e at v);
-        row = row-start (level - 1) w₀ next₀ tops;
+        row = row-start (level - 1) w₀ next₀ node l;
         room = r;
-        long = l;
-        few = omega arith;
+        few = rw l (omega arith);
         next-small = omega arith;
         same-length = refl;
       }
 
-  module _ (size i low : ℕ) (w : List ℕ) (next : ℕ) (tops : List ℕ) (count : ℕ) (a : EmitLoop level m lo k ss w₀ next₀ size i low w next tops count) where
+  module _ (size i low : ℕ) (w : List ℕ) (next : ℕ) (node : Node) (a : EmitLoop level m lo k ss w₀ next₀ size i low w next node) where
     -- the room as that of the node above its children
     node-room : Room (suc (level - 1)) w₀ next₀ (deepAt (suc (level - 1)) m lo k ss)
     node-room = rw (a .level-is) at (a .room)
 
-    pub count-small : i < size → count < 8
+    pub count-small : i < size → node .count < 9
     count-small h = let f = a .few in let g = a .at .walk .few in let q = a .at .size-is in omega arith
 
     module _ (h : i < size) (j : ℕ) (j-is : j ≡ childAt m k i) where
@@ -126,31 +127,28 @@ module _ (level : ℕ) (m : List ℕ) (lo k : ℕ) (ss w₀ : List ℕ) (next₀
             let q = e .next-is in
             omega arith
 
-        pub again-nothing : next′ ≡ next → EmitLoop level m lo k ss w₀ next₀ size (i + 1) (j + 1) w′ next′ tops count
+        pub again-nothing : next′ ≡ next → EmitLoop level m lo k ss w₀ next₀ size (i + 1) (j + 1) w′ next′ node
         again-nothing q = record {
           level-is = a .level-is;
           bs = _;
           at = deep-next (level - 1) m lo k ss size i low (a .bs) (a .at) h j j-is;
-          row = row-nothing (level - 1) w₀ next₀ (a .bs) w next tops count (a .row) _ w′ next′ e (deep-one (level - 1) m low j ss) q;
+          row = row-nothing (level - 1) w₀ next₀ (a .bs) w next node (a .row) _ w′ next′ e (deep-one (level - 1) m low j ss) q;
           room = a .room;
-          long = a .long;
           few = let f = a .few in omega arith;
           next-small = moved-small;
           same-length = e .same-length ∙ a .same-length;
         }
 
-        pub again-one : (next′ ≡ next → ⊥) → EmitLoop level m lo k ss w₀ next₀ size (i + 1) (j + 1) w′ next′ (set tops count (next′ - 1)) (count + 1)
+        pub again-one : (next′ ≡ next → ⊥) → EmitLoop level m lo k ss w₀ next₀ size (i + 1) (j + 1) w′ next′ (withChild node (next′ - 1))
+        unfolding withChild
         again-one ne =
             let c = count-small h in
-            let l = a .long in
-            let b : count < length tops = omega arith in
             record {
               level-is = a .level-is;
               bs = _;
               at = deep-next (level - 1) m lo k ss size i low (a .bs) (a .at) h j j-is;
-              row = row-one (level - 1) w₀ next₀ (a .bs) w next tops count (a .row) _ w′ next′ e (deep-one (level - 1) m low j ss) ne b;
+              row = row-one (level - 1) w₀ next₀ (a .bs) w next node (a .row) _ w′ next′ e (deep-one (level - 1) m low j ss) ne c;
               room = a .room;
-              long = length-set tops count (next′ - 1) ∙ l;
               few = let f = a .few in omega arith;
               next-small = moved-small;
               same-length = e .same-length ∙ a .same-length;
@@ -158,10 +156,10 @@ module _ (level : ℕ) (m : List ℕ) (lo k : ℕ) (ss w₀ : List ℕ) (next₀
 
     -- behind the last child
     module _ (h : size ≤ i) where
-      pub all-written : Row (level - 1) w₀ next₀ (childrenLeft (level - 1) m lo k ss) w next tops count
+      pub all-written : Row (level - 1) w₀ next₀ (childrenLeft (level - 1) m lo k ss) w next node
       all-written = rw (deep-end (level - 1) m lo k ss size i low (a .bs) (a .at) h) at (a .row)
 
-      pub own-room : 1 ≤ count → PartRoom w next
+      pub own-room : 1 ≤ node .count → PartRoom w next
       own-room c =
           let r = all-written in
           let x = r .count-is in

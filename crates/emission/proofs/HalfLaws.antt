@@ -15,6 +15,7 @@ use Rattle.plane.specs.Lines.{CellEntry}
 use Rattle.plane.specs.Plane.{planeSpace}
 use Rattle.plane.specs.Candidates.{rankLine}
 use Rattle.memory.specs.Fanout.{fanout}
+use Rattle.layout.specs.Loaded.{nodeOf}
 use Rattle.layout.specs.Nodes.{countAt}
 use Rattle.index.specs.Walks.{Walkable}
 use Rattle.sides.specs.Sides.{sideOf, sidesOf}
@@ -25,7 +26,7 @@ use Rattle.emission.specs.Rows.{topParts, topped, noTops, Grows, rangeUn
 use Rattle.emission.proofs.CutLaws.{front-is, cut-whole, cut-split}
 use Rattle.emission.proofs.DeepRows.{under-one}
 use Rattle.emission.proofs.PathLaws.{path-node, path-place}
-use Rattle.emission.proofs.RowLaws.{row-count, grows-one, grows-more, length-topped}
+use Rattle.emission.proofs.RowLaws.{row-count, grows-one, grows-more}
 use Rattle.emission.proofs.TopLaws.{under-nodes, rest-node}
 
 -- the items of a routing node
@@ -61,7 +62,7 @@ module _ (n : ℕ) (ss : List ℕ) (bs cs : List (Item (planeSpace fanout) (suc 
       let b = g .emits .next-is in
       let l = g .emits .same-length in
       let c = g .count-is in
-      let d : t₁ .count + length cs ≡ t .count + length (bs ++ cs) = rw length-append (omega arith) in
+      let d : t₁ .node .count + length cs ≡ t .node .count + length (bs ++ cs) = rw length-append (omega arith) in
       let f = r .fits in
       let s = r .small in
       record { fits = rw d (omega arith); small = omega arith }
@@ -116,8 +117,7 @@ pub record HalfAt (level : ℕ) (path m : List ℕ) (e : CellEntry) (ss w : List
   pub whole : bs ++ rest ≡ branchesOn level path m e ss
   pub grows : Grows (level - 1) w (noTops next) bs w₁ t
   pub room : RestRoom (level - 1) ss rest w₁ t
-  pub few : t .count ≤ placeOn path level + more
-  pub long : length (t .parts) ≡ 9
+  pub few : t .node .count ≤ placeOn path level + more
 
 module _ (level : ℕ) (path m : List ℕ) (e : CellEntry) (ss w : List ℕ) (next : ℕ) where
   -- the leaf
@@ -129,6 +129,7 @@ module _ (level : ℕ) (path m : List ℕ) (e : CellEntry) (ss w : List ℕ) (ne
 
   module _ (ne : level ≡ 0 → ⊥) (x : PathFrom level path m) (r : Room level w next (halfUnder level path m e (sidesOf ss))) where
     half-room : RestRoom (level - 1) ss (branchesOn level path m e ss) w (noTops next)
+    unfolding nodeOf
     half-room =
         let y = from-half (λ n bs. Room n w next bs) level path m e ss (omega arith) x r in
         let u = under-nodes (level - 1) ss (polygonOn path level) (branchesOn level path m e ss) in
@@ -141,9 +142,10 @@ module _ (level : ℕ) (path m : List ℕ) (e : CellEntry) (ss w : List ℕ) (ne
     pub before-room : Room (level - 1) w next (beforeOn level path m ss)
     before-room = rest-first (level - 1) ss (beforeOn level path m ss) (middleOn level path m e ss ++ behindOn level path m ss) w (noTops next) half-room
 
-    pub half-start : (w₁ : List ℕ) (t : Tops) → length (t .parts) ≡ 9 → Grows (level - 1) w (noTops next) (beforeOn level path m ss) w₁ t
+    pub half-start : (w₁ : List ℕ) (t : Tops) → Grows (level - 1) w (noTops next) (beforeOn level path m ss) w₁ t
         → HalfAt level path m e ss w next 0 (middleOn level path m e ss ++ behindOn level path m ss) w₁ t
-    half-start w₁ t l g = record {
+    unfolding nodeOf
+    half-start w₁ t g = record {
       some = omega arith;
       path-from = x;
       bs = beforeOn level path m ss;
@@ -151,7 +153,6 @@ module _ (level : ℕ) (path m : List ℕ) (e : CellEntry) (ss w : List ℕ) (ne
       grows = g;
       room = rest-later (level - 1) ss (beforeOn level path m ss) (middleOn level path m e ss ++ behindOn level path m ss) w (noTops next) half-room w₁ t g;
       few = (let c = g .count-is in let f = range-few (level - 1) m (partOn path level) 0 (placeOn path level) ss in omega arith);
-      long = l;
     }
 
   -- one branch or none more
@@ -163,7 +164,6 @@ module _ (level : ℕ) (path m : List ℕ) (e : CellEntry) (ss w : List ℕ) (ne
         → HalfAt level path m e ss w next (more + 1) rest w₂ t₂
     next-one w₂ after t₂ u o y q =
         let f = x .few in
-        let l = x .long in
         let p = path-place path m level (x .some) (x .path-from) in
         let v = path-node path m level (x .path-from) .walk .few in
         let g : Grows (level - 1) w₁ t cs w₂ t₂ = rw q (grows-one (level - 1) w₁ t w₂ after (omega arith) cs o y) in
@@ -175,12 +175,11 @@ module _ (level : ℕ) (path m : List ℕ) (e : CellEntry) (ss w : List ℕ) (ne
           grows = grows-more (level - 1) w (noTops next) (x .bs) w₁ t cs w₂ t₂ (x .grows) g;
           room = rest-later (level - 1) ss cs rest w₁ t (x .room) w₂ t₂ g;
           few = (let c = g .count-is in omega arith);
-          long = rw q (length-topped t after ∙ l);
         }
 
   -- there is a place for one more top node
   pub half-few : (more : ℕ) (rest : List (Item (planeSpace fanout) (suc (level - 1)))) (w₁ : List ℕ) (t : Tops)
-      → HalfAt level path m e ss w next more rest w₁ t → more ≤ 1 → t .count < 9
+      → HalfAt level path m e ss w next more rest w₁ t → more ≤ 1 → t .node .count < 9
   half-few more rest w₁ t x u =
       let f = x .few in
       let p = path-place path m level (x .some) (x .path-from) in
@@ -192,7 +191,7 @@ module _ (level : ℕ) (path m : List ℕ) (e : CellEntry) (ss w : List ℕ) (ne
     pub rest-room : RestRoom (level - 1) ss (behindOn level path m ss) w₁ t
     rest-room = x .room
 
-    pub rest-few : t .count ≤ placeOn path level + 2
+    pub rest-few : t .node .count ≤ placeOn path level + 2
     rest-few = x .few
 
     pub half-done : (w₂ : List ℕ) (r : ℕ) → RestWritten (level - 1) (polygonOn path level) ss (behindOn level path m ss) w₁ t w₂ r
@@ -216,7 +215,7 @@ module _ (level : ℕ) (path m : List ℕ) (e : CellEntry) (ss w : List ℕ) (ne
   whole-done w₂ after t₂ y q =
       let o = under-one (polygonOn path (level - 1)) (rowUnder (level - 1) path m e (sidesOf ss)) (sidesOf ss) in
       let r = next-one level path m e ss w next 0 _ _ w₁ t whole-at w₂ after t₂ (omega arith) o y q in
-      record { some = r .some; path-from = r .path-from; bs = r .bs; whole = r .whole; grows = r .grows; room = r .room; few = (let f = r .few in omega arith); long = r .long }
+      record { some = r .some; path-from = r .path-from; bs = r .bs; whole = r .whole; grows = r .grows; room = r .room; few = (let f = r .few in omega arith) }
 
 -- the branches at the place, where its node is split: left of the line, then right of it
 abbrev pub rightOn : (level : ℕ) → List ℕ → List ℕ → CellEntry → List ℕ → List (Item (planeSpace fanout) (suc (level - 1)))

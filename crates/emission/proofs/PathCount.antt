@@ -16,11 +16,13 @@ use Rattle.plane.specs.Plane.{planeSpace}
 use Rattle.plane.specs.Candidates.{rankLine}
 use Rattle.memory.specs.Layout.{part}
 use Rattle.memory.specs.Fanout.{fanout}
+use Rattle.layout.specs.declared.node.Node.{Node}
+use Rattle.layout.specs.Loaded.{leafOf}
 use Rattle.layout.specs.Nodes.{childAt, countAt}
+use Rattle.layout.proofs.LoadedLaws.{count-entries}
 use Rattle.index.specs.Walks.{Walkable}
 use Rattle.sides.specs.Sides.{sideOf, sidesOf}
 use Rattle.emission.specs.Emits.{counted, deepAt}
-use Rattle.emission.specs.Leaves.{Gathered}
 use Rattle.emission.specs.Path.{partOn, placeOn, lineOn, polygonOn, halfUnder, cutUnder, PathNode, PathFrom}
 use Rattle.emission.specs.Rows.{kept, topParts, rangeUnder, beforeOn, behindOn}
 use Rattle.emission.proofs.CountLaws.{none-counted, counted-few, counted-none, counted-more}
@@ -111,22 +113,23 @@ unfolding topParts
 top-no-count ss nodes b o f h = let k : kept ss nodes ≡ false = sym o ∙ f in rw k (omega arith)
 
 -- the leaf on the path
-module _ (path m : List ℕ) (e : CellEntry) (ss : List ℕ) (v : PathNode 0 path m) (p : List ℕ) (p-is : p ≡ part m (partOn path 0)) (l : List ℕ) (count : ℕ)
-    (g : Gathered (entriesOn p e ss) l count) (b : Bool) (o : b ≡ kept ss count) where
-  leaf-count : counted 0 (halfUnder 0 path m e (sidesOf ss)) ≡ min 257 (topParts ss count)
+module _ (path m : List ℕ) (e : CellEntry) (ss : List ℕ) (v : PathNode 0 path m) (p : List ℕ) (p-is : p ≡ part m (partOn path 0)) (l : Node)
+    (g : l ≡ leafOf (entriesOn p e ss)) (b : Bool) (o : b ≡ kept ss (l .count)) where
+  leaf-count : counted 0 (halfUnder 0 path m e (sidesOf ss)) ≡ min 257 (topParts ss (l .count))
   unfolding counted
   leaf-count =
-      let n : total (nodes (planeSpace fanout) 1) (halfUnder 0 path m e (sidesOf ss)) ≡ topParts ss count =
-      ap (total (nodes (planeSpace fanout) 1)) (leaf-half path m e ss v p p-is) ∙ leaf-nodes-under ss (polygonOn path 0) (entriesOn p e ss) ∙ ap (topParts ss) (sym (g .count-is)) in
+      let c : l .count ≡ length (entriesOn p e ss) = ap (λ (k : Node). k .count) g ∙ count-entries (entriesOn p e ss) in
+      let n : total (nodes (planeSpace fanout) 1) (halfUnder 0 path m e (sidesOf ss)) ≡ topParts ss (l .count) =
+      ap (total (nodes (planeSpace fanout) 1)) (leaf-half path m e ss v p p-is) ∙ leaf-nodes-under ss (polygonOn path 0) (entriesOn p e ss) ∙ ap (topParts ss) (sym c) in
       ap (min 257) n
 
   pub leaf-counted : b ≡ true → 1 ≡ counted 0 (halfUnder 0 path m e (sidesOf ss))
   unfolding topParts
-  leaf-counted f = let k : kept ss count ≡ true = sym o ∙ f in sym (leaf-count ∙ rw k)
+  leaf-counted f = let k : kept ss (l .count) ≡ true = sym o ∙ f in sym (leaf-count ∙ rw k)
 
   pub leaf-uncounted : b ≡ false → 0 ≡ counted 0 (halfUnder 0 path m e (sidesOf ss))
   unfolding topParts
-  leaf-uncounted f = let k : kept ss count ≡ false = sym o ∙ f in sym (leaf-count ∙ rw k)
+  leaf-uncounted f = let k : kept ss (l .count) ≡ false = sym o ∙ f in sym (leaf-count ∙ rw k)
 
 -- the two branches of a node that is split
 pub cut-count : (n : ℕ) (path m : List ℕ) (e : CellEntry) (ss : List ℕ) (l g : ℕ) (us vs : List ℕ) (lefts rights : ℕ) → (lineOn path n ≡ 0 → ⊥)

@@ -1,15 +1,13 @@
 -- The branches of a routing node in a memory, and the loop that writes what is left of them under sides.
 use Prim.Native.Nat.{ℕ, suc, _+_, _-_, _≤_, _<_}
 use mathlib.Core.Path.{_≡_, refl, sym, ap, _∙_}
-use mathlib.Core.Bool.{Bool, true, false}
 use mathlib.Core.List.{List, [], _∷_, _++_, append-assoc, append-nil, flatMap}
 use mathlib.Core.Option.{some}
 use native.Mathlib.Omega.{arith}
 use native.Mathlib.Numerals.{add-one}
 use borrow.Author.Tests.{eq-eqb, ne-eqb}
-use lib.Dec.{eqb}
-use lib.ListN.{length, take, drop, getD, set, length-append, length-set}
-use lib.Seq.{drop-cons, take-suc-set}
+use lib.ListN.{length, drop, getD, length-append}
+use lib.Seq.{drop-cons}
 use Rattle.tree.specs.Lists.{total}
 use Rattle.tree.specs.Nodes.{Item, nodes}
 use Rattle.tree.proofs.Counts.{total-append}
@@ -20,15 +18,18 @@ use Rattle.memory.specs.Reading.{readNode}
 use Rattle.memory.proofs.NodeImage.{length-node}
 use Rattle.memory.proofs.ReadingLaws.{lowAt, row-at, row-length, node-parts, node-lower}
 use Rattle.memory.specs.Fanout.{fanout}
+use Rattle.layout.specs.declared.node.Node.{Node}
+use Rattle.layout.specs.Loaded.{nodeOf, routingOf, withChild}
 use Rattle.layout.specs.Nodes.{childAt, countAt}
 use Rattle.index.specs.Walks.{Walkable}
 use Rattle.layout.proofs.NodeLaws.{child-in}
+use Rattle.layout.proofs.LoadedLaws.{count-children, child-more}
 use Rattle.index.proofs.WalkLoop.{children-count}
 use Rattle.index.proofs.WalkRows.{walkable}
 use Rattle.emission.specs.declared.tops.Tops.{Tops}
 use Rattle.emission.specs.Emits.{Emits, Room, deepOf, deepAt}
 use Rattle.emission.specs.Path.{rowOr, rowAt}
-use Rattle.emission.specs.Rows.{topped, Grows, rangeUnder}
+use Rattle.emission.specs.Rows.{topped, noTops, Grows, rangeUnder}
 use Rattle.emission.proofs.DeepRows.{deep-one}
 use Rattle.emission.proofs.EmitLaws.{partsFrom, topsFrom, row-tops-append, length-parts, emits-none, emits-more}
 
@@ -105,7 +106,7 @@ emits-on n w next bs w₁ next₁ x = let a = x .next-is in omega arith
 -- no branch
 pub grows-none : (n : ℕ) (w : List ℕ) (t : Tops) → Grows n w t [] w t
 unfolding emitRow
-grows-none n w t = record { emits = emits-none n w (t .next); count-is = omega arith; tops-are = sym (append-nil _) }
+grows-none n w t = record { emits = emits-none n w (t .next); count-is = omega arith; children = λ ks q. q ∙ ap routingOf (sym (append-nil ks)) }
 
 -- some branches, and then some more
 pub grows-more : (n : ℕ) (w : List ℕ) (t : Tops) (bs : List (Item (planeSpace fanout) (suc n))) (w₁ : List ℕ) (t₁ : Tops)
@@ -119,22 +120,22 @@ grows-more n w t bs w₁ t₁ cs w₂ t₂ x y =
     record {
       emits = emits-more n w (t .next) bs w₁ (t₁ .next) cs w₂ (t₂ .next) (x .emits) (y .emits);
       count-is = rw length-append (omega arith);
-      tops-are =
-          y .tops-are ∙ ap (λ (z : List ℕ). z ++ topsFrom n (t₁ .next) cs) (x .tops-are)
-          ∙ append-assoc (take (t .count) (t .parts)) (topsFrom n (t .next) bs) (topsFrom n (t₁ .next) cs)
-          ∙ ap (λ (z : List ℕ). take (t .count) (t .parts) ++ z)
-          (sym (row-tops-append (emitNode fanout n) (t .next) bs cs ∙ ap (λ (j : ℕ). topsFrom n (t .next) bs ++ topsFrom n j cs) e));
+      children = λ ks q.
+          y .children (ks ++ topsFrom n (t .next) bs) (x .children ks q)
+          ∙ ap routingOf
+          (append-assoc ks (topsFrom n (t .next) bs) (topsFrom n (t₁ .next) cs)
+          ∙ ap (λ (z : List ℕ). ks ++ z) (sym (row-tops-append (emitNode fanout n) (t .next) bs cs ∙ ap (λ (j : ℕ). topsFrom n (t .next) bs ++ topsFrom n j cs) e)));
     }
 
 -- one branch or none: its top node is the last that was written
-module _ (n : ℕ) (w : List ℕ) (t : Tops) (w₁ : List ℕ) (after : ℕ) (room : t .count < length (t .parts)) where
+module _ (n : ℕ) (w : List ℕ) (t : Tops) (w₁ : List ℕ) (after : ℕ) (room : t .node .count < 9) where
   grows-same : after ≡ t .next → Emits n w (t .next) [] w₁ after → Grows n w t [] w₁ (topped t after)
   unfolding topped emitRow
   grows-same e x =
-      rw (eq-eqb after (t .next) e) (record { emits = rw e at x; count-is = omega arith; tops-are = sym (append-nil _) })
+      rw (eq-eqb after (t .next) e) (record { emits = rw e at x; count-is = omega arith; children = λ ks q. q ∙ ap routingOf (sym (append-nil ks)) })
 
   grows-by : (b : Item (planeSpace fanout) (suc n)) → Emits n w (t .next) (b ∷ []) w₁ after → Grows n w t (b ∷ []) w₁ (topped t after)
-  unfolding topped emitRow total nodes
+  unfolding topped emitRow total nodes withChild
   grows-by b x =
       let a = x .next-is in
       let l = length-node fanout n (t .next) b in
@@ -143,7 +144,9 @@ module _ (n : ℕ) (w : List ℕ) (t : Tops) (w₁ : List ℕ) (after : ℕ) (ro
       rw (ne-eqb after (t .next) ne) (record {
         emits = x;
         count-is = refl;
-        tops-are = rw (add-one, e) (take-suc-set (t .parts) (t .count) (after - 1) room);
+        children = λ ks q.
+            let c : t .node .count ≡ length ks = ap (λ (k : Node). k .count) q ∙ count-children ks in
+            ap (λ (k : Node). withChild k (after - 1)) q ∙ child-more ks (after - 1) (omega arith) ∙ ap (λ (j : ℕ). routingOf (ks ++ (j ∷ []))) (sym e);
       })
 
   pub grows-one : (bs : List (Item (planeSpace fanout) (suc n))) → length bs ≤ 1 → Emits n w (t .next) bs w₁ after → Grows n w t bs w₁ (topped t after)
@@ -152,22 +155,18 @@ module _ (n : ℕ) (w : List ℕ) (t : Tops) (w₁ : List ℕ) (after : ℕ) (ro
   grows-one (b ∷ []) o x = grows-by b x
   grows-one (b ∷ c ∷ bs) o x = absurd (omega arith)
 
+-- no branch so far
+pub none-tops : (next : ℕ) (node : Node) → node ≡ nodeOf 0 [] → record { next = next; node = node } ≡ noTops next
+none-tops next node q = rw q
+
 -- the code's two ways
 pub topped-same : (t : Tops) (after : ℕ) → after ≡ t .next → t ≡ topped t after
 unfolding topped
 topped-same t after e = rw (eq-eqb after (t .next) e)
 
-pub topped-more : (t : Tops) (after : ℕ) → (after ≡ t .next → ⊥) → record { next = after; count = t .count + 1; parts = set (t .parts) (t .count) (after - 1) } ≡ topped t after
+pub topped-more : (t : Tops) (after : ℕ) → (after ≡ t .next → ⊥) → (node : Node) → node ≡ withChild (t .node) (after - 1) → record { next = after; node = node } ≡ topped t after
 unfolding topped
-topped-more t after ne = rw (ne-eqb after (t .next) ne)
-
-pub length-topped : (t : Tops) (after : ℕ) → length (topped t after .parts) ≡ length (t .parts)
-unfolding topped
-length-topped t after = go (eqb after (t .next)) refl
-  where
-    go : (b : Bool) → eqb after (t .next) ≡ b → length (topped t after .parts) ≡ length (t .parts)
-    go true e = rw e
-    go false e = rw e (length-set (t .parts) (t .count) (after - 1))
+topped-more t after ne node q = rw (ne-eqb after (t .next) ne, q)
 
 -- Before the i-th branch of the node at part k, of those up to the to-th: what is left of the earlier ones is written.
 pub record BranchLoop (n : ℕ) (m : List ℕ) (k from to : ℕ) (ss w₀ : List ℕ) (t₀ : Tops) (i : ℕ) (w : List ℕ) (t : Tops) : Type 0 where
@@ -178,13 +177,12 @@ pub record BranchLoop (n : ℕ) (m : List ℕ) (k from to : ℕ) (ss w₀ : List
   pub whole : bs ++ rangeUnder n m k i to ss ≡ rangeUnder n m k from to ss
   pub grows : Grows n w₀ t₀ bs w t
   pub room : Room n w (t .next) (rangeUnder n m k i to ss)
-  pub few : t .count + to ≤ 9 + i
-  pub long : length (t .parts) ≡ 9
+  pub few : t .node .count + to ≤ 9 + i
 
 module _ (n : ℕ) (m : List ℕ) (k from to : ℕ) (ss w₀ : List ℕ) (t₀ : Tops) where
-  pub branch-start : Walkable (suc n) m 0 k → from ≤ to → to ≤ countAt m k → t₀ .count + to ≤ 9 + from → length (t₀ .parts) ≡ 9
+  pub branch-start : Walkable (suc n) m 0 k → from ≤ to → to ≤ countAt m k → t₀ .node .count + to ≤ 9 + from
       → Room n w₀ (t₀ .next) (rangeUnder n m k from to ss) → BranchLoop n m k from to ss w₀ t₀ from w₀ t₀
-  branch-start v h l f s r = record { walk = v; i-le = h; to-le = l; bs = []; whole = refl; grows = grows-none n w₀ t₀; room = r; few = f; long = s }
+  branch-start v h l f r = record { walk = v; i-le = h; to-le = l; bs = []; whole = refl; grows = grows-none n w₀ t₀; room = r; few = f }
 
   module _ (i : ℕ) (w : List ℕ) (t : Tops) (x : BranchLoop n m k from to ss w₀ t₀ i w t) where
     pub branch-end : to ≤ i → Grows n w₀ t₀ (rangeUnder n m k from to ss) w t
@@ -214,7 +212,6 @@ module _ (n : ℕ) (m : List ℕ) (k from to : ℕ) (ss w₀ : List ℕ) (t₀ :
           → BranchLoop n m k from to ss w₀ t₀ (i + 1) w₁ t₁
       branch-again w₁ after t₁ e q =
           let f = x .few in
-          let l = x .long in
           let o = deep-one n m 0 j ss in
           let g : Grows n w t first w₁ t₁ = rw q (grows-one n w t w₁ after (omega arith) first o e) in
           let c = g .count-is in
@@ -227,5 +224,4 @@ module _ (n : ℕ) (m : List ℕ) (k from to : ℕ) (ss w₀ : List ℕ) (t₀ :
             grows = grows-more n w₀ t₀ (x .bs) w t first w₁ t₁ (x .grows) g;
             room = room-rest n w (t .next) first others (rw apart at (x .room)) w₁ (t₁ .next) (g .emits);
             few = omega arith;
-            long = rw q (length-topped t after ∙ l);
           }

@@ -15,16 +15,18 @@ use Rattle.tree.specs.Nodes.{Item, nodes}
 use Rattle.tree.specs.Plan.{clips, branchUnder}
 use Rattle.plane.specs.Lines.{CellEntry}
 use Rattle.plane.specs.Plane.{planeSpace}
-use Rattle.memory.specs.Image.{nodePart, entryNumbers, emitRow}
+use Rattle.memory.specs.Image.{nodePart, emitRow}
 use Rattle.memory.specs.Fanout.{fanout}
+use Rattle.layout.specs.declared.node.Node.{Node}
+use Rattle.layout.specs.Loaded.{nodeOf, leafOf}
 use Rattle.layout.specs.Parts.{PartPut, PartRoom}
+use Rattle.layout.proofs.LoadedLaws.{count-entries, no-children, leaf-part}
 use Rattle.sides.specs.Sides.{sidesOf}
 use Rattle.emission.specs.declared.tops.Tops.{Tops}
 use Rattle.emission.specs.Emits.{Emits}
-use Rattle.emission.specs.Leaves.{Gathered}
 use Rattle.emission.specs.Rows.{kept, topParts, topNumbers, TopWritten, TopRoom, noTops, Grows, RestWritten}
 use Rattle.emission.proofs.CountLaws.{leaf-nodes}
-use Rattle.emission.proofs.EmitLaws.{topsFrom, emits-leaf, emits-node}
+use Rattle.emission.proofs.EmitLaws.{Row, row-part, emits-leaf, emits-node}
 use Rattle.emission.proofs.RowLaws.{grows-more}
 
 -- the code's test
@@ -39,28 +41,28 @@ kept-empty [] count e = refl
 kept-empty (s ∷ ss) count e = rw (eq-eqb count 0 e, ne-eqb (length (s ∷ ss)) 0 (λ q. omega arith))
 
 -- the code's writing of the node
-module _ (p : List Rect) (ss : List ℕ) (count : ℕ) (items w : List ℕ) (next : ℕ) (b : Bool) (o : b ≡ kept ss count) where
-  pub top-dropped : b ≡ false → TopWritten p ss count items w next w next
+module _ (p : List Rect) (n : Node) (ss w : List ℕ) (next : ℕ) (b : Bool) (o : b ≡ kept ss (n .count)) where
+  pub top-dropped : b ≡ false → TopWritten p n ss w next w next
   unfolding topParts topNumbers
   top-dropped f =
-      let k : kept ss count ≡ false = sym o ∙ f in
+      let k : kept ss (n .count) ≡ false = sym o ∙ f in
       record { next-is = rw k (omega arith); written = rw k (sym (append-nil _)); same-length = refl }
 
-  pub top-room : TopRoom ss count items w next → b ≡ true → PartRoom w next
+  pub top-room : TopRoom ss n w next → b ≡ true → PartRoom w next
   unfolding topParts
   top-room r f =
-      let k : kept ss count ≡ true = sym o ∙ f in
+      let k : kept ss (n .count) ≡ true = sym o ∙ f in
       let g = r .fits in
       record { fits = rw k at g; small = r .small }
 
-  pub top-kept : (q : Polygon) (w₁ : List ℕ) → PolygonOf (clips (planeSpace fanout) (sidesOf ss) p) q → PartPut w next (nodePart (rectsOf q) count items) w₁
-      → b ≡ true → TopWritten p ss count items w next w₁ (next + 1)
+  pub top-kept : (q : Polygon) (w₁ : List ℕ) → PolygonOf (clips (planeSpace fanout) (sidesOf ss) p) q → PartPut w next (nodePart (rectsOf q) (n .count) (n .items)) w₁
+      → b ≡ true → TopWritten p n ss w next w₁ (next + 1)
   unfolding topParts topNumbers
   top-kept q w₁ y x f =
-      let k : kept ss count ≡ true = sym o ∙ f in
+      let k : kept ss (n .count) ≡ true = sym o ∙ f in
       record {
         next-is = rw k;
-        written = rw k (x .written ∙ ap (λ l. take (64 + 128 * next) w ++ nodePart l count items) (y .list));
+        written = rw k (x .written ∙ ap (λ l. take (64 + 128 * next) w ++ nodePart l (n .count) (n .items)) (y .list));
         same-length = x .same-length;
       }
 
@@ -115,9 +117,9 @@ under-nodes n ss p bs = go (kept ss (length bs)) refl
     go true k = rw (under-kept ss p bs k, k) (omega arith)
     go false k = rw (under-dropped ss p bs k, k, dropped-none ss bs k)
 
-module _ (p : List Rect) (ss : List ℕ) (count : ℕ) (items w : List ℕ) (next : ℕ) (w₁ : List ℕ) (r : ℕ) (x : TopWritten p ss count items w next w₁ r) where
+module _ (p : List Rect) (n : Node) (ss w : List ℕ) (next : ℕ) (w₁ : List ℕ) (r : ℕ) (x : TopWritten p n ss w next w₁ r) where
   -- the part of a node that is kept
-  put-of : kept ss count ≡ true → PartPut w next (nodePart (clips (planeSpace fanout) (sidesOf ss) p) count items) w₁ × (r ≡ next + 1)
+  put-of : kept ss (n .count) ≡ true → PartPut w next (nodePart (clips (planeSpace fanout) (sidesOf ss) p) (n .count) (n .items)) w₁ × (r ≡ next + 1)
   unfolding topParts topNumbers
   put-of k =
       let a : r ≡ next + 1 = rw k at (x .next-is) in
@@ -125,57 +127,68 @@ module _ (p : List Rect) (ss : List ℕ) (count : ℕ) (items w : List ℕ) (nex
       (record { written = rw (k, a) at b; same-length = x .same-length }, a)
 
   -- nothing is written for a node that is dropped
-  same-of : kept ss count ≡ false → (take (64 + 128 * r) w₁ ≡ take (64 + 128 * next) w ++ []) × (r ≡ next + 0)
+  same-of : kept ss (n .count) ≡ false → (take (64 + 128 * r) w₁ ≡ take (64 + 128 * next) w ++ []) × (r ≡ next + 0)
   unfolding topParts topNumbers
   same-of k = let a = x .next-is in let b = x .written in (rw k at b, rw k at a)
 
 -- a leaf with the entries that were gathered
-pub top-leaf : (p : List Rect) (ss : List ℕ) (es : List CellEntry) (items : List ℕ) (count : ℕ) (w : List ℕ) (next : ℕ) (w₁ : List ℕ) (r : ℕ)
-    → Gathered es items count → TopWritten p ss count (take (3 * count) items) w next w₁ r → Emits 0 w next (branchUnder (planeSpace fanout) (sidesOf ss) p es) w₁ r
+pub top-leaf : (p : List Rect) (ss : List ℕ) (es : List CellEntry) (n : Node) (w : List ℕ) (next : ℕ) (w₁ : List ℕ) (r : ℕ)
+    → n ≡ leafOf es → TopWritten p n ss w next w₁ r → Emits 0 w next (branchUnder (planeSpace fanout) (sidesOf ss) p es) w₁ r
 unfolding emitRow flatMap total
-top-leaf p ss es items count w next w₁ r g x = go (kept ss (length es)) refl
+top-leaf p ss es n w next w₁ r g x = go (kept ss (length es)) refl
   where
-    x′ : TopWritten p ss (length es) (flatMap entryNumbers es) w next w₁ r
-    x′ = rw (← (g .count-is), ← (g .numbers)) x
+    x′ : TopWritten p (leafOf es) ss w next w₁ r
+    x′ = rw g at x
+
+    c : kept ss (leafOf es .count) ≡ kept ss (length es)
+    c = ap (kept ss) (count-entries es)
 
     go : (b : Bool) → kept ss (length es) ≡ b → Emits 0 w next (branchUnder (planeSpace fanout) (sidesOf ss) p es) w₁ r
     go true k =
-        let q = put-of p ss (length es) (flatMap entryNumbers es) w next w₁ r x′ k in
-        rw (under-kept ss p es k, q .1) (emits-leaf w next (clips (planeSpace fanout) (sidesOf ss) p) es w₁ (q .0))
+        let q = put-of p (leafOf es) ss w next w₁ r x′ (c ∙ k) in
+        rw (under-kept ss p es k, q .1)
+        (emits-leaf w next (clips (planeSpace fanout) (sidesOf ss) p) es w₁ (rw (leaf-part (clips (planeSpace fanout) (sidesOf ss) p) es) at (q .0)))
     go false k =
-        let q = same-of p ss (length es) (flatMap entryNumbers es) w next w₁ r x′ k in
+        let q = same-of p (leafOf es) ss w next w₁ r x′ (c ∙ k) in
         let e = q .1 in
         rw (under-dropped ss p es k) (record { written = q .0; next-is = omega arith; same-length = x′ .same-length })
 
 -- a routing node with the branches that were written
-pub top-node : (n : ℕ) (p : List Rect) (ss : List ℕ) (bs : List (Item (planeSpace fanout) (suc n))) (count : ℕ) (tops w : List ℕ) (next : ℕ) (w₁ : List ℕ) (next₁ : ℕ) (w₂ : List ℕ) (r : ℕ)
-    → Emits n w next bs w₁ next₁ → count ≡ length bs → tops ≡ topsFrom n next bs → TopWritten p ss count tops w₁ next₁ w₂ r
+pub top-node : (n : ℕ) (p : List Rect) (ss : List ℕ) (bs : List (Item (planeSpace fanout) (suc n))) (node : Node) (w : List ℕ) (next : ℕ) (w₁ : List ℕ) (next₁ : ℕ) (w₂ : List ℕ) (r : ℕ)
+    → Row n w next bs w₁ next₁ node → TopWritten p node ss w₁ next₁ w₂ r
     → Emits (suc n) w next (branchUnder (planeSpace fanout) (sidesOf ss) p bs) w₂ r
 unfolding emitRow flatMap total
-top-node n p ss bs count tops w next w₁ next₁ w₂ r e c t x = go (kept ss (length bs)) refl
+top-node n p ss bs node w next w₁ next₁ w₂ r y x = go (kept ss (length bs)) refl
   where
-    x′ : TopWritten p ss (length bs) (topsFrom n next bs) w₁ next₁ w₂ r
-    x′ = rw (← c, ← t) x
+    c : kept ss (node .count) ≡ kept ss (length bs)
+    c = ap (kept ss) (y .count-is)
 
     go : (b : Bool) → kept ss (length bs) ≡ b → Emits (suc n) w next (branchUnder (planeSpace fanout) (sidesOf ss) p bs) w₂ r
     go true k =
-        let q = put-of p ss (length bs) (topsFrom n next bs) w₁ next₁ w₂ r x′ k in
-        rw (under-kept ss p bs k, q .1) (emits-node n w next (clips (planeSpace fanout) (sidesOf ss) p) bs w₁ next₁ w₂ e (q .0))
+        let q = put-of p node ss w₁ next₁ w₂ r x (c ∙ k) in
+        rw (under-kept ss p bs k, q .1)
+        (emits-node n w next (clips (planeSpace fanout) (sidesOf ss) p) bs w₁ next₁ w₂ (y .emitted)
+        (rw (row-part n w next bs w₁ next₁ node y (clips (planeSpace fanout) (sidesOf ss) p)) at (q .0)))
     go false k =
-        let q = same-of p ss (length bs) (topsFrom n next bs) w₁ next₁ w₂ r x′ k in
+        let q = same-of p node ss w₁ next₁ w₂ r x (c ∙ k) in
         let z = dropped-none ss bs k in
-        let e′ : Emits n w next [] w₁ next₁ = rw z at e in
+        let e′ : Emits n w next [] w₁ next₁ = rw z at (y .emitted) in
         let a = e′ .next-is in
         let b = q .1 in
         rw (under-dropped ss p bs k) (record {
           written = q .0 ∙ append-nil (take (64 + 128 * next₁) w₁) ∙ e′ .written;
           next-is = omega arith;
-          same-length = x′ .same-length ∙ e′ .same-length;
+          same-length = x .same-length ∙ e′ .same-length;
         })
+
+-- the row of the branches that were written from no branch on
+pub grown-row : (n : ℕ) (w : List ℕ) (next : ℕ) (bs : List (Item (planeSpace fanout) (suc n))) (w₁ : List ℕ) (t : Tops) → Grows n w (noTops next) bs w₁ t → Row n w next bs w₁ (t .next) (t .node)
+unfolding nodeOf
+grown-row n w next bs w₁ t g = record { emitted = g .emits; count-is = (let c = g .count-is in omega arith); node-is = g .children [] no-children }
 
 -- a routing node whose branches were written in two goes
 pub rest-node : (n : ℕ) (p : List Rect) (ss : List ℕ) (w : List ℕ) (next : ℕ) (bs cs : List (Item (planeSpace fanout) (suc n))) (w₁ : List ℕ) (t : Tops) (w₂ : List ℕ) (r : ℕ)
     → Grows n w (noTops next) bs w₁ t → RestWritten n p ss cs w₁ t w₂ r → Emits (suc n) w next (branchUnder (planeSpace fanout) (sidesOf ss) p (bs ++ cs)) w₂ r
 rest-node n p ss w next bs cs w₁ t w₂ r g x =
     let h = grows-more n w (noTops next) bs w₁ t cs (x .mid) (x .all) g (x .branches) in
-    top-node n p ss (bs ++ cs) (x .all .count) _ w next (x .mid) (x .all .next) w₂ r (h .emits) (let c = h .count-is in omega arith) (h .tops-are) (x .top)
+    top-node n p ss (bs ++ cs) (x .all .node) w next (x .mid) (x .all .next) w₂ r (grown-row n w next (bs ++ cs) (x .mid) (x .all) h) (x .top)

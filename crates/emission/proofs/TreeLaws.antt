@@ -5,7 +5,7 @@ use mathlib.Core.List.{List, [], _∷_, _++_, append-nil, append-assoc, flatMap}
 use mathlib.Core.Option.{some}
 use native.Mathlib.Omega.{arith}
 use borrow.Author.Tests.{eq-eqb, ne-eqb}
-use lib.ListN.{length, take, length-take}
+use lib.ListN.{length, take}
 use Rattle.geometry.specs.declared.polygon.Polygon.{Polygon}
 use Rattle.geometry.specs.Numbers.{rectsOf, PolygonOf}
 use Rattle.tree.specs.Lists.{total}
@@ -17,6 +17,7 @@ use Rattle.plane.specs.Plane.{planeSpace}
 use Rattle.plane.specs.Candidates.{rankLine}
 use Rattle.memory.specs.Image.{emitRow, emitNode}
 use Rattle.memory.specs.Fanout.{fanout}
+use Rattle.layout.specs.Loaded.{nodeOf}
 use Rattle.sides.specs.Sides.{sideOf, sidesOf}
 use Rattle.emission.specs.declared.tops.Tops.{Tops}
 use Rattle.emission.specs.declared.whole.Emitted.{Emitted}
@@ -28,8 +29,8 @@ use Rattle.emission.proofs.CutLaws.{front-is, cut-split}
 use Rattle.emission.proofs.DeepRows.{under-one}
 use Rattle.emission.proofs.HalfLaws.{rest-first, rest-later}
 use Rattle.emission.proofs.PathCount.{cut-count}
-use Rattle.emission.proofs.RowLaws.{grows-none, grows-one, grows-more, length-topped}
-use Rattle.emission.proofs.TopLaws.{top-node}
+use Rattle.emission.proofs.RowLaws.{grows-none, grows-one, grows-more}
+use Rattle.emission.proofs.TopLaws.{top-node, grown-row}
 
 -- a tree by its root
 module _ (t : Tree (planeSpace fanout)) (w : List ℕ) where
@@ -112,7 +113,8 @@ module _ (t : Tops) (z : t ≡ noTops 0) where
   pub none-next : (after : ℕ) → t .next ≤ after
   none-next after = rw z (omega arith)
 
-  pub none-few : t .count < 9
+  pub none-few : t .node .count < 9
+  unfolding nodeOf
   none-few = rw z (omega arith)
 
 -- A part of the two branches of a split root is written; the rest is to come.
@@ -121,8 +123,7 @@ pub record RootAt (n : ℕ) (path m : List ℕ) (e : CellEntry) (w : List ℕ) (
   pub whole : bs ++ rest ≡ cutUnder n path m e (sidesOf [])
   pub grows : Grows n w (noTops 0) bs w₁ t
   pub room : RestRoom n [] rest w₁ t
-  pub few : t .count ≤ more
-  pub long : length (t .parts) ≡ 9
+  pub few : t .node .count ≤ more
 
 -- the branch right of the line
 abbrev pub rightHalf : (n : ℕ) → List ℕ → List ℕ → CellEntry → List (Item (planeSpace fanout) (suc n))
@@ -133,7 +134,6 @@ module _ (n : ℕ) (path m : List ℕ) (e : CellEntry) (w : List ℕ) where
       → (w₂ : List ℕ) (after : ℕ) (t₂ : Tops) → length cs ≤ 1 → Emits n w₁ (t .next) cs w₂ after → t₂ ≡ topped t after → RootAt n path m e w (more + 1) rest w₂ t₂
   root-one more cs rest w₁ t x u w₂ after t₂ o y q =
       let f = x .few in
-      let l = x .long in
       let g : Grows n w₁ t cs w₂ t₂ = rw q (grows-one n w₁ t w₂ after (omega arith) cs o y) in
       record {
         bs = x .bs ++ cs;
@@ -141,7 +141,6 @@ module _ (n : ℕ) (path m : List ℕ) (e : CellEntry) (w : List ℕ) where
         grows = grows-more n w (noTops 0) (x .bs) w₁ t cs w₂ t₂ (x .grows) g;
         room = rest-later n [] cs rest w₁ t (x .room) w₂ t₂ g;
         few = (let c = g .count-is in omega arith);
-        long = rw q (length-topped t after ∙ l);
       }
 
   half-at-most : (us : List ℕ) → length (halfUnder n path m e (sidesOf us)) ≤ 1
@@ -151,9 +150,10 @@ module _ (n : ℕ) (path m : List ℕ) (e : CellEntry) (w : List ℕ) where
   module _ (ne : lineOn path n ≡ 0 → ⊥) (r : RestRoom n [] (cutUnder n path m e (sidesOf [])) w (noTops 0)) (t : Tops) (z : t ≡ noTops 0)
       (s : ℕ) (us : List ℕ) (h : sideOf s ≡ left (rankLine (lineOn path n))) (u : us ≡ s ∷ []) where
     root-start : RootAt n path m e w 0 (halfUnder n path m e (sidesOf us) ++ rightHalf n path m e) w t
+    unfolding nodeOf
     root-start =
         let c = cut-split n path m e [] ne s us h u in
-        rw z (record { bs = []; whole = sym c; grows = grows-none n w (noTops 0); room = rw c at r; few = omega arith; long = refl })
+        rw z (record { bs = []; whole = sym c; grows = grows-none n w (noTops 0); room = rw c at r; few = omega arith })
 
     pub root-left-room : Room n w 0 (halfUnder n path m e (sidesOf us))
     root-left-room = rw z at (rest-first n [] (halfUnder n path m e (sidesOf us)) (rightHalf n path m e) w t (root-start .room))
@@ -177,21 +177,17 @@ module _ (n : ℕ) (path m : List ℕ) (e : CellEntry) (w : List ℕ) where
 
   -- the root on top of them
   module _ (w₁ : List ℕ) (t : Tops) (x : RootAt n path m e w 2 [] w₁ t) where
-    pub root-fits : t .count ≤ length (t .parts)
-    root-fits = let f = x .few in let l = x .long in omega arith
-
-    pub root-top-room : TopRoom [] (t .count) (take (t .count) (t .parts)) w₁ (t .next)
+    pub root-top-room : TopRoom [] (t .node) w₁ (t .next)
     unfolding kept topParts total
     root-top-room =
-        let f = x .few in
         let g : 64 + 128 * (t .next + 0 + 1) ≤ length w₁ = x .room .fits in
         let h : 64 + 128 * (t .next + 1) ≤ length w₁ = omega arith in
-        record { fits = h; small = x .room .small; few = simp length-take (omega arith); few-items = omega arith }
+        record { fits = h; small = x .room .small }
 
-    pub root-done : (p : Polygon) (w₂ : List ℕ) (r : ℕ) → PolygonOf (polygonOn path n) p → TopWritten (rectsOf p) [] (t .count) (take (t .count) (t .parts)) w₁ (t .next) w₂ r
+    pub root-done : (p : Polygon) (w₂ : List ℕ) (r : ℕ) → PolygonOf (polygonOn path n) p → TopWritten (rectsOf p) (t .node) [] w₁ (t .next) w₂ r
         → Emits (suc n) w 0 (record { poly = polygonOn path n; child = cutUnder n path m e [] } ∷ []) w₂ r
     unfolding sidesOf
     root-done p w₂ r o y =
         let c : x .bs ≡ cutUnder n path m e [] = sym (append-nil (x .bs)) ∙ x .whole in
         let g : Grows n w (noTops 0) (cutUnder n path m e []) w₁ t = rw c at (x .grows) in
-        top-node n (polygonOn path n) [] (cutUnder n path m e []) (t .count) (take (t .count) (t .parts)) w 0 w₁ (t .next) w₂ r (g .emits) (let d = g .count-is in omega arith) (g .tops-are) (rw (o .list) at y)
+        top-node n (polygonOn path n) [] (cutUnder n path m e []) (t .node) w 0 w₁ (t .next) w₂ r (grown-row n w 0 (cutUnder n path m e []) w₁ t g) (rw (o .list) at y)

@@ -4,7 +4,7 @@ use mathlib.Core.Bool.{Bool, true, not, cond}
 use mathlib.Core.List.{List, [], _∷_, _++_, flatMap}
 use mathlib.Core.Path.{_≡_}
 use lib.Dec.{eqb}
-use lib.ListN.{length, take, drop, getD, set, replicate}
+use lib.ListN.{length, take, drop, getD}
 use Rattle.geometry.specs.declared.rect.Rect.{Rect}
 use Rattle.tree.specs.Lists.{total}
 use Rattle.tree.specs.Nodes.{Item, nodes}
@@ -13,6 +13,8 @@ use Rattle.tree.specs.Pass.{deep}
 use Rattle.plane.specs.Plane.{planeSpace}
 use Rattle.memory.specs.Image.{nodePart, emitRow, emitNode}
 use Rattle.memory.specs.Fanout.{fanout}
+use Rattle.layout.specs.declared.node.Node.{Node}
+use Rattle.layout.specs.Loaded.{nodeOf, routingOf, withChild}
 use Rattle.layout.specs.Nodes.{countAt}
 use Rattle.index.specs.Walks.{Walkable}
 use Rattle.sides.specs.Sides.{sidesOf}
@@ -37,37 +39,36 @@ kept (s ∷ ss) count = not (eqb count 0)
 unfoldable pub topParts : List ℕ → ℕ → ℕ
 topParts ss count = cond (kept ss count) 1 0
 
-unfoldable pub topNumbers : List Rect → List ℕ → ℕ → List ℕ → List ℕ
-topNumbers p ss count items = cond (kept ss count) (nodePart (clips (planeSpace fanout) (sidesOf ss) p) count items) []
+unfoldable pub topNumbers : List Rect → Node → List ℕ → List ℕ
+topNumbers p n ss = cond (kept ss (n .count)) (nodePart (clips (planeSpace fanout) (sidesOf ss) p) (n .count) (n .items)) []
 
--- A node with the polygon p under sides and these items was written to w at part next, if it is kept, which gives w'; r is the next free part.
-pub record TopWritten (p : List Rect) (ss : List ℕ) (count : ℕ) (items w : List ℕ) (next : ℕ) (w' : List ℕ) (r : ℕ) : Type 0 where
-  pub next-is : r ≡ next + topParts ss count
-  pub written : take (64 + 128 * r) w' ≡ take (64 + 128 * next) w ++ topNumbers p ss count items
+-- A node with the polygon p under sides was written to w at part next, if it is kept, which gives w'; r is the next free part.
+pub record TopWritten (p : List Rect) (n : Node) (ss w : List ℕ) (next : ℕ) (w' : List ℕ) (r : ℕ) : Type 0 where
+  pub next-is : r ≡ next + topParts ss (n .count)
+  pub written : take (64 + 128 * r) w' ≡ take (64 + 128 * next) w ++ topNumbers p n ss
   pub same-length : length w' ≡ length w
 
 -- The node fits into w at part next.
-pub record TopRoom (ss : List ℕ) (count : ℕ) (items w : List ℕ) (next : ℕ) : Type 0 where
-  pub fits : 64 + 128 * (next + topParts ss count) ≤ length w
+pub record TopRoom (ss : List ℕ) (n : Node) (w : List ℕ) (next : ℕ) : Type 0 where
+  pub fits : 64 + 128 * (next + topParts ss (n .count)) ≤ length w
   pub small : length w ≤ 32832
-  pub few : length items ≤ 62
-  pub few-items : count ≤ 62
 
 -- the top nodes with one more, where parts were written up to the part after; the same where none were
 unfoldable pub topped : Tops → ℕ → Tops
 topped t after =
     cond (eqb after (t .next)) t
-    (record { next = after; count = t .count + 1; parts = set (t .parts) (t .count) (after - 1) })
+    (record { next = after; node = withChild (t .node) (after - 1) })
 
 -- no top node, before the part next is written
 abbrev pub noTops : ℕ → Tops
-noTops next = record { next = next; count = 0; parts = replicate 9 0 }
+noTops next = record { next = next; node = nodeOf 0 [] }
 
 -- Some branches were written to w behind those with the top nodes t, which gives w' and the top nodes t'.
 pub record Grows (n : ℕ) (w : List ℕ) (t : Tops) (bs : List (Item (planeSpace fanout) (suc n))) (w' : List ℕ) (t' : Tops) : Type 0 where
   pub emits : Emits n w (t .next) bs w' (t' .next)
-  pub count-is : t' .count ≡ t .count + length bs
-  pub tops-are : take (t' .count) (t' .parts) ≡ take (t .count) (t .parts) ++ emitRow (emitNode fanout n) (t .next) bs .tops
+  pub count-is : t' .node .count ≡ t .node .count + length bs
+  -- their top nodes follow the children that the node had
+  pub children : (ks : List ℕ) → t .node ≡ routingOf ks → t' .node ≡ routingOf (ks ++ emitRow (emitNode fanout n) (t .next) bs .tops)
 
 -- what is left under sides of the branches of the node at part k from the a-th to before the b-th
 unfoldable pub rangeUnder : (n : ℕ) → List ℕ → ℕ → ℕ → ℕ → List ℕ → List (Item (planeSpace fanout) (suc n))
@@ -85,9 +86,9 @@ pub record RestWritten (n : ℕ) (p : List Rect) (ss : List ℕ) (bs : List (Ite
   pub mid : List ℕ
   pub all : Tops
   pub branches : Grows n w t bs mid all
-  pub top : TopWritten p ss (all .count) (take (all .count) (all .parts)) mid (all .next) w' r
+  pub top : TopWritten p (all .node) ss mid (all .next) w' r
 
 -- Those branches and the node fit into w.
 pub record RestRoom (n : ℕ) (ss : List ℕ) (bs : List (Item (planeSpace fanout) (suc n))) (w : List ℕ) (t : Tops) : Type 0 where
-  pub fits : 64 + 128 * (t .next + total (nodes (planeSpace fanout) (suc n)) bs + topParts ss (t .count + length bs)) ≤ length w
+  pub fits : 64 + 128 * (t .next + total (nodes (planeSpace fanout) (suc n)) bs + topParts ss (t .node .count + length bs)) ≤ length w
   pub small : length w ≤ 32832

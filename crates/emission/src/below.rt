@@ -8,7 +8,7 @@ ghost use Rattle.emission.specs.Emits.{Emits, Room, deepAt};
 ghost use Rattle.emission.specs.Leaves.{leafUnder};
 use crate::leaf::gather;
 use crate::node::put_left;
-use layout::ENTRY;
+use layout::Node;
 use layout::child_at;
 use layout::copy_node;
 use layout::copy_part;
@@ -26,18 +26,18 @@ pub fn copy_below(m: &[u32], level: u32, lo: u32, k: u32, work: &mut [u32], next
         return next + 1;
     }
     let n = count_at(m, k) as usize;
-    let mut tops = [0u32; 8];
+    let mut node = Node::empty();
     let mut free = next;
     let mut low = lo;
     let mut i = 0;
     while i < n {
         let j = child_at(m, k, i);
         free = copy_below(m, level - 1, low, j, work, free);
-        tops[i] = free - 1;
+        node = node.with_child(free - 1);
         low = j + 1;
         i += 1;
     }
-    copy_node(part_at(m, k), &tops[..n], work, free);
+    copy_node(part_at(m, k), node, work, free);
     free + 1
 }
 
@@ -46,13 +46,11 @@ fn emit_leaf(p: &[u32], sides: &[u32], work: &mut [u32], next: u32) -> u32
     requires { ⌜ NodePart (now p) × (1 ≤ length (now sides)) × Room 0 (now work) next (leafUnder (now sides) (now p)) ⌝ }
     ensures { λ r. ⌜ Emits 0 (now (work .entry)) next (leafUnder (now (sides .entry)) (now (p .entry))) (now (work .exit)) r ⌝ }
 {
-    let mut items = [0u32; 8 * ENTRY];
-    let count = gather(p, sides, &mut items);
-    if count == 0 {
+    let left = gather(p, sides);
+    if left.count == 0 {
         return next;
     }
-    let end = ENTRY * count;
-    put_left(p, sides, count as u32, &items[..end], work, next);
+    put_left(p, left, sides, work, next);
     next + 1
 }
 
@@ -76,8 +74,7 @@ pub fn emit_below(
         return emit_leaf(part_at(m, k), sides, work, next);
     }
     let n = count_at(m, k) as usize;
-    let mut tops = [0u32; 8];
-    let mut count = 0;
+    let mut left = Node::empty();
     let mut free = next;
     let mut low = lo;
     let mut i = 0;
@@ -85,17 +82,15 @@ pub fn emit_below(
         let j = child_at(m, k, i);
         let after = emit_below(m, level - 1, low, j, sides, work, free);
         if after != free {
-            tops[count] = after - 1;
-            count += 1;
+            left = left.with_child(after - 1);
         }
         free = after;
         low = j + 1;
         i += 1;
     }
-    if count == 0 {
+    if left.count == 0 {
         return free;
     }
-    let p = part_at(m, k);
-    put_left(p, sides, count as u32, &tops[..count], work, free);
+    put_left(part_at(m, k), left, sides, work, free);
     free + 1
 }

@@ -19,7 +19,7 @@ pub fn emit_branches(
     work: &mut [u32],
     tops: Tops,
 ) -> Tops
-    requires { ⌜ Walkable (suc level) (now m) 0 k × (from ≤ to) × (to ≤ countAt (now m) k) × (tops .count + to ≤ 9 + from) × Room level (now work) (tops .next) (rangeUnder level (now m) k from to (now sides)) ⌝ }
+    requires { ⌜ Walkable (suc level) (now m) 0 k × (from ≤ to) × (to ≤ countAt (now m) k) × (tops .node .count + to ≤ 9 + from) × Room level (now work) (tops .next) (rangeUnder level (now m) k from to (now sides)) ⌝ }
     ensures { λ r. ⌜ Grows level (now (work .entry)) tops (rangeUnder level (now (m .entry)) k from to (now (sides .entry))) (now (work .exit)) r ⌝ }
 {
     let mut out = tops;

@@ -17,7 +17,6 @@ use crate::front::put_in_front;
 use crate::path_leaf::gather_with;
 use crate::top::is_kept;
 use geometry::Cell;
-use layout::ENTRY;
 use layout::part_at;
 use sides::left_side;
 use sides::right_side;
@@ -27,7 +26,7 @@ fn count_top(sides: &[u32], nodes: u32) -> u32
     requires { ⌜ nodes ≤ countLimit ⌝ }
     ensures { λ r. ⌜ r ≡ min countLimit (nodes + topParts (now (sides .entry)) nodes) ⌝ }
 {
-    if is_kept(sides, nodes as usize) {
+    if is_kept(sides, nodes) {
         return capped_sum(nodes, 1);
     }
     nodes
@@ -38,9 +37,8 @@ fn count_path_leaf(m: &[u32], path: &[u32], sides: &[u32], c: Cell, tag: u32) ->
     requires { ⌜ PathNode 0 (now path) (now m) ⌝ }
     ensures { λ r. ⌜ r ≡ counted 0 (halfUnder 0 (now (path .entry)) (now (m .entry)) (entryOf c tag) (sidesOf (now (sides .entry)))) ⌝ }
 {
-    let mut items = [0u32; 9 * ENTRY];
-    let n = gather_with(part_at(m, path[0]), sides, c, tag, &mut items);
-    if is_kept(sides, n) {
+    let leaf = gather_with(part_at(m, path[0]), sides, c, tag);
+    if is_kept(sides, leaf.count) {
         return 1;
     }
     0

@@ -45,7 +45,7 @@ fn emit_rest(
     work: &mut [u32],
     tops: Tops,
 ) -> u32
-    requires { ⌜ PathStep level (now path) (now m) × (tops .count ≤ placeOn (now path) level + 2) × RestRoom (level - 1) (now sides) (behindOn level (now path) (now m) (now sides)) (now work) tops ⌝ }
+    requires { ⌜ PathStep level (now path) (now m) × (tops .node .count ≤ placeOn (now path) level + 2) × RestRoom (level - 1) (now sides) (behindOn level (now path) (now m) (now sides)) (now work) tops ⌝ }
     ensures { λ r. ⌜ RestWritten (level - 1) (polygonOn (now (path .entry)) level) (now (sides .entry)) (behindOn level (now (path .entry)) (now (m .entry)) (now (sides .entry))) (now (work .entry)) tops (now (work .exit)) r ⌝ }
 {
     let at = 68 * (level as usize);
@@ -54,9 +54,8 @@ fn emit_rest(
     let to = count_at(m, k) as usize;
     let all = emit_branches(m, level - 1, k, from, to, sides, work, tops);
     let p = path_polygon(path, level as usize);
-    let n = all.count;
-    let parts = all.parts;
-    emit_top(p, sides, n, &parts[..n], work, all.next)
+    let node = all.node;
+    emit_top(p, node, sides, work, all.next)
 }
 
 // Writes what is left under the sides of the node on the path at a level, with all below it and the new entry in its leaf; answers the

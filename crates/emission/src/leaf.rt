@@ -1,13 +1,14 @@
 // A leaf's entries under sides.
 ghost use mathlib.Core.Path.{_≡_};
 ghost use Prim.Native.Nat.{_≤_, _<_};
-ghost use lib.ListN.{length};
 ghost use Rattle.tree.specs.Lists.{notEmpty};
 ghost use Rattle.memory.specs.Layout.{entryIn};
+ghost use Rattle.layout.specs.Loaded.{leafOf};
 ghost use Rattle.layout.specs.Nodes.{IsPart, NodePart};
-ghost use Rattle.emission.specs.Leaves.{onTest, leafLeft, LeafGathered};
-use layout::copy_entry;
+ghost use Rattle.emission.specs.Leaves.{onTest, leafLeft};
+use layout::Node;
 use layout::entry_cell;
+use layout::entry_tag;
 use layout::item_count;
 use sides::on_all;
 
@@ -35,20 +36,20 @@ pub fn any_left(p: &[u32], sides: &[u32]) -> bool
     false
 }
 
-// Writes the entries of a leaf's part that are on every side to the start of the list; answers how many they are.
-pub fn gather(p: &[u32], sides: &[u32], list: &mut [u32]) -> usize
-    requires { ⌜ NodePart (now p) × (24 ≤ length (now list)) ⌝ }
-    ensures { λ r. ⌜ LeafGathered (now (sides .entry)) (now (p .entry)) (now (list .exit)) r ⌝ }
+// The leaf with those entries of a leaf's part that are on every side.
+pub fn gather(p: &[u32], sides: &[u32]) -> Node
+    requires { ⌜ NodePart (now p) ⌝ }
+    ensures { λ r. ⌜ r ≡ leafOf (leafLeft (now (sides .entry)) (now (p .entry))) ⌝ }
+    ensures { λ r. ⌜ r .count ≤ 8 ⌝ }
 {
     let n = item_count(p) as usize;
-    let mut count = 0;
+    let mut left = Node::empty();
     let mut i = 0;
     while i < n {
         if is_left(p, i, sides) {
-            copy_entry(p, i, list, count);
-            count += 1;
+            left = left.with_entry(entry_cell(p, i), entry_tag(p, i));
         }
         i += 1;
     }
-    count
+    left
 }

@@ -37,9 +37,8 @@ fn emit_split(m: &[u32], path: &[u32], level: u32, c: Cell, tag: u32, work: &mut
     let both = left.with_top(after);
     let p = path_polygon(path, level as usize);
     let none = [0u32; 0];
-    let n = both.count;
-    let parts = both.parts;
-    emit_top(p, &none, n, &parts[..n], work, both.next)
+    let node = both.node;
+    emit_top(p, node, &none, work, both.next)
 }
 
 // Writes the tree after into the parts of the work area from the first on.

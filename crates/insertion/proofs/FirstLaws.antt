@@ -1,5 +1,5 @@
 -- The first entry of an index: a leaf with its cell alone.
-use Prim.Native.Nat.{ℕ, _+_, _*_, _-_, _≤_}
+use Prim.Native.Nat.{ℕ, _+_, _*_, _≤_, _<_}
 use mathlib.Core.Bool.{Bool, true, cond}
 use mathlib.Core.Path.{_≡_, refl, sym, ap, _∙_}
 use mathlib.Core.List.{List, [], _∷_, _++_, flatMap, append-nil}
@@ -9,7 +9,6 @@ use mir.Syntax.{w32}
 use mir.Val.{Fits}
 use borrow.Author.Tests.{le-leb}
 use lib.ListN.{length, take}
-use lib.Seq.{take-all}
 use Rattle.geometry.specs.declared.rect.Cell.{Cell}
 use Rattle.geometry.specs.declared.rect.Rect.{Rect}
 use Rattle.geometry.specs.declared.polygon.Polygon.{Polygon}
@@ -29,7 +28,7 @@ use Rattle.plane.proofs.Steps.{plane-steps}
 use Rattle.plane.proofs.Roots.{plane-root-laws}
 use Rattle.memory.specs.Layout.{partsOf}
 use Rattle.memory.specs.Reading.{reading}
-use Rattle.memory.specs.Image.{entryNumbers, nodePart, emitNode, image}
+use Rattle.memory.specs.Image.{nodePart, emitNode, image}
 use Rattle.memory.proofs.ReadingLaws.{read-empty, RightLength, length-right}
 use Rattle.memory.proofs.SoundTested.{test-of-sound}
 use Rattle.memory.proofs.ImageLaws.{image-reads, image-length}
@@ -37,7 +36,9 @@ use Rattle.memory.specs.Fanout.{fanout}
 use Rattle.index.specs.declared.answer.Inserted.the-variants as I
 use Rattle.index.specs.Answers.{insertEnd, insertRead}
 use Rattle.index.specs.Changes.{entryOf, insertedIndex}
-use Rattle.layout.specs.Items.{EntryPut}
+use Rattle.layout.specs.declared.node.Node.{Node}
+use Rattle.layout.specs.Loaded.{nodeOf, leafOf, withEntry}
+use Rattle.layout.proofs.LoadedLaws.{no-entries, entry-more, leaf-part}
 use Rattle.layout.specs.Parts.{PartPut, PartRoom}
 use Rattle.layout.specs.Writing.{written}
 use Rattle.insertion.specs.Insert.{Built}
@@ -93,13 +94,14 @@ module _ (m w : List ℕ) (c : Cell) (t : ℕ) (empty : reading fanout m ≡ som
   sound-y : SoundTree (planeSpace fanout) (planeRoot fanout) y
   sound-y = insert-sound (planeSpace fanout) (plane-space-laws fanout) (plane-steps fanout (omega arith)) (planeRoot fanout) (plane-root-laws fanout) (omega arith) none e y gives tt grid (unfold any flatMap in refl)
 
-  module _ (p : Polygon) (r : Rect) (items w′ : List ℕ) (h : PolygonOf (r ∷ []) p) (g : r ≡ cellRect c) (i : items ≡ c .x ∷ c .y ∷ t ∷ []) (put : PartPut w 0 (nodePart (rectsOf p) 1 items) w′) where
-    parts-is : nodePart (rectsOf p) 1 items ∷ [] ≡ emitNode fanout 0 0 (top (planeSpace fanout) y)
-    unfolding emitNode entryNumbers flatMap
-    parts-is = rw (h .list, g, i)
+  module _ (p : Polygon) (r : Rect) (leaf : Node) (w′ : List ℕ) (h : PolygonOf (r ∷ []) p) (g : r ≡ cellRect c) (i : leaf ≡ leafOf (e ∷ []))
+      (put : PartPut w 0 (nodePart (rectsOf p) (leaf .count) (leaf .items)) w′) where
+    parts-is : nodePart (rectsOf p) (leaf .count) (leaf .items) ∷ [] ≡ emitNode fanout 0 0 (top (planeSpace fanout) y)
+    unfolding emitNode
+    parts-is = rw (h .list, g, i, leaf-part (cellRect c ∷ []) (e ∷ []))
 
     written-is : take (64 + 128 * 1) w′ ≡ take 64 w ++ flatMap (λ p. p) (emitNode fanout 0 0 (top (planeSpace fanout) y))
-    written-is = put .written ∙ ap (λ (l : List ℕ). take 64 w ++ l) (sym (one (nodePart (rectsOf p) 1 items))) ∙ ap (λ (l : List (List ℕ)). take 64 w ++ flatMap (λ p. p) l) parts-is
+    written-is = put .written ∙ ap (λ (l : List ℕ). take 64 w ++ l) (sym (one (nodePart (rectsOf p) (leaf .count) (leaf .items)))) ∙ ap (λ (l : List (List ℕ)). take 64 w ++ flatMap (λ p. p) l) parts-is
       where
         one : (l : List ℕ) → flatMap (λ p. p) (l ∷ []) ≡ l
         one l = unfold flatMap in append-nil l
@@ -131,22 +133,17 @@ module _ (m w : List ℕ) (c : Cell) (t : ℕ) (empty : reading fanout m ≡ som
           zeroed = refl;
         }
 
--- one entry stored in a list that has room for one
-one-entry : (l : List ℕ) (e : CellEntry) (l′ : List ℕ) → length l ≡ 3 → EntryPut l 0 e l′ → l′ ≡ e .cell .x ∷ e .cell .y ∷ e .tag ∷ []
-unfolding entryNumbers
-one-entry l e l′ n x =
-    let k = x .same-length in
-    let h : length l′ ≤ 3 = omega arith in
-    sym (take-all 3 l′ h) ∙ x .written
-
-pub one-few : (l : List ℕ) (e : CellEntry) (l′ : List ℕ) → length l ≡ 3 → EntryPut l 0 e l′ → length l′ ≤ 62
-one-few l e l′ n x = let k = x .same-length in omega arith
-
--- the same as the code has it: the rectangle in place, and the entry stored in a list
-pub first-done : (m w : List ℕ) (c : Cell) (t : ℕ) (l items : List ℕ) (p : Polygon) (w′ m′ : List ℕ) → reading fanout m ≡ some none → length w ≡ length m → onGrid c ≡ true
-    → length l ≡ 3 → EntryPut l 0 (entryOf c t) items
-    → PolygonOf (record { llx = c .x; lly = c .y; urx = c .x + 1; ury = c .y + 1 } ∷ []) p → PartPut w 0 (nodePart (rectsOf p) 1 items) w′ → m′ ≡ written (length m) 1 1 w′
-    → Built m w (entryOf c t) m′ w′ (I.Accepted 1)
+-- the same as the code has it: the rectangle in place, and the entry put into a leaf without entries
+pub first-done : (m w : List ℕ) (c : Cell) (t : ℕ) (empty leaf : Node) (p : Polygon) (w′ m′ : List ℕ) → reading fanout m ≡ some none → length w ≡ length m → onGrid c ≡ true
+    → empty ≡ nodeOf 0 [] → leaf ≡ withEntry empty (entryOf c t)
+    → PolygonOf (record { llx = c .x; lly = c .y; urx = c .x + 1; ury = c .y + 1 } ∷ []) p → PartPut w 0 (nodePart (rectsOf p) (leaf .count) (leaf .items)) w′
+    → m′ ≡ written (length m) 1 1 w′ → Built m w (entryOf c t) m′ w′ (I.Accepted 1)
 unfolding cellRect
-first-done m w c t l items p w′ m′ empty long grid n stored h put q =
-    first-built m w c t empty long grid p (record { llx = c .x; lly = c .y; urx = c .x + 1; ury = c .y + 1 }) items w′ h refl (one-entry l (entryOf c t) items n stored) put m′ q
+first-done m w c t empty leaf p w′ m′ fresh long grid n i h put q =
+    let one : leaf ≡ leafOf (entryOf c t ∷ []) = i ∙ ap (λ (l : Node). withEntry l (entryOf c t)) (n ∙ no-entries) ∙ entry-more [] (entryOf c t) (omega arith) in
+    first-built m w c t fresh long grid p (record { llx = c .x; lly = c .y; urx = c .x + 1; ury = c .y + 1 }) leaf w′ h refl one put m′ q
+
+-- an empty node has room
+pub empty-room : (empty : Node) → empty ≡ nodeOf 0 [] → empty .count < 9
+unfolding nodeOf
+empty-room empty n = rw n (omega arith)

@@ -12,8 +12,7 @@ use geometry::Cell;
 use geometry::Polygon;
 use geometry::Rect;
 use index::Inserted;
-use layout::ENTRY;
-use layout::put_entry;
+use layout::Node;
 use layout::put_node;
 use layout::put_tree;
 
@@ -28,9 +27,8 @@ pub fn insert_first(m: &mut [u32], work: &mut [u32], c: Cell, tag: u32) -> Inser
         urx: c.x + 1,
         ury: c.y + 1,
     };
-    let mut items = [0u32; ENTRY];
-    put_entry(&mut items, 0, c, tag);
-    put_node(work, 0, Polygon::of(r), 1, &items);
+    let empty = Node::empty();
+    put_node(work, 0, Polygon::of(r), empty.with_entry(c, tag));
     put_tree(m, work, 1, 1);
     Inserted::Accepted(1)
 }

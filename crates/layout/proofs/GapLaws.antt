@@ -6,15 +6,18 @@ use mathlib.Core.List.{List, [], _∷_, _++_}
 use mathlib.Core.Logic.{_⊎_, inl, inr}
 use native.Mathlib.Omega.{arith}
 use native.Mathlib.Decide.{decLt}
-use lib.ListN.{length, getD, set, take, drop, length-set, length-take, length-drop, List·getD-append}
-use lib.Seq.{getD-set-same, getD-set-other, getD-take, getD-drop, getD-at, ext-getD}
+use lib.ListN.{length, getD, set, take, drop, length-append, length-set, length-take, length-drop, List·getD-append}
+use lib.Seq.{getD-set-same, getD-set-other, getD-take, getD-drop, getD-at, getD-append-add, ext-getD}
 use Rattle.geometry.specs.Numbers.{rectAt, rectsIn}
 use Rattle.geometry.proofs.Booleans.{both, split-and}
 use Rattle.plane.specs.Lines.{CellEntry}
-use Rattle.memory.specs.Layout.{rectCount, itemCount, polygonIn, entryIn, entriesIn, childrenIn, allZero, restZero}
+use Rattle.memory.specs.Layout.{part, rectCount, itemCount, polygonIn, entryIn, entriesIn, childrenIn, allZero, restZero}
 use Rattle.layout.specs.Nodes.{NodePart}
 use Rattle.memory.proofs.ReadingLaws.{entries-length, zero-at}
 use Rattle.layout.specs.Gap.{withoutAt, MovedDown, ItemIn, ItemDropped, EntryDropped, BranchDropped}
+use Rattle.layout.specs.declared.node.Node.{Node}
+use Rattle.layout.specs.Loaded.{nodeIn, withNode, ItemOut}
+use Rattle.layout.specs.PartSet.{setPart, EntryDroppedAt, BranchDroppedAt}
 use Rattle.layout.proofs.GapLists.{zeros-of, length-without, without-before, without-behind}
 
 -- rectangles depend on their own numbers alone
@@ -209,3 +212,84 @@ module _ (i : ℕ) (p q : List ℕ) (h : ItemIn i p) where
 
     pub node-dropped : BranchDropped i p (set q 1 (itemCount p - 1))
     node-dropped = record { item = node-item; children = rw (node-taken .count) node-children }
+
+-- A node's items moved down by value, and stored to its part.
+module _ (w from end : ℕ) (p l : List ℕ) (long : length p ≡ 128) (fits : end + w ≤ 27) (v : MovedDown w from end (take 27 (drop 66 p)) l) where
+  abbrev stored : List ℕ
+  stored = take 66 p ++ (l ++ drop 93 p)
+
+  items-length : length l ≡ 27
+  items-length = v .same-length ∙ simp (length-take, length-drop) (omega arith)
+
+  head-length : length (take 66 p) ≡ 66
+  head-length = simp length-take (omega arith)
+
+  before-items : (x : ℕ) → x < 66 → getD stored x 0 ≡ getD p x 0
+  before-items x h = let a = head-length in List·getD-append (take 66 p) _ 0 x (omega arith) ∙ getD-take 66 p x 0 h
+
+  among-items : (x : ℕ) → x < 27 → getD stored (66 + x) 0 ≡ getD l x 0
+  among-items x h =
+      let a = items-length in
+      let e : 66 + x ≡ length (take 66 p) + x = ap (λ (j : ℕ). j + x) (sym head-length) in
+      ap (λ (j : ℕ). getD stored j 0) e ∙ getD-append-add (take 66 p) (l ++ drop 93 p) x 0 ∙ List·getD-append l _ 0 x (omega arith)
+
+  behind-items : (x : ℕ) → getD stored (93 + x) 0 ≡ getD p (93 + x) 0
+  behind-items x =
+      let a = items-length in
+      let b = head-length in
+      let e : 93 + x ≡ length (take 66 p) + (length l + x) = omega arith in
+      ap (λ (j : ℕ). getD stored j 0) e ∙ getD-append-add (take 66 p) (l ++ drop 93 p) (length l + x) 0 ∙ getD-append-add l (drop 93 p) x 0 ∙ getD-drop 93 p x 0
+
+  item-of : (x : ℕ) → x < 27 → getD (take 27 (drop 66 p)) x 0 ≡ getD p (66 + x) 0
+  item-of x h = getD-take 27 (drop 66 p) x 0 h ∙ getD-drop 66 p x 0
+
+  moved-outside : (x : ℕ) → (x < 66 + from) ⊎ (66 + end ≤ x) → Dec (x < 66) → Dec (x < 93) → getD stored x 0 ≡ getD p x 0
+  moved-outside x o (yes a) b = before-items x a
+  moved-outside x o (no a) (yes b) =
+      let e : 66 + (x - 66) ≡ x = omega arith in
+      ap (λ (j : ℕ). getD stored j 0) (sym e) ∙ among-items (x - 66) (omega arith) ∙ v .outside (x - 66) (side o) ∙ item-of (x - 66) (omega arith)
+      ∙ ap (λ (j : ℕ). getD p j 0) e
+    where
+      side : (x < 66 + from) ⊎ (66 + end ≤ x) → (x - 66 < from) ⊎ (end ≤ x - 66)
+      side (inl c) = inl (omega arith)
+      side (inr c) = inr (omega arith)
+  moved-outside x o (no a) (no b) =
+      let e : 93 + (x - 93) ≡ x = omega arith in
+      ap (λ (j : ℕ). getD stored j 0) (sym e) ∙ behind-items (x - 93) ∙ ap (λ (j : ℕ). getD p j 0) e
+
+  moved-stored : MovedDown w (66 + from) (66 + end) p stored
+  moved-stored = record {
+    same-length = let a = items-length in simp (length-append, length-take, length-drop) (omega arith);
+    outside = λ x o. moved-outside x o (decLt x 66) (decLt x 93);
+    inside = λ x a b.
+        let e : 66 + (x - 66) ≡ x = omega arith in
+        let f : 66 + (x - 66 + w) ≡ x + w = omega arith in
+        ap (λ (j : ℕ). getD stored j 0) (sym e) ∙ among-items (x - 66) (omega arith) ∙ v .inside (x - 66) (omega arith) (omega arith)
+        ∙ item-of (x - 66 + w) (omega arith) ∙ ap (λ (j : ℕ). getD p j 0) f;
+  }
+
+-- The node at part k without its i-th item, stored in its part.
+module _ (m : List ℕ) (k i : ℕ) (n n′ : Node) (h : ItemIn i (part m k)) (q : n ≡ nodeIn (part m k)) where
+  abbrev p : List ℕ
+  p = part m k
+
+  out-of : (w : ℕ) → ItemOut w i n n′ → (n′ .count ≡ itemCount p - 1) × MovedDown w (w * i) (w * itemCount p) (take 27 (drop 66 p)) (n′ .items)
+  unfolding nodeIn
+  out-of w o = let c : ItemOut w i (nodeIn p) n′ = rw q at o in (c .count, c .items)
+
+  pub entry-out : (m′ : List ℕ) → ItemOut 3 i n n′ → m′ ≡ setPart m k (withNode p n′) → EntryDroppedAt m k i m′
+  unfolding withNode
+  entry-out m′ o e =
+      let c = out-of 3 o in
+      let f = h .node .few-items in
+      let v = moved-stored 3 (3 * i) (3 * itemCount p) p (n′ .items) (h .node .length-is) (omega arith) (c .1) in
+      record { new = withNode p n′; entry = rw (c .0) (leaf-dropped i p _ h v); memory = e }
+
+  pub child-out : (m′ : List ℕ) → ItemOut 1 i n n′ → m′ ≡ setPart m k (withNode p n′) → BranchDroppedAt m k i m′
+  unfolding withNode
+  child-out m′ o e =
+      let c = out-of 1 o in
+      let f = h .node .few-items in
+      let one : (j : ℕ) → 66 + 1 * j ≡ 66 + j = λ j. omega arith in
+      let v = moved-stored 1 (1 * i) (1 * itemCount p) p (n′ .items) (h .node .length-is) (omega arith) (c .1) in
+      record { new = withNode p n′; branch = rw (c .0) (node-dropped i p _ h (rw (one i, one (itemCount p)) at v)); memory = e }

@@ -12,3 +12,4 @@ pub mod WritingLaws
 pub mod PartCopies
 pub mod NodeStore
 pub mod ItemLaws
+pub mod LoadedLaws

@@ -5,13 +5,15 @@ use mathlib.Core.List.{List, [], _∷_, _++_, append-assoc, append-nil}
 use native.Mathlib.Omega.{arith}
 use borrow.Rule.Slice.PartMut.{putMid, same-len-mid, mid-len}
 use lib.ListN.{length, take, drop, set, replicate, length-append, length-take, length-drop, length-replicate, replicate-append-replicate, drop-of-length-le}
-use lib.Seq.{take-at, drop-at, take-length, length-take-le}
+use lib.Seq.{take-at, drop-at, take-all, drop-drop, length-take-le}
 use Rattle.geometry.specs.declared.rect.Rect.{Rect}
 use Rattle.geometry.specs.declared.polygon.Polygon.{Polygon}
 use Rattle.geometry.specs.Numbers.{numbersOf, rectsIn, rectsOf, Appended}
 use Rattle.geometry.proofs.NumberLaws.{length-rects, length-numbers, numbers-take}
 use Rattle.memory.specs.Image.{padded, nodePart}
 use Rattle.memory.proofs.PartImage.{length-padded, part-length}
+use Rattle.layout.specs.declared.node.Node.{Node}
+use Rattle.layout.specs.Loaded.{withNode}
 use Rattle.layout.specs.Parts.{RectsStored, PartPut, PartRoom}
 
 -- a list filled up in two goes
@@ -50,27 +52,21 @@ rects-stored p l₀ l z h few a e =
       count-is = c;
     }
 
--- the items were copied behind the polygon
-items-copied : (a b : ℕ) (q items r : List ℕ) (rects : List Rect) → length rects ≤ 16 → length items ≤ 62 → q ≡ padded 126 (numbersOf rects)
-    → r ≡ take (length items) items ++ drop (length items) (take 62 (drop 64 q))
-    → putMid 66 62 (a ∷ b ∷ q) r ≡ a ∷ b ∷ (padded 64 (numbersOf rects) ++ padded 62 items)
-unfolding padded
-items-copied a b q items r rects few fit e f =
-    let u = numbersOf rects in
-    let v = length-numbers rects in
-    let l : length (padded 64 u) ≡ 64 = length-padded 64 u (omega arith) in
-    let zs : List ℕ = replicate 62 0 in
-    let w : q ≡ padded 64 u ++ zs = e ∙ padded-more 64 62 u (omega arith) in
-    let front : take 64 q ≡ padded 64 u = ap (take 64) w ∙ take-at (padded 64 u) zs 64 l in
-    let back : drop 64 q ≡ zs = ap (drop 64) w ∙ drop-at (padded 64 u) zs 64 l in
-    let t : take 62 (drop 64 q) ≡ zs = ap (take 62) back in
-    let o : drop 62 (drop 64 q) ≡ [] = ap (drop 62) back in
-    let g : r ≡ items ++ replicate (62 - length items) 0 =
-    f ∙ ap (λ (z : List ℕ). z ++ drop (length items) (take 62 (drop 64 q))) (take-length items)
-    ∙ ap (λ (z : List ℕ). items ++ z) (ap (drop (length items)) t ∙ drop-zeros (length items) 62 fit) in
-    ap (λ (z : List ℕ). a ∷ b ∷ z)
-    (ap (λ (z : List ℕ). z ++ (r ++ drop 62 (drop 64 q))) front
-    ∙ ap (λ (z : List ℕ). padded 64 u ++ z) (ap (λ (z : List ℕ). r ++ z) o ∙ append-nil r ∙ g))
+-- a node's items were copied behind the polygon, and its count was written
+pub items-stored : (p : List ℕ) (n : Node) (r : List ℕ) → length p ≡ 128 → length (n .items) ≡ 27
+    → r ≡ take 27 (n .items) ++ drop 27 (take (length p - 66) (drop 66 p)) → set (putMid 66 (length p - 66) p r) 1 (n .count) ≡ withNode p n
+unfolding withNode
+items-stored p n r h k e =
+    let l : length p - 66 ≡ 62 = omega arith in
+    let s : length (drop 66 p) ≤ 62 = simp length-drop (omega arith) in
+    let g : r ≡ n .items ++ drop 93 p =
+    e ∙ ap (λ (j : ℕ). take 27 (n .items) ++ drop 27 (take j (drop 66 p))) l
+    ∙ ap (λ (z : List ℕ). take 27 (n .items) ++ drop 27 z) (take-all 62 (drop 66 p) s)
+    ∙ ap (λ (z : List ℕ). z ++ drop 27 (drop 66 p)) (take-all 27 (n .items) (omega arith))
+    ∙ ap (λ (z : List ℕ). n .items ++ z) (drop-drop 27 66 p) in
+    ap (λ (z : List ℕ). set z 1 (n .count))
+    (ap (λ (j : ℕ). putMid 66 j p r) l ∙ ap (λ (z : List ℕ). take 66 p ++ (r ++ z)) (drop-of-length-le (drop 66 p) s)
+    ∙ ap (λ (z : List ℕ). take 66 p ++ z) (append-nil r ∙ g))
 
 -- the rectangles were written behind the two counts
 rects-written : (a b : ℕ) (l q : List ℕ) → length l ≡ 126 → putMid 2 126 (a ∷ b ∷ l) q ≡ a ∷ b ∷ q
@@ -84,29 +80,30 @@ abbrev withRects : List ℕ → List ℕ → List ℕ
 withRects p₀ q = putMid 2 (length p₀ - 2) p₀ q
 
 -- the whole part
-pub node-stored : (p₀ : List ℕ) (p : Polygon) (count : ℕ) (items q r : List ℕ) → length p₀ ≡ 128 → p .count ≤ 16 → length items ≤ 62 → RectsStored p q
-    → r ≡ take (length items) items ++ drop (length items) (take (length (withRects p₀ q) - 66) (drop 66 (withRects p₀ q)))
-    → set (set (putMid 66 (length (withRects p₀ q) - 66) (withRects p₀ q) r) 0 (p .count)) 1 count ≡ nodePart (rectsOf p) count items
-unfolding nodePart
-node-stored [] p count items q r h few fit x e = absurd (omega arith)
-node-stored (a ∷ []) p count items q r h few fit x e = absurd (omega arith)
-node-stored (a ∷ b ∷ l) p count items q r h few fit x e =
-    let n = p .count in
-    let m : List ℕ = withRects (a ∷ b ∷ l) q in
+pub node-stored : (p₀ : List ℕ) (p : Polygon) (n : Node) (q m : List ℕ) → length p₀ ≡ 128 → p .count ≤ 16 → length (n .items) ≡ 27 → RectsStored p q
+    → m ≡ withNode (withRects p₀ q) n → set m 0 (p .count) ≡ nodePart (rectsOf p) (n .count) (n .items)
+unfolding nodePart withNode padded
+node-stored [] p n q m h few fit x e = absurd (omega arith)
+node-stored (a ∷ []) p n q m h few fit x e = absurd (omega arith)
+node-stored (a ∷ b ∷ l) p n q m h few fit x e =
+    let u = numbersOf (rectsOf p) in
+    let zs : List ℕ = replicate 62 0 in
     let i : length (a ∷ b ∷ l) - 2 ≡ 126 = omega arith in
     let j : length l ≡ 126 = omega arith in
-    let w : m ≡ a ∷ b ∷ q = ap (λ (k : ℕ). putMid 2 k (a ∷ b ∷ l) q) i ∙ rects-written a b l q j in
+    let w : withRects (a ∷ b ∷ l) q ≡ a ∷ b ∷ q = ap (λ (k : ℕ). putMid 2 k (a ∷ b ∷ l) q) i ∙ rects-written a b l q j in
     let c = x .count-is in
     let v = length-numbers (rectsOf p) in
-    let s : length q ≡ 126 = ap length (x .list) ∙ length-padded 126 (numbersOf (rectsOf p)) (omega arith) in
-    let y : length m ≡ suc (suc (length q)) = ap length w in
-    let k : length m - 66 ≡ 62 = omega arith in
-    let f : r ≡ take (length items) items ++ drop (length items) (take 62 (drop 64 q)) =
-    e ∙ ap (λ (o : ℕ). take (length items) items ++ drop (length items) (take o (drop 66 m))) k
-    ∙ ap (λ (z : List ℕ). take (length items) items ++ drop (length items) (take 62 (drop 66 z))) w in
-    ap (λ (z : List ℕ). set (set z 0 n) 1 count)
-    (ap (λ (o : ℕ). putMid 66 o m r) k ∙ ap (λ (z : List ℕ). putMid 66 62 z r) w ∙ items-copied a b q items r (rectsOf p) (omega arith) fit (x .list) f)
-    ∙ ap (λ (o : ℕ). o ∷ count ∷ (padded 64 (numbersOf (rectsOf p)) ++ padded 62 items)) (sym c)
+    let y : q ≡ padded 64 u ++ zs = x .list ∙ padded-more 64 62 u (omega arith) in
+    let o : length (padded 64 u) ≡ 64 = length-padded 64 u (omega arith) in
+    let front : take 64 q ≡ padded 64 u = ap (take 64) y ∙ take-at (padded 64 u) zs 64 o in
+    let back : drop 64 q ≡ zs = ap (drop 64) y ∙ drop-at (padded 64 u) zs 64 o in
+    let rest : drop 91 q ≡ replicate 35 0 = sym (drop-drop 27 64 q) ∙ ap (drop 27) back in
+    let f : 62 - length (n .items) ≡ 35 = omega arith in
+    let full : n .items ++ drop 91 q ≡ padded 62 (n .items) = ap (λ (z : List ℕ). n .items ++ z) rest ∙ ap (λ (k : ℕ). n .items ++ replicate k 0) (sym f) in
+    ap (λ (z : List ℕ). set z 0 (p .count)) (e ∙ ap (λ (z : List ℕ). withNode z n) w)
+    ∙ ap (λ (z : List ℕ). p .count ∷ n .count ∷ (z ++ (n .items ++ drop 91 q))) front
+    ∙ ap (λ (z : List ℕ). p .count ∷ n .count ∷ (padded 64 u ++ z)) full
+    ∙ ap (λ (k : ℕ). k ∷ n .count ∷ (padded 64 u ++ padded 62 (n .items))) (sym c)
 
 -- a part of the work area that was lent and came back with 128 other numbers
 pub part-put : (w : List ℕ) (next : ℕ) (p w₁ : List ℕ) → 64 + 128 * (next + 1) ≤ length w → length p ≡ 128
@@ -125,10 +122,10 @@ part-put w next p w₁ fits l e =
     }
 
 -- the part came back to the work area
-pub node-put : (w : List ℕ) (next : ℕ) (p : Polygon) (count : ℕ) (items q : List ℕ) → PartRoom w next → p .count ≤ 16 → length items ≤ 62
-    → q ≡ nodePart (rectsOf p) count items
-    → PartPut w next (nodePart (rectsOf p) count items) (putMid (64 + 128 * next) (64 + 128 * next + 128 - (64 + 128 * next)) w q)
-node-put w next p count items q x few fit e =
+pub node-put : (w : List ℕ) (next : ℕ) (p : Polygon) (n : Node) (q : List ℕ) → PartRoom w next → p .count ≤ 16 → length (n .items) ≡ 27
+    → q ≡ nodePart (rectsOf p) (n .count) (n .items)
+    → PartPut w next (nodePart (rectsOf p) (n .count) (n .items)) (putMid (64 + 128 * next) (64 + 128 * next + 128 - (64 + 128 * next)) w q)
+node-put w next p n q x few fit e =
     let l : length (rectsOf p) ≤ 16 = simp length-take (omega arith) in
-    part-put w next (nodePart (rectsOf p) count items) _ (x .fits) (part-length (rectsOf p) count items l fit)
+    part-put w next (nodePart (rectsOf p) (n .count) (n .items)) _ (x .fits) (part-length (rectsOf p) (n .count) (n .items) l (omega arith))
     (ap (λ (z : List ℕ). putMid (64 + 128 * next) (64 + 128 * next + 128 - (64 + 128 * next)) w z) e)

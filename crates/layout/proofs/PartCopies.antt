@@ -1,4 +1,4 @@
--- A node's part that was copied: it is the image of its own polygon, count and items, and of other items where these are replaced.
+-- A node's part that was copied: it is the image of its own polygon, count and items, and of another node's where that is stored in it.
 use Prim.Native.Nat.{ℕ, zero, suc, _+_, _*_, _-_, _≤_, _<_}
 use mathlib.Core.Path.{_≡_, refl, sym, ap, _∙_}
 use mathlib.Core.Bool.{true}
@@ -7,15 +7,19 @@ use native.Mathlib.Omega.{arith}
 use borrow.Author.Tests.{eqb-true}
 use borrow.Rule.Slice.PartMut.{putMid}
 use lib.Dec.{eqb}
-use lib.ListN.{length, take, drop, getD, replicate, length-append, length-take, length-drop, take-append-drop, drop-of-length-le}
-use lib.Seq.{take-all, take-length, take-add, drop-cons, drop-drop}
+use lib.ListN.{length, take, drop, getD, set, replicate, length-append, length-set, length-take, length-drop, take-append-drop, drop-of-length-le}
+use lib.Seq.{take-all, take-add, drop-cons, drop-drop, getD-drop}
 use Rattle.geometry.proofs.Booleans.{split-and}
 use Rattle.geometry.specs.Numbers.{numbersOf}
 use Rattle.geometry.proofs.NumberLaws.{length-rects, numbers-take}
 use Rattle.tree.proofs.Lists.{flatMap-append, flatMap-one}
 use Rattle.memory.specs.Layout.{allZero, rectCount, itemCount, polygonIn, entryIn, entriesIn, restZero}
 use Rattle.memory.specs.Image.{padded, entryNumbers, nodePart}
-use Rattle.layout.specs.Parts.{PartPut, PartRoom, withItems}
+use Rattle.memory.proofs.ReadingLaws.{zero-at}
+use Rattle.layout.specs.declared.node.Node.{Node}
+use Rattle.layout.specs.Loaded.{withNode}
+use Rattle.layout.specs.Parts.{PartPut, PartRoom}
+use Rattle.layout.proofs.GapLists.{zeros-of}
 use Rattle.layout.proofs.NodeStore.{part-put}
 
 -- a list of zeros
@@ -81,33 +85,44 @@ module _ (w : ℕ) (p : List ℕ) (long : length p ≡ 128) (few : rectCount p �
       ap (padded 64) (numbers-take (drop 2 p) (rectCount p) (omega arith))
       ∙ padded-take 64 (4 * rectCount p) (drop 2 p) (omega arith) (omega arith) (rw (drop-drop (4 * rectCount p) 2 p) (rest-parts .0))
 
-  -- other items, filled up
-  items-padded : (items : List ℕ) → length items ≡ w * itemCount p → padded 62 items ≡ items ++ drop (66 + length items) p
-  items-padded items e = padded-by 62 items (drop (66 + length items) p) (simp length-drop (omega arith)) (rw e (rest-parts .1))
+  -- its unused numbers behind nine entries
+  behind-zero : w * itemCount p ≤ 27 → allZero (drop 93 p) ≡ true
+  behind-zero h = zeros-of (drop 93 p) (λ x y.
+      let e : 66 + w * itemCount p + (27 - w * itemCount p + x) ≡ 93 + x = omega arith in
+      getD-drop 93 p x 0 ∙ ap (λ (j : ℕ). getD p j 0) (sym e) ∙ sym (getD-drop (66 + w * itemCount p) p (27 - w * itemCount p + x) 0)
+      ∙ zero-at (drop (66 + w * itemCount p) p) (27 - w * itemCount p + x) (rest-parts .1))
 
-  -- the part with other items is the image of its polygon, its count and these items
-  pub items-replaced : (items : List ℕ) → length items ≡ w * itemCount p → withItems p items ≡ nodePart (polygonIn p) (itemCount p) items
-  unfolding withItems nodePart
-  items-replaced items e =
-      sym (part-whole p (items ++ drop (66 + length items) p) (omega arith))
-      ∙ ap (λ (z : List ℕ). getD p 0 0 ∷ getD p 1 0 ∷ (z ++ (items ++ drop (66 + length items) p))) (sym polygon-padded)
-      ∙ ap (λ (z : List ℕ). getD p 0 0 ∷ getD p 1 0 ∷ (padded 64 (numbersOf (polygonIn p)) ++ z)) (sym (items-padded items e))
+  -- the part with another node in it is the image of its polygon, and of that node's count and items
+  pub node-replaced : w * itemCount p ≤ 27 → (n : Node) → length (n .items) ≡ 27 → withNode p n ≡ nodePart (polygonIn p) (n .count) (n .items)
+  unfolding withNode nodePart
+  node-replaced h n k =
+      let q : padded 62 (n .items) ≡ n .items ++ drop 93 p = padded-by 62 (n .items) (drop 93 p) (simp length-drop (omega arith)) (behind-zero h) in
+      ap (λ (z : List ℕ). set z 1 (n .count)) (sym (part-whole p (n .items ++ drop 93 p) (omega arith)))
+      ∙ ap (λ (z : List ℕ). getD p 0 0 ∷ n .count ∷ (z ++ (n .items ++ drop 93 p))) (sym polygon-padded)
+      ∙ ap (λ (z : List ℕ). getD p 0 0 ∷ n .count ∷ (padded 64 (numbersOf (polygonIn p)) ++ z)) (sym q)
+      ∙ ap (λ (j : ℕ). j ∷ n .count ∷ (padded 64 (numbersOf (polygonIn p)) ++ padded 62 (n .items))) (sym (length-rects (drop 2 p) (rectCount p)))
+
+  -- the part itself is the image of its polygon, its count and the numbers of its items
+  part-image : (items : List ℕ) → items ≡ take (w * itemCount p) (drop 66 p) → p ≡ nodePart (polygonIn p) (itemCount p) items
+  unfolding nodePart
+  part-image items e =
+      let l : length (drop 66 p) ≡ 62 = simp length-drop (omega arith) in
+      let s : length (drop 66 p) ≤ 62 = omega arith in
+      let z : allZero (take (62 - w * itemCount p) (drop (w * itemCount p) (drop 66 p))) ≡ true =
+      ap (λ (z : List ℕ). allZero (take (62 - w * itemCount p) z)) (drop-drop (w * itemCount p) 66 p)
+      ∙ ap allZero (take-all (62 - w * itemCount p) (drop (66 + w * itemCount p) p) (simp length-drop (omega arith))) ∙ rest-parts .1 in
+      let q : padded 62 items ≡ drop 66 p =
+      ap (padded 62) e ∙ padded-take 62 (w * itemCount p) (drop 66 p) fits (omega arith) z ∙ take-all 62 (drop 66 p) s in
+      sym (take-append-drop 66 p) ∙ sym (part-whole p (drop 66 p) (omega arith))
+      ∙ ap (λ (z : List ℕ). getD p 0 0 ∷ getD p 1 0 ∷ (z ++ drop 66 p)) (sym polygon-padded)
+      ∙ ap (λ (z : List ℕ). getD p 0 0 ∷ getD p 1 0 ∷ (padded 64 (numbersOf (polygonIn p)) ++ z)) (sym q)
       ∙ ap (λ (j : ℕ). j ∷ getD p 1 0 ∷ (padded 64 (numbersOf (polygonIn p)) ++ padded 62 items)) (sym (length-rects (drop 2 p) (rectCount p)))
 
 -- a leaf's part is the image of its polygon and its entries
 pub leaf-image : (p : List ℕ) → length p ≡ 128 → rectCount p ≤ 16 → itemCount p ≤ 8 → restZero 3 p ≡ true
     → p ≡ nodePart (polygonIn p) (itemCount p) (flatMap entryNumbers (entriesIn p (itemCount p)))
-unfolding withItems
 leaf-image p long few items rest =
-    let n = itemCount p in
-    let e : flatMap entryNumbers (entriesIn p n) ≡ take (3 * n) (drop 66 p) = entries-numbers p n (omega arith) in
-    let l : length (take (3 * n) (drop 66 p)) ≡ 3 * n = simp (length-take, length-drop) (omega arith) in
-    let same : withItems p (take (3 * n) (drop 66 p)) ≡ p =
-    ap (λ (j : ℕ). take 66 p ++ (take (3 * n) (drop 66 p) ++ drop (66 + j) p)) l
-    ∙ ap (λ (z : List ℕ). take 66 p ++ (take (3 * n) (drop 66 p) ++ z)) (sym (drop-drop (3 * n) 66 p))
-    ∙ ap (λ (z : List ℕ). take 66 p ++ z) (take-append-drop (3 * n) (drop 66 p)) ∙ take-append-drop 66 p in
-    sym same ∙ items-replaced 3 p long few (omega arith) rest (take (3 * n) (drop 66 p)) l
-    ∙ ap (nodePart (polygonIn p) n) (sym e)
+    part-image 3 p long few (omega arith) rest _ (entries-numbers p (itemCount p) (omega arith))
 
 -- a part after the numbers of another were copied into it
 part-copied : (p q : List ℕ) → length p ≡ 128 → length q ≡ 128 → take 128 p ++ drop 128 q ≡ p
@@ -116,24 +131,9 @@ part-copied p q h k =
     let b : length q ≤ 128 = omega arith in
     ap (λ (z : List ℕ). z ++ drop 128 q) (take-all 128 p a) ∙ ap (λ (z : List ℕ). p ++ z) (drop-of-length-le q b) ∙ append-nil p
 
--- and after other items were copied behind its polygon
-pub items-copied : (p q items q₁ r : List ℕ) → length p ≡ 128 → length q ≡ 128 → length items ≤ 62 → q₁ ≡ take 128 p ++ drop 128 q
-    → r ≡ take (length items) items ++ drop (length items) (take (length q₁ - 66) (drop 66 q₁))
-    → putMid 66 (length q₁ - 66) q₁ r ≡ withItems p items
-unfolding withItems
-items-copied p q items q₁ r h k fit e f =
-    let w : q₁ ≡ p = e ∙ part-copied p q h k in
-    let l : length q₁ - 66 ≡ 62 = let y = ap length w in omega arith in
-    let s : length (drop 66 p) ≤ 62 = simp length-drop (omega arith) in
-    let g : r ≡ items ++ drop (66 + length items) p =
-    f ∙ ap (λ (j : ℕ). take (length items) items ++ drop (length items) (take j (drop 66 q₁))) l
-    ∙ ap (λ (z : List ℕ). take (length items) items ++ drop (length items) (take 62 (drop 66 z))) w
-    ∙ ap (λ (z : List ℕ). take (length items) items ++ drop (length items) z) (take-all 62 (drop 66 p) s)
-    ∙ ap (λ (z : List ℕ). take (length items) items ++ z) (drop-drop (length items) 66 p)
-    ∙ ap (λ (z : List ℕ). z ++ drop (66 + length items) p) (take-length items) in
-    ap (λ (j : ℕ). putMid 66 j q₁ r) l ∙ ap (λ (z : List ℕ). putMid 66 62 z r) w
-    ∙ ap (λ (z : List ℕ). take 66 p ++ (r ++ z)) (drop-of-length-le (drop 66 p) s)
-    ∙ ap (λ (z : List ℕ). take 66 p ++ z) (append-nil r ∙ g)
+-- and after another node was stored in it
+pub node-copied : (p q q₁ r : List ℕ) (n : Node) → length p ≡ 128 → length q ≡ 128 → q₁ ≡ take 128 p ++ drop 128 q → r ≡ withNode q₁ n → r ≡ withNode p n
+node-copied p q q₁ r n h k e f = f ∙ ap (λ (z : List ℕ). withNode z n) (e ∙ part-copied p q h k)
 
 -- the copies in the work area
 module _ (w : List ℕ) (next : ℕ) (p q : List ℕ) (room : PartRoom w next) (long : length p ≡ 128) where
@@ -146,10 +146,10 @@ module _ (w : List ℕ) (next : ℕ) (p q : List ℕ) (room : PartRoom w next) (
       part-put w next p _ f long
       (ap (λ (z : List ℕ). putMid (64 + 128 * next) (64 + 128 * next + 128 - (64 + 128 * next)) w z) (e ∙ part-copied p old long g))
 
-  pub items-put : (items : List ℕ) → length items ≤ 62 → q ≡ withItems p items
-      → PartPut w next (withItems p items) (putMid (64 + 128 * next) (64 + 128 * next + 128 - (64 + 128 * next)) w q)
-  unfolding withItems
-  items-put items fit e =
+  pub copied-put : (n : Node) → length (n .items) ≡ 27 → q ≡ withNode p n
+      → PartPut w next (withNode p n) (putMid (64 + 128 * next) (64 + 128 * next + 128 - (64 + 128 * next)) w q)
+  unfolding withNode
+  copied-put n k e =
       let f = room .fits in
-      let l : length (withItems p items) ≡ 128 = simp (length-append, length-take, length-drop) (omega arith) in
-      part-put w next (withItems p items) _ f l (ap (λ (z : List ℕ). putMid (64 + 128 * next) (64 + 128 * next + 128 - (64 + 128 * next)) w z) e)
+      let l : length (withNode p n) ≡ 128 = simp (length-set, length-append, length-take, length-drop) (omega arith) in
+      part-put w next (withNode p n) _ f l (ap (λ (z : List ℕ). putMid (64 + 128 * next) (64 + 128 * next + 128 - (64 + 128 * next)) w z) e)

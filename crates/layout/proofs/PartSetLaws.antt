@@ -10,8 +10,9 @@ use lib.ListN.{length, getD, take, drop, take-append-drop, length-append, length
 use lib.Seq.{take-at, drop-at, take-append-le, drop-append-le, drop-append-add, drop-drop, length-take-le, getD-take}
 use Rattle.memory.specs.Layout.{part, inUse, onesOf, bitsSet}
 use Rattle.layout.specs.Nodes.{PartIn}
-use Rattle.layout.specs.Gap.{ItemIn, EntryDropped, BranchDropped}
-use Rattle.layout.specs.PartSet.{setPart, EntryDroppedAt, BranchDroppedAt}
+use Rattle.layout.specs.declared.node.Node.{Node}
+use Rattle.layout.specs.Loaded.{withNode}
+use Rattle.layout.specs.PartSet.{setPart}
 use Rattle.layout.proofs.NodeLaws.{part-is}
 
 -- 128 numbers before the place where a memory changed
@@ -95,16 +96,7 @@ pub put-part : (m : List ℕ) (k : ℕ) (p : List ℕ) → putMid (64 + 128 * k)
 unfolding setPart
 put-part m k p = let e : 64 + 128 * k + 128 - (64 + 128 * k) ≡ 128 = omega arith in ap (λ (n : ℕ). putMid (64 + 128 * k) n m p) e
 
--- part k is lent on, and an item is taken out of it
-module _ (m : List ℕ) (k i : ℕ) where
-  pub lent-item : ItemIn i (part m k) → ItemIn i (take (64 + 128 * k + 128 - (64 + 128 * k)) (drop (64 + 128 * k) m))
-  lent-item v = rw (part-is m k) v
-
-  module _ (p : List ℕ) where
-    pub entry-dropped-at : EntryDropped i (take (64 + 128 * k + 128 - (64 + 128 * k)) (drop (64 + 128 * k) m)) p
-        → EntryDroppedAt m k i (putMid (64 + 128 * k) (64 + 128 * k + 128 - (64 + 128 * k)) m p)
-    entry-dropped-at v = record { new = p; entry = rw (part-is m k) at v; memory = put-part m k p }
-
-    pub branch-dropped-at : BranchDropped i (take (64 + 128 * k + 128 - (64 + 128 * k)) (drop (64 + 128 * k) m)) p
-        → BranchDroppedAt m k i (putMid (64 + 128 * k) (64 + 128 * k + 128 - (64 + 128 * k)) m p)
-    branch-dropped-at v = record { new = p; branch = rw (part-is m k) at v; memory = put-part m k p }
+-- part k is lent on, and a node is stored in it
+pub node-set : (m : List ℕ) (k : ℕ) (n : Node) (p : List ℕ) → p ≡ withNode (take (64 + 128 * k + 128 - (64 + 128 * k)) (drop (64 + 128 * k) m)) n
+    → putMid (64 + 128 * k) (64 + 128 * k + 128 - (64 + 128 * k)) m p ≡ setPart m k (withNode (part m k) n)
+node-set m k n p e = put-part m k p ∙ ap (setPart m k) (e ∙ ap (λ (q : List ℕ). withNode q n) (part-is m k))

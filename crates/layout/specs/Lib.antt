@@ -4,3 +4,4 @@ pub mod PartSet
 pub mod Writing
 pub mod Parts
 pub mod Items
+pub mod Loaded

@@ -21,7 +21,3 @@ pub record PartPut (w : List ℕ) (next : ℕ) (p : List ℕ) (w' : List ℕ) : 
 pub record PartRoom (w : List ℕ) (next : ℕ) : Type 0 where
   pub fits : 64 + 128 * (next + 1) ≤ length w
   pub small : length w ≤ 32832
-
--- a part with other numbers for its items, as many as they are
-unfoldable pub withItems : List ℕ → List ℕ → List ℕ
-withItems p items = take 66 p ++ (items ++ drop (66 + length items) p)

@@ -5,9 +5,9 @@ ghost use lib.ListN.{length};
 ghost use Rattle.memory.specs.Layout.{entryIn};
 ghost use Rattle.layout.specs.Nodes.{IsPart};
 ghost use Rattle.layout.specs.Items.{putEntry, EntryPut};
-use crate::node::entry_cell;
-use crate::node::entry_tag;
 use crate::numbers::ENTRY;
+use crate::reading::entry_cell;
+use crate::reading::entry_tag;
 use geometry::Cell;
 
 // Writes an entry at the at-th place of the list.

@@ -1,100 +1,114 @@
-// Reading a node: its part, and what stands in it. Nothing is copied but the number or the cell that is asked for.
+// A node by value: loaded from its part, changed, and stored again (store.rt).
+ghost use mathlib.Core.List.{[]};
 ghost use mathlib.Core.Path.{_≡_};
-ghost use Prim.Native.Nat.{_+_, _≤_, _<_};
-ghost use Rattle.memory.specs.Layout.{part, rectCount, itemCount, entryIn, childrenIn, rectNumbers};
-ghost use Rattle.layout.specs.Nodes.{IsPart, PartIn, childIn, countAt, childAt};
+ghost use Prim.Native.Nat.{_≤_, _<_};
+ghost use Rattle.memory.specs.Layout.{part};
+ghost use Rattle.layout.specs.Loaded.{nodeOf, nodeIn, withEntry, withChild, ItemOut};
+ghost use Rattle.layout.specs.Nodes.{IsPart, PartIn};
+use crate::gap::move_down;
+use crate::items::put_entry;
+use crate::numbers::CHILD;
 use crate::numbers::ENTRY;
-use crate::numbers::HEAD;
 use crate::numbers::ITEM_COUNT;
+use crate::numbers::ITEM_NUMBERS;
 use crate::numbers::ITEMS;
-use crate::numbers::PART;
-use crate::numbers::RECTS;
+use crate::reading::part_at;
 use geometry::Cell;
+use geometry::copy;
 
-// The part of the node with the number k.
-pub fn part_at(m: &[u32], k: u32) -> &[u32]
-    requires { ⌜ PartIn (now m) k ⌝ }
-    ensures { λ p. ⌜ now p ≡ part (now (m .entry)) k ⌝ }
-    ensures { λ p. ⌜ IsPart (now p) ⌝ }
-{
-    let a = HEAD + PART * (k as usize);
-    let e = a + PART;
-    &m[a..e]
+// How many entries or branches a node has, and their numbers as a part has them, zeros behind them. There is room for nine
+// entries, which a leaf has before it is split. A node's polygon is the one its branch gives (document 01): it is not
+// part of the value, and is read where it stands.
+pub struct Node {
+    pub count: u32,
+    pub items: [u32; 27],
 }
 
-// How many rectangles its polygon has.
-pub fn rect_count(p: &[u32]) -> u32
-    requires { ⌜ IsPart (now p) ⌝ }
-    ensures { λ n. ⌜ n ≡ rectCount (now (p .entry)) ⌝ }
-{
-    p[0]
-}
+impl Node {
+    // Without items.
+    pub fn empty() -> Node
+        ensures { λ n. ⌜ n ≡ nodeOf 0 [] ⌝ }
+    {
+        Node {
+            count: 0,
+            items: [0u32; ITEM_NUMBERS],
+        }
+    }
 
-// The numbers of a part from its rectangles on, four a rectangle.
-pub fn rects(p: &[u32]) -> &[u32]
-    requires { ⌜ IsPart (now p) ⌝ }
-    ensures { λ r. ⌜ now r ≡ rectNumbers (now (p .entry)) ⌝ }
-{
-    &p[RECTS..]
-}
+    // The node of a part.
+    fn load(p: &[u32]) -> Node
+        requires { ⌜ IsPart (now p) ⌝ }
+        ensures { λ n. ⌜ n ≡ nodeIn (now (p .entry)) ⌝ }
+    {
+        let mut items = [0u32; ITEM_NUMBERS];
+        copy(&p[ITEMS..], ITEM_NUMBERS, &mut items);
+        Node {
+            count: p[ITEM_COUNT],
+            items,
+        }
+    }
 
-// How many items it has: entries, or children.
-pub fn item_count(p: &[u32]) -> u32
-    requires { ⌜ IsPart (now p) ⌝ }
-    ensures { λ n. ⌜ n ≡ itemCount (now (p .entry)) ⌝ }
-{
-    p[ITEM_COUNT]
-}
+    // A leaf with one more entry, behind the others.
+    pub fn with_entry(self, c: Cell, tag: u32) -> Node
+        requires { ⌜ self .count < 9 ⌝ }
+        ensures { λ n. ⌜ n ≡ withEntry self (record { cell = c; tag = tag }) ⌝ }
+    {
+        let at = self.count as usize;
+        let mut items = self.items;
+        put_entry(&mut items, at, c, tag);
+        Node {
+            count: self.count + 1,
+            items,
+        }
+    }
 
-// The cell of the i-th entry of a leaf.
-pub fn entry_cell(p: &[u32], i: usize) -> Cell
-    requires { ⌜ IsPart (now p) × (i < 8) ⌝ }
-    ensures { λ c. ⌜ c ≡ entryIn (now (p .entry)) i .cell ⌝ }
-{
-    let at = ITEMS + ENTRY * i;
-    Cell {
-        x: p[at],
-        y: p[at + 1],
+    // A routing node with one more child, behind the others, by its part number.
+    pub fn with_child(self, k: u32) -> Node
+        requires { ⌜ self .count < 9 ⌝ }
+        ensures { λ n. ⌜ n ≡ withChild self k ⌝ }
+    {
+        let at = self.count as usize;
+        let mut items = self.items;
+        items[at] = k;
+        Node {
+            count: self.count + 1,
+            items,
+        }
+    }
+
+    // A leaf without its i-th entry: the later ones move down.
+    pub fn without_entry(self, i: usize) -> Node
+        requires { ⌜ (i < self .count) × (self .count ≤ 8) ⌝ }
+        ensures { λ n. ⌜ ItemOut 3 i self n ⌝ }
+    {
+        let n = self.count as usize;
+        let mut items = self.items;
+        move_down(&mut items, ENTRY, ENTRY * i, ENTRY * n);
+        Node {
+            count: self.count - 1,
+            items,
+        }
+    }
+
+    // A routing node without its i-th child.
+    pub fn without_child(self, i: usize) -> Node
+        requires { ⌜ (i < self .count) × (self .count ≤ 8) ⌝ }
+        ensures { λ n. ⌜ ItemOut 1 i self n ⌝ }
+    {
+        let n = self.count as usize;
+        let mut items = self.items;
+        move_down(&mut items, CHILD, CHILD * i, CHILD * n);
+        Node {
+            count: self.count - 1,
+            items,
+        }
     }
 }
 
-// Its tag.
-pub fn entry_tag(p: &[u32], i: usize) -> u32
-    requires { ⌜ IsPart (now p) × (i < 8) ⌝ }
-    ensures { λ t. ⌜ t ≡ entryIn (now (p .entry)) i .tag ⌝ }
-{
-    p[ITEMS + ENTRY * i + 2]
-}
-
-// The i-th child of a routing node, by its part number.
-fn child(p: &[u32], i: usize) -> u32
-    requires { ⌜ IsPart (now p) × (i < 8) ⌝ }
-    ensures { λ j. ⌜ j ≡ childIn (now (p .entry)) i ⌝ }
-{
-    p[ITEMS + i]
-}
-
-// The children of a routing node, by their part numbers.
-pub fn children(p: &[u32]) -> &[u32]
-    requires { ⌜ IsPart (now p) × (itemCount (now p) ≤ 62) ⌝ }
-    ensures { λ l. ⌜ now l ≡ childrenIn (now (p .entry)) ⌝ }
-{
-    let end = ITEMS + (p[ITEM_COUNT] as usize);
-    &p[ITEMS..end]
-}
-
-// How many items the node at part k has.
-pub fn count_at(m: &[u32], k: u32) -> u32
+// The node at part k.
+pub fn node_at(m: &[u32], k: u32) -> Node
     requires { ⌜ PartIn (now m) k ⌝ }
-    ensures { λ n. ⌜ n ≡ countAt (now (m .entry)) k ⌝ }
+    ensures { λ n. ⌜ n ≡ nodeIn (part (now (m .entry)) k) ⌝ }
 {
-    item_count(part_at(m, k))
-}
-
-// The i-th child of the routing node at part k.
-pub fn child_at(m: &[u32], k: u32, i: usize) -> u32
-    requires { ⌜ PartIn (now m) k × (i < 8) ⌝ }
-    ensures { λ j. ⌜ j ≡ childAt (now (m .entry)) k i ⌝ }
-{
-    child(part_at(m, k), i)
+    Node::load(part_at(m, k))
 }

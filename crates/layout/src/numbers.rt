@@ -24,6 +24,9 @@ pub const ITEMS: usize = 66;
 
 pub const ITEMS_END: usize = 90;
 
+// The numbers of a node's items by value: nine entries.
+pub const ITEM_NUMBERS: usize = 27;
+
 // The numbers that an entry takes, and a child.
 pub const ENTRY: usize = 3;
 

@@ -9,12 +9,12 @@ ghost use Rattle.memory.specs.Fanout.{fanout};
 ghost use Rattle.layout.specs.Nodes.{IsPart, NodePart};
 use crate::bits::in_use;
 use crate::head::part_count;
-use crate::node::item_count;
-use crate::node::part_at;
-use crate::node::rect_count;
 use crate::numbers::ITEMS;
 use crate::numbers::ITEMS_END;
 use crate::numbers::RECTS;
+use crate::reading::item_count;
+use crate::reading::part_at;
+use crate::reading::rect_count;
 use crate::zeros::all_zero;
 
 // Whether a part has 1 to 16 rectangles and 1 to 8 entries or branches.

@@ -3,11 +3,11 @@ ghost use Rattle.removal.specs.Below.{TakesItem, EntryTaken, BranchTaken
 use crate::place::child_place;
 use crate::place::entry_place;
 use geometry::Cell;
-use layout::count_at;
-use layout::drop_branch_at;
-use layout::drop_entry_at;
+use layout::Node;
+use layout::node_at;
 use layout::part_at;
 use layout::set_free;
+use layout::set_node;
 
 // Takes the i-th entry out of the leaf at part k, which is set free if it was the last. Answers whether
 // the leaf is left.
@@ -15,11 +15,12 @@ fn take_entry(m: &mut [u32], k: u32, i: usize) -> bool
     requires { ⌜ TakesItem (now m) k i ⌝ }
     ensures { λ r. ⌜ EntryTaken (now (m .entry)) k i (now (m .exit)) r ⌝ }
 {
-    if count_at(m, k) == 1 {
+    let leaf = node_at(m, k);
+    if leaf.count == 1 {
         set_free(m, k);
         return false;
     }
-    drop_entry_at(m, k, i);
+    set_node(m, k, leaf.without_entry(i));
     true
 }
 
@@ -28,11 +29,12 @@ fn take_branch(m: &mut [u32], k: u32, i: usize) -> bool
     requires { ⌜ TakesItem (now m) k i ⌝ }
     ensures { λ r. ⌜ BranchTaken (now (m .entry)) k i (now (m .exit)) r ⌝ }
 {
-    if count_at(m, k) == 1 {
+    let node = node_at(m, k);
+    if node.count == 1 {
         set_free(m, k);
         return false;
     }
-    drop_branch_at(m, k, i);
+    set_node(m, k, node.without_child(i));
     true
 }
 

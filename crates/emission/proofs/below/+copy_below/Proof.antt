@@ -1,23 +1,23 @@
--- `below::copy_below` meets its contract, with the level as its measure; its loop is in EmitLoop and CopyBelow.
+-- `below::copy_below` meets its contract, with the level as its measure; its loop is in CopyBelow.
 use native.Mathlib.Omega.{arith}
 use borrow.Author.Needs.{needs}
-use mathlib.Core.List.{[]}
 use Prim.Native.Nat.{ℕ, _<_, _-_}
+use Rattle.emission.proofs.DeepRows.{deep-fits}
+use Rattle.emission.proofs.CopyBelow.{CopyLoop, copy-leaf-room, copy-leaf, copy-start, copy-few, copy-walk, copy-child-room, copy-again, copy-moved, copy-room, copy-end}
 use borrow.Fn.Kinds.{In}
 use borrow.Fn.PlainCycle.{Measures, is, falls, and}
-use Rattle.emission.proofs.DeepRows.{deep-fits}
-use Rattle.emission.proofs.EmitLoop.{EmitLoop, emit-start, child-walk, child-room, count-small}
-use Rattle.emission.proofs.CopyBelow.{copy-leaf-room, copy-leaf, copy-again, copy-moved, tops-count, tops-few, copy-room, copy-end}
 use Rattle.emission.proofs.below.copy_below.Reads as copy-below
 use Rattle.emission.proofs.below.copy_below.Kinds as copy-below-kinds
 use Rattle.emission.proofs.below.+copy_below.Lts-copy_below as copy-below-lts
 use Rattle.layout.proofs.copy_node.Reads as copy-node-reads
 use Rattle.layout.proofs.copy_part.Reads as copy-part-reads
-use Rattle.emission.proofs.below.+copy_below.{statement}
-use Rattle.emission.proofs.below.+copy_below.Tie.{close}
+use Rattle.layout.proofs.node.Node.empty.Reads as empty-reads
+use Rattle.layout.proofs.node.Node.with_child.Reads as with-child-reads
 use Rattle.layout.proofs.child_at.Reads as child-at-reads
 use Rattle.layout.proofs.count_at.Reads as count-at-reads
 use Rattle.layout.proofs.part_at.Reads as part-at-reads
+use Rattle.emission.proofs.below.+copy_below.{statement}
+use Rattle.emission.proofs.below.+copy_below.Tie.{close}
 
 abbrev μ-copy-below : Measures 2 copy-below-kinds.ps ℕ
 μ-copy-below κs a = a .1 .0
@@ -31,10 +31,10 @@ copy-below-below t =
     and 2 copy-below-kinds.ps (falls 2 copy-below-kinds.ps _<_ μ-copy-below t) copy-below.Pre
 
 abbrev copy-below-Inv-loop : copy-below-lts.InvT-loop
-copy-below-Inv-loop m level lo k work₀ next n tops₀ free₀ low₀ i₀ work tops free low i = EmitLoop level m lo k [] work₀ next n i low work free tops i
+copy-below-Inv-loop m level lo k work₀ next n node₀ free₀ low₀ i₀ work node free low i = CopyLoop level m lo k work₀ next n i low work free node
 
 abbrev copy-below-μ-loop : copy-below-lts.MeasureT-loop
-copy-below-μ-loop m level lo k work₀ next n tops₀ free₀ low₀ i₀ work tops free low i = n - i
+copy-below-μ-loop m level lo k work₀ next n node₀ free₀ low₀ i₀ work node free low i = n - i
 
 copy-below-part-at-requires : (t : ℕ) → copy-below-lts.Need-part-at-requires (
   part-at-reads.Asked,
@@ -43,10 +43,14 @@ copy-below-part-at-requires : (t : ℕ) → copy-below-lts.Need-part-at-requires
   copy-part-reads.Learnt,
   count-at-reads.Asked,
   count-at-reads.Learnt,
+  empty-reads.Asked,
+  empty-reads.Learnt,
   child-at-reads.Asked,
   child-at-reads.Learnt,
   copy-below-below t,
   copy-below.Post,
+  with-child-reads.Asked,
+  with-child-reads.Learnt,
   copy-node-reads.Asked,
   copy-node-reads.Learnt,
 ) (copy-below-at t) copy-below.Post copy-below-Inv-loop copy-below-μ-loop
@@ -59,10 +63,14 @@ copy-below-copy-part-requires : (t : ℕ) → copy-below-lts.Need-copy-part-requ
   copy-part-reads.Learnt,
   count-at-reads.Asked,
   count-at-reads.Learnt,
+  empty-reads.Asked,
+  empty-reads.Learnt,
   child-at-reads.Asked,
   child-at-reads.Learnt,
   copy-below-below t,
   copy-below.Post,
+  with-child-reads.Asked,
+  with-child-reads.Learnt,
   copy-node-reads.Asked,
   copy-node-reads.Learnt,
 ) (copy-below-at t) copy-below.Post copy-below-Inv-loop copy-below-μ-loop
@@ -75,10 +83,14 @@ copy-below-add-result : (t : ℕ) → copy-below-lts.Need-add-result (
   copy-part-reads.Learnt,
   count-at-reads.Asked,
   count-at-reads.Learnt,
+  empty-reads.Asked,
+  empty-reads.Learnt,
   child-at-reads.Asked,
   child-at-reads.Learnt,
   copy-below-below t,
   copy-below.Post,
+  with-child-reads.Asked,
+  with-child-reads.Learnt,
   copy-node-reads.Asked,
   copy-node-reads.Learnt,
 ) (copy-below-at t) copy-below.Post copy-below-Inv-loop copy-below-μ-loop
@@ -91,10 +103,14 @@ copy-below-same-length : (t : ℕ) → copy-below-lts.Need-same-length (
   copy-part-reads.Learnt,
   count-at-reads.Asked,
   count-at-reads.Learnt,
+  empty-reads.Asked,
+  empty-reads.Learnt,
   child-at-reads.Asked,
   child-at-reads.Learnt,
   copy-below-below t,
   copy-below.Post,
+  with-child-reads.Asked,
+  with-child-reads.Learnt,
   copy-node-reads.Asked,
   copy-node-reads.Learnt,
 ) (copy-below-at t) copy-below.Post copy-below-Inv-loop copy-below-μ-loop
@@ -107,10 +123,14 @@ copy-below-returns : (t : ℕ) → copy-below-lts.Need-returns (
   copy-part-reads.Learnt,
   count-at-reads.Asked,
   count-at-reads.Learnt,
+  empty-reads.Asked,
+  empty-reads.Learnt,
   child-at-reads.Asked,
   child-at-reads.Learnt,
   copy-below-below t,
   copy-below.Post,
+  with-child-reads.Asked,
+  with-child-reads.Learnt,
   copy-node-reads.Asked,
   copy-node-reads.Learnt,
 ) (copy-below-at t) copy-below.Post copy-below-Inv-loop copy-below-μ-loop
@@ -123,10 +143,14 @@ copy-below-count-at-requires : (t : ℕ) → copy-below-lts.Need-count-at-requir
   copy-part-reads.Learnt,
   count-at-reads.Asked,
   count-at-reads.Learnt,
+  empty-reads.Asked,
+  empty-reads.Learnt,
   child-at-reads.Asked,
   child-at-reads.Learnt,
   copy-below-below t,
   copy-below.Post,
+  with-child-reads.Asked,
+  with-child-reads.Learnt,
   copy-node-reads.Asked,
   copy-node-reads.Learnt,
 ) (copy-below-at t) copy-below.Post copy-below-Inv-loop copy-below-μ-loop
@@ -139,14 +163,38 @@ copy-below-cast-n : (t : ℕ) → copy-below-lts.Need-cast-n (
   copy-part-reads.Learnt,
   count-at-reads.Asked,
   count-at-reads.Learnt,
+  empty-reads.Asked,
+  empty-reads.Learnt,
   child-at-reads.Asked,
   child-at-reads.Learnt,
   copy-below-below t,
   copy-below.Post,
+  with-child-reads.Asked,
+  with-child-reads.Learnt,
   copy-node-reads.Asked,
   copy-node-reads.Learnt,
 ) (copy-below-at t) copy-below.Post copy-below-Inv-loop copy-below-μ-loop
 copy-below-cast-n t c = search needs
+
+copy-below-empty-requires : (t : ℕ) → copy-below-lts.Need-empty-requires (
+  part-at-reads.Asked,
+  part-at-reads.Learnt,
+  copy-part-reads.Asked,
+  copy-part-reads.Learnt,
+  count-at-reads.Asked,
+  count-at-reads.Learnt,
+  empty-reads.Asked,
+  empty-reads.Learnt,
+  child-at-reads.Asked,
+  child-at-reads.Learnt,
+  copy-below-below t,
+  copy-below.Post,
+  with-child-reads.Asked,
+  with-child-reads.Learnt,
+  copy-node-reads.Asked,
+  copy-node-reads.Learnt,
+) (copy-below-at t) copy-below.Post copy-below-Inv-loop copy-below-μ-loop
+copy-below-empty-requires t c κs = search needs
 
 copy-below-loop-holds : (t : ℕ) → copy-below-lts.Need-loop-holds (
   part-at-reads.Asked,
@@ -155,14 +203,18 @@ copy-below-loop-holds : (t : ℕ) → copy-below-lts.Need-loop-holds (
   copy-part-reads.Learnt,
   count-at-reads.Asked,
   count-at-reads.Learnt,
+  empty-reads.Asked,
+  empty-reads.Learnt,
   child-at-reads.Asked,
   child-at-reads.Learnt,
   copy-below-below t,
   copy-below.Post,
+  with-child-reads.Asked,
+  with-child-reads.Learnt,
   copy-node-reads.Asked,
   copy-node-reads.Learnt,
 ) (copy-below-at t) copy-below.Post copy-below-Inv-loop copy-below-μ-loop
-copy-below-loop-holds t c = search emit-start
+copy-below-loop-holds t c = search copy-start
 
 copy-below-child-at-requires : (t : ℕ) → copy-below-lts.Need-child-at-requires (
   part-at-reads.Asked,
@@ -171,10 +223,14 @@ copy-below-child-at-requires : (t : ℕ) → copy-below-lts.Need-child-at-requir
   copy-part-reads.Learnt,
   count-at-reads.Asked,
   count-at-reads.Learnt,
+  empty-reads.Asked,
+  empty-reads.Learnt,
   child-at-reads.Asked,
   child-at-reads.Learnt,
   copy-below-below t,
   copy-below.Post,
+  with-child-reads.Asked,
+  with-child-reads.Learnt,
   copy-node-reads.Asked,
   copy-node-reads.Learnt,
 ) (copy-below-at t) copy-below.Post copy-below-Inv-loop copy-below-μ-loop
@@ -187,10 +243,14 @@ copy-below-sub-copy-below : (t : ℕ) → copy-below-lts.Need-sub-copy-below (
   copy-part-reads.Learnt,
   count-at-reads.Asked,
   count-at-reads.Learnt,
+  empty-reads.Asked,
+  empty-reads.Learnt,
   child-at-reads.Asked,
   child-at-reads.Learnt,
   copy-below-below t,
   copy-below.Post,
+  with-child-reads.Asked,
+  with-child-reads.Learnt,
   copy-node-reads.Asked,
   copy-node-reads.Learnt,
 ) (copy-below-at t) copy-below.Post copy-below-Inv-loop copy-below-μ-loop
@@ -203,62 +263,58 @@ copy-below-copy-below-requires : (t : ℕ) → copy-below-lts.Need-copy-below-re
   copy-part-reads.Learnt,
   count-at-reads.Asked,
   count-at-reads.Learnt,
+  empty-reads.Asked,
+  empty-reads.Learnt,
   child-at-reads.Asked,
   child-at-reads.Learnt,
   copy-below-below t,
   copy-below.Post,
+  with-child-reads.Asked,
+  with-child-reads.Learnt,
   copy-node-reads.Asked,
   copy-node-reads.Learnt,
 ) (copy-below-at t) copy-below.Post copy-below-Inv-loop copy-below-μ-loop
-copy-below-copy-below-requires t c κs = (omega arith, (search child-walk, search child-room))
+copy-below-copy-below-requires t c κs = (omega arith, (search copy-walk, search copy-child-room))
 
-copy-below-sub-tops : (t : ℕ) → copy-below-lts.Need-sub-tops (
+copy-below-sub-with-child : (t : ℕ) → copy-below-lts.Need-sub-with-child (
   part-at-reads.Asked,
   part-at-reads.Learnt,
   copy-part-reads.Asked,
   copy-part-reads.Learnt,
   count-at-reads.Asked,
   count-at-reads.Learnt,
+  empty-reads.Asked,
+  empty-reads.Learnt,
   child-at-reads.Asked,
   child-at-reads.Learnt,
   copy-below-below t,
   copy-below.Post,
+  with-child-reads.Asked,
+  with-child-reads.Learnt,
   copy-node-reads.Asked,
   copy-node-reads.Learnt,
 ) (copy-below-at t) copy-below.Post copy-below-Inv-loop copy-below-μ-loop
-copy-below-sub-tops t c = search copy-moved
+copy-below-sub-with-child t c = search copy-moved
 
-copy-below-mul-tops : (t : ℕ) → copy-below-lts.Need-mul-tops (
+copy-below-with-child-requires : (t : ℕ) → copy-below-lts.Need-with-child-requires (
   part-at-reads.Asked,
   part-at-reads.Learnt,
   copy-part-reads.Asked,
   copy-part-reads.Learnt,
   count-at-reads.Asked,
   count-at-reads.Learnt,
+  empty-reads.Asked,
+  empty-reads.Learnt,
   child-at-reads.Asked,
   child-at-reads.Learnt,
   copy-below-below t,
   copy-below.Post,
+  with-child-reads.Asked,
+  with-child-reads.Learnt,
   copy-node-reads.Asked,
   copy-node-reads.Learnt,
 ) (copy-below-at t) copy-below.Post copy-below-Inv-loop copy-below-μ-loop
-copy-below-mul-tops t c = search needs
-
-copy-below-array-write-tops : (t : ℕ) → copy-below-lts.Need-array-write-tops (
-  part-at-reads.Asked,
-  part-at-reads.Learnt,
-  copy-part-reads.Asked,
-  copy-part-reads.Learnt,
-  count-at-reads.Asked,
-  count-at-reads.Learnt,
-  child-at-reads.Asked,
-  child-at-reads.Learnt,
-  copy-below-below t,
-  copy-below.Post,
-  copy-node-reads.Asked,
-  copy-node-reads.Learnt,
-) (copy-below-at t) copy-below.Post copy-below-Inv-loop copy-below-μ-loop
-copy-below-array-write-tops t c = search count-small
+copy-below-with-child-requires t c κs = search copy-few
 
 copy-below-add-low : (t : ℕ) → copy-below-lts.Need-add-low (
   part-at-reads.Asked,
@@ -267,10 +323,14 @@ copy-below-add-low : (t : ℕ) → copy-below-lts.Need-add-low (
   copy-part-reads.Learnt,
   count-at-reads.Asked,
   count-at-reads.Learnt,
+  empty-reads.Asked,
+  empty-reads.Learnt,
   child-at-reads.Asked,
   child-at-reads.Learnt,
   copy-below-below t,
   copy-below.Post,
+  with-child-reads.Asked,
+  with-child-reads.Learnt,
   copy-node-reads.Asked,
   copy-node-reads.Learnt,
 ) (copy-below-at t) copy-below.Post copy-below-Inv-loop copy-below-μ-loop
@@ -283,10 +343,14 @@ copy-below-add-i : (t : ℕ) → copy-below-lts.Need-add-i (
   copy-part-reads.Learnt,
   count-at-reads.Asked,
   count-at-reads.Learnt,
+  empty-reads.Asked,
+  empty-reads.Learnt,
   child-at-reads.Asked,
   child-at-reads.Learnt,
   copy-below-below t,
   copy-below.Post,
+  with-child-reads.Asked,
+  with-child-reads.Learnt,
   copy-node-reads.Asked,
   copy-node-reads.Learnt,
 ) (copy-below-at t) copy-below.Post copy-below-Inv-loop copy-below-μ-loop
@@ -299,10 +363,14 @@ copy-below-loop-less : (t : ℕ) → copy-below-lts.Need-loop-less (
   copy-part-reads.Learnt,
   count-at-reads.Asked,
   count-at-reads.Learnt,
+  empty-reads.Asked,
+  empty-reads.Learnt,
   child-at-reads.Asked,
   child-at-reads.Learnt,
   copy-below-below t,
   copy-below.Post,
+  with-child-reads.Asked,
+  with-child-reads.Learnt,
   copy-node-reads.Asked,
   copy-node-reads.Learnt,
 ) (copy-below-at t) copy-below.Post copy-below-Inv-loop copy-below-μ-loop
@@ -315,10 +383,14 @@ copy-below-loop-again : (t : ℕ) → copy-below-lts.Need-loop-again (
   copy-part-reads.Learnt,
   count-at-reads.Asked,
   count-at-reads.Learnt,
+  empty-reads.Asked,
+  empty-reads.Learnt,
   child-at-reads.Asked,
   child-at-reads.Learnt,
   copy-below-below t,
   copy-below.Post,
+  with-child-reads.Asked,
+  with-child-reads.Learnt,
   copy-node-reads.Asked,
   copy-node-reads.Learnt,
 ) (copy-below-at t) copy-below.Post copy-below-Inv-loop copy-below-μ-loop
@@ -331,46 +403,18 @@ copy-below-part-at-requires-2 : (t : ℕ) → copy-below-lts.Need-part-at-requir
   copy-part-reads.Learnt,
   count-at-reads.Asked,
   count-at-reads.Learnt,
+  empty-reads.Asked,
+  empty-reads.Learnt,
   child-at-reads.Asked,
   child-at-reads.Learnt,
   copy-below-below t,
   copy-below.Post,
+  with-child-reads.Asked,
+  with-child-reads.Learnt,
   copy-node-reads.Asked,
   copy-node-reads.Learnt,
 ) (copy-below-at t) copy-below.Post copy-below-Inv-loop copy-below-μ-loop
 copy-below-part-at-requires-2 t c κs = search needs
-
-copy-below-array-share-prefix-tops : (t : ℕ) → copy-below-lts.Need-array-share-prefix-tops (
-  part-at-reads.Asked,
-  part-at-reads.Learnt,
-  copy-part-reads.Asked,
-  copy-part-reads.Learnt,
-  count-at-reads.Asked,
-  count-at-reads.Learnt,
-  child-at-reads.Asked,
-  child-at-reads.Learnt,
-  copy-below-below t,
-  copy-below.Post,
-  copy-node-reads.Asked,
-  copy-node-reads.Learnt,
-) (copy-below-at t) copy-below.Post copy-below-Inv-loop copy-below-μ-loop
-copy-below-array-share-prefix-tops t c = search needs
-
-copy-below-slice-aggregate-copy-node : (t : ℕ) → copy-below-lts.Need-slice-aggregate-copy-node (
-  part-at-reads.Asked,
-  part-at-reads.Learnt,
-  copy-part-reads.Asked,
-  copy-part-reads.Learnt,
-  count-at-reads.Asked,
-  count-at-reads.Learnt,
-  child-at-reads.Asked,
-  child-at-reads.Learnt,
-  copy-below-below t,
-  copy-below.Post,
-  copy-node-reads.Asked,
-  copy-node-reads.Learnt,
-) (copy-below-at t) copy-below.Post copy-below-Inv-loop copy-below-μ-loop
-copy-below-slice-aggregate-copy-node t c = search tops-count
 
 copy-below-copy-node-requires : (t : ℕ) → copy-below-lts.Need-copy-node-requires (
   part-at-reads.Asked,
@@ -379,14 +423,18 @@ copy-below-copy-node-requires : (t : ℕ) → copy-below-lts.Need-copy-node-requ
   copy-part-reads.Learnt,
   count-at-reads.Asked,
   count-at-reads.Learnt,
+  empty-reads.Asked,
+  empty-reads.Learnt,
   child-at-reads.Asked,
   child-at-reads.Learnt,
   copy-below-below t,
   copy-below.Post,
+  with-child-reads.Asked,
+  with-child-reads.Learnt,
   copy-node-reads.Asked,
   copy-node-reads.Learnt,
 ) (copy-below-at t) copy-below.Post copy-below-Inv-loop copy-below-μ-loop
-copy-below-copy-node-requires t c κs = (search needs, search tops-few, search copy-room)
+copy-below-copy-node-requires t c κs = (search needs, search copy-room)
 
 copy-below-add-result-2 : (t : ℕ) → copy-below-lts.Need-add-result-2 (
   part-at-reads.Asked,
@@ -395,10 +443,14 @@ copy-below-add-result-2 : (t : ℕ) → copy-below-lts.Need-add-result-2 (
   copy-part-reads.Learnt,
   count-at-reads.Asked,
   count-at-reads.Learnt,
+  empty-reads.Asked,
+  empty-reads.Learnt,
   child-at-reads.Asked,
   child-at-reads.Learnt,
   copy-below-below t,
   copy-below.Post,
+  with-child-reads.Asked,
+  with-child-reads.Learnt,
   copy-node-reads.Asked,
   copy-node-reads.Learnt,
 ) (copy-below-at t) copy-below.Post copy-below-Inv-loop copy-below-μ-loop
@@ -411,10 +463,14 @@ copy-below-same-length-2 : (t : ℕ) → copy-below-lts.Need-same-length-2 (
   copy-part-reads.Learnt,
   count-at-reads.Asked,
   count-at-reads.Learnt,
+  empty-reads.Asked,
+  empty-reads.Learnt,
   child-at-reads.Asked,
   child-at-reads.Learnt,
   copy-below-below t,
   copy-below.Post,
+  with-child-reads.Asked,
+  with-child-reads.Learnt,
   copy-node-reads.Asked,
   copy-node-reads.Learnt,
 ) (copy-below-at t) copy-below.Post copy-below-Inv-loop copy-below-μ-loop
@@ -427,10 +483,14 @@ copy-below-returns-2 : (t : ℕ) → copy-below-lts.Need-returns-2 (
   copy-part-reads.Learnt,
   count-at-reads.Asked,
   count-at-reads.Learnt,
+  empty-reads.Asked,
+  empty-reads.Learnt,
   child-at-reads.Asked,
   child-at-reads.Learnt,
   copy-below-below t,
   copy-below.Post,
+  with-child-reads.Asked,
+  with-child-reads.Learnt,
   copy-node-reads.Asked,
   copy-node-reads.Learnt,
 ) (copy-below-at t) copy-below.Post copy-below-Inv-loop copy-below-μ-loop
@@ -444,10 +504,14 @@ pub +copy-below-spec : {M : Type 1} → statement M
   copy-part-reads.Learnt,
   count-at-reads.Asked,
   count-at-reads.Learnt,
+  empty-reads.Asked,
+  empty-reads.Learnt,
   child-at-reads.Asked,
   child-at-reads.Learnt,
   copy-below-below t,
   copy-below.Post,
+  with-child-reads.Asked,
+  with-child-reads.Learnt,
   copy-node-reads.Asked,
   copy-node-reads.Learnt,
 )
@@ -462,20 +526,18 @@ pub +copy-below-spec : {M : Type 1} → statement M
     (copy-below-returns t)
     (copy-below-count-at-requires t)
     (copy-below-cast-n t)
+    (copy-below-empty-requires t)
     (copy-below-loop-holds t)
     (copy-below-child-at-requires t)
     (copy-below-sub-copy-below t)
     (copy-below-copy-below-requires t)
-    (copy-below-sub-tops t)
-    (copy-below-mul-tops t)
-    (copy-below-array-write-tops t)
+    (copy-below-sub-with-child t)
+    (copy-below-with-child-requires t)
     (copy-below-add-low t)
     (copy-below-add-i t)
     (copy-below-loop-less t)
     (copy-below-loop-again t)
     (copy-below-part-at-requires-2 t)
-    (copy-below-array-share-prefix-tops t)
-    (copy-below-slice-aggregate-copy-node t)
     (copy-below-copy-node-requires t)
     (copy-below-add-result-2 t)
     (copy-below-same-length-2 t)

@@ -3,23 +3,26 @@ use native.Mathlib.Omega.{arith}
 use borrow.Author.Needs.{needs}
 use mathlib.Core.Logic.{⊎-elim}
 use Prim.Native.Nat.{ℕ, _<_, _-_}
-use borrow.Fn.Kinds.{In}
-use borrow.Fn.PlainCycle.{Measures, is, falls, and}
 use Rattle.index.proofs.WalkRows.{node-part}
 use Rattle.emission.proofs.DeepRows.{deep-fits}
 use Rattle.emission.proofs.EmitLoop.{EmitLoop, emit-start, child-walk, child-room, count-small}
-use Rattle.emission.proofs.EmitBelow.{plain-room, plain-emits, at-leaf-room, at-leaf-emits, emit-one, emit-nothing, emit-moved, left-count, left-few, node-gone, node-own-room, node-emits}
+use Rattle.emission.proofs.EmitBelow.{plain-room, plain-emits, at-leaf-room, at-leaf-emits, emit-one, emit-nothing, emit-moved, node-gone, node-own-room, node-emits}
+use Prim.Native.Nat.{ℕ, _<_}
+use borrow.Fn.Kinds.{In}
+use borrow.Fn.PlainCycle.{Measures, is, falls, and}
 use Rattle.emission.proofs.below.emit_below.Reads as emit-below
 use Rattle.emission.proofs.below.emit_below.Kinds as emit-below-kinds
 use Rattle.emission.proofs.below.+emit_below.Lts-emit_below as emit-below-lts
 use Rattle.emission.proofs.below.copy_below.Reads as copy-below-reads
 use Rattle.emission.proofs.below.emit_leaf.Reads as emit-leaf-reads
 use Rattle.emission.proofs.node.put_left.Reads as put-left-reads
-use Rattle.emission.proofs.below.+emit_below.{statement}
-use Rattle.emission.proofs.below.+emit_below.Tie.{close}
+use Rattle.layout.proofs.node.Node.empty.Reads as empty-reads
+use Rattle.layout.proofs.node.Node.with_child.Reads as with-child-reads
 use Rattle.layout.proofs.child_at.Reads as child-at-reads
 use Rattle.layout.proofs.count_at.Reads as count-at-reads
 use Rattle.layout.proofs.part_at.Reads as part-at-reads
+use Rattle.emission.proofs.below.+emit_below.{statement}
+use Rattle.emission.proofs.below.+emit_below.Tie.{close}
 
 abbrev μ-emit-below : Measures 3 emit-below-kinds.ps ℕ
 μ-emit-below κs a = a .1 .0
@@ -33,12 +36,10 @@ emit-below-below t =
     and 3 emit-below-kinds.ps (falls 3 emit-below-kinds.ps _<_ μ-emit-below t) emit-below.Pre
 
 abbrev emit-below-Inv-loop : emit-below-lts.InvT-loop
-emit-below-Inv-loop m level lo k sides work₀ next n tops₀ count₀ free₀ low₀ i₀ work tops count free low i =
-    EmitLoop level m lo k sides work₀ next n i low work free tops count
+emit-below-Inv-loop m level lo k sides work₀ next n left₀ free₀ low₀ i₀ work left free low i = EmitLoop level m lo k sides work₀ next n i low work free left
 
 abbrev emit-below-μ-loop : emit-below-lts.MeasureT-loop
-emit-below-μ-loop m level lo k sides work₀ next n tops₀ count₀ free₀ low₀ i₀ work tops count free low i =
-    n - i
+emit-below-μ-loop m level lo k sides work₀ next n left₀ free₀ low₀ i₀ work left free low i = n - i
 
 emit-below-copy-below-requires : (t : ℕ) → emit-below-lts.Need-copy-below-requires (
   copy-below-reads.Asked,
@@ -49,10 +50,14 @@ emit-below-copy-below-requires : (t : ℕ) → emit-below-lts.Need-copy-below-re
   emit-leaf-reads.Learnt,
   count-at-reads.Asked,
   count-at-reads.Learnt,
+  empty-reads.Asked,
+  empty-reads.Learnt,
   child-at-reads.Asked,
   child-at-reads.Learnt,
   emit-below-below t,
   emit-below.Post,
+  with-child-reads.Asked,
+  with-child-reads.Learnt,
   put-left-reads.Asked,
   put-left-reads.Learnt,
 ) (emit-below-at t) emit-below.Post emit-below-Inv-loop emit-below-μ-loop
@@ -67,10 +72,14 @@ emit-below-same-length : (t : ℕ) → emit-below-lts.Need-same-length (
   emit-leaf-reads.Learnt,
   count-at-reads.Asked,
   count-at-reads.Learnt,
+  empty-reads.Asked,
+  empty-reads.Learnt,
   child-at-reads.Asked,
   child-at-reads.Learnt,
   emit-below-below t,
   emit-below.Post,
+  with-child-reads.Asked,
+  with-child-reads.Learnt,
   put-left-reads.Asked,
   put-left-reads.Learnt,
 ) (emit-below-at t) emit-below.Post emit-below-Inv-loop emit-below-μ-loop
@@ -85,10 +94,14 @@ emit-below-returns : (t : ℕ) → emit-below-lts.Need-returns (
   emit-leaf-reads.Learnt,
   count-at-reads.Asked,
   count-at-reads.Learnt,
+  empty-reads.Asked,
+  empty-reads.Learnt,
   child-at-reads.Asked,
   child-at-reads.Learnt,
   emit-below-below t,
   emit-below.Post,
+  with-child-reads.Asked,
+  with-child-reads.Learnt,
   put-left-reads.Asked,
   put-left-reads.Learnt,
 ) (emit-below-at t) emit-below.Post emit-below-Inv-loop emit-below-μ-loop
@@ -103,10 +116,14 @@ emit-below-part-at-requires : (t : ℕ) → emit-below-lts.Need-part-at-requires
   emit-leaf-reads.Learnt,
   count-at-reads.Asked,
   count-at-reads.Learnt,
+  empty-reads.Asked,
+  empty-reads.Learnt,
   child-at-reads.Asked,
   child-at-reads.Learnt,
   emit-below-below t,
   emit-below.Post,
+  with-child-reads.Asked,
+  with-child-reads.Learnt,
   put-left-reads.Asked,
   put-left-reads.Learnt,
 ) (emit-below-at t) emit-below.Post emit-below-Inv-loop emit-below-μ-loop
@@ -121,10 +138,14 @@ emit-below-emit-leaf-requires : (t : ℕ) → emit-below-lts.Need-emit-leaf-requ
   emit-leaf-reads.Learnt,
   count-at-reads.Asked,
   count-at-reads.Learnt,
+  empty-reads.Asked,
+  empty-reads.Learnt,
   child-at-reads.Asked,
   child-at-reads.Learnt,
   emit-below-below t,
   emit-below.Post,
+  with-child-reads.Asked,
+  with-child-reads.Learnt,
   put-left-reads.Asked,
   put-left-reads.Learnt,
 ) (emit-below-at t) emit-below.Post emit-below-Inv-loop emit-below-μ-loop
@@ -139,10 +160,14 @@ emit-below-same-length-2 : (t : ℕ) → emit-below-lts.Need-same-length-2 (
   emit-leaf-reads.Learnt,
   count-at-reads.Asked,
   count-at-reads.Learnt,
+  empty-reads.Asked,
+  empty-reads.Learnt,
   child-at-reads.Asked,
   child-at-reads.Learnt,
   emit-below-below t,
   emit-below.Post,
+  with-child-reads.Asked,
+  with-child-reads.Learnt,
   put-left-reads.Asked,
   put-left-reads.Learnt,
 ) (emit-below-at t) emit-below.Post emit-below-Inv-loop emit-below-μ-loop
@@ -157,10 +182,14 @@ emit-below-returns-2 : (t : ℕ) → emit-below-lts.Need-returns-2 (
   emit-leaf-reads.Learnt,
   count-at-reads.Asked,
   count-at-reads.Learnt,
+  empty-reads.Asked,
+  empty-reads.Learnt,
   child-at-reads.Asked,
   child-at-reads.Learnt,
   emit-below-below t,
   emit-below.Post,
+  with-child-reads.Asked,
+  with-child-reads.Learnt,
   put-left-reads.Asked,
   put-left-reads.Learnt,
 ) (emit-below-at t) emit-below.Post emit-below-Inv-loop emit-below-μ-loop
@@ -175,10 +204,14 @@ emit-below-count-at-requires : (t : ℕ) → emit-below-lts.Need-count-at-requir
   emit-leaf-reads.Learnt,
   count-at-reads.Asked,
   count-at-reads.Learnt,
+  empty-reads.Asked,
+  empty-reads.Learnt,
   child-at-reads.Asked,
   child-at-reads.Learnt,
   emit-below-below t,
   emit-below.Post,
+  with-child-reads.Asked,
+  with-child-reads.Learnt,
   put-left-reads.Asked,
   put-left-reads.Learnt,
 ) (emit-below-at t) emit-below.Post emit-below-Inv-loop emit-below-μ-loop
@@ -193,14 +226,40 @@ emit-below-cast-n : (t : ℕ) → emit-below-lts.Need-cast-n (
   emit-leaf-reads.Learnt,
   count-at-reads.Asked,
   count-at-reads.Learnt,
+  empty-reads.Asked,
+  empty-reads.Learnt,
   child-at-reads.Asked,
   child-at-reads.Learnt,
   emit-below-below t,
   emit-below.Post,
+  with-child-reads.Asked,
+  with-child-reads.Learnt,
   put-left-reads.Asked,
   put-left-reads.Learnt,
 ) (emit-below-at t) emit-below.Post emit-below-Inv-loop emit-below-μ-loop
 emit-below-cast-n t c = search needs
+
+emit-below-empty-requires : (t : ℕ) → emit-below-lts.Need-empty-requires (
+  copy-below-reads.Asked,
+  copy-below-reads.Learnt,
+  part-at-reads.Asked,
+  part-at-reads.Learnt,
+  emit-leaf-reads.Asked,
+  emit-leaf-reads.Learnt,
+  count-at-reads.Asked,
+  count-at-reads.Learnt,
+  empty-reads.Asked,
+  empty-reads.Learnt,
+  child-at-reads.Asked,
+  child-at-reads.Learnt,
+  emit-below-below t,
+  emit-below.Post,
+  with-child-reads.Asked,
+  with-child-reads.Learnt,
+  put-left-reads.Asked,
+  put-left-reads.Learnt,
+) (emit-below-at t) emit-below.Post emit-below-Inv-loop emit-below-μ-loop
+emit-below-empty-requires t c κs = search needs
 
 emit-below-loop-holds : (t : ℕ) → emit-below-lts.Need-loop-holds (
   copy-below-reads.Asked,
@@ -211,10 +270,14 @@ emit-below-loop-holds : (t : ℕ) → emit-below-lts.Need-loop-holds (
   emit-leaf-reads.Learnt,
   count-at-reads.Asked,
   count-at-reads.Learnt,
+  empty-reads.Asked,
+  empty-reads.Learnt,
   child-at-reads.Asked,
   child-at-reads.Learnt,
   emit-below-below t,
   emit-below.Post,
+  with-child-reads.Asked,
+  with-child-reads.Learnt,
   put-left-reads.Asked,
   put-left-reads.Learnt,
 ) (emit-below-at t) emit-below.Post emit-below-Inv-loop emit-below-μ-loop
@@ -229,10 +292,14 @@ emit-below-child-at-requires : (t : ℕ) → emit-below-lts.Need-child-at-requir
   emit-leaf-reads.Learnt,
   count-at-reads.Asked,
   count-at-reads.Learnt,
+  empty-reads.Asked,
+  empty-reads.Learnt,
   child-at-reads.Asked,
   child-at-reads.Learnt,
   emit-below-below t,
   emit-below.Post,
+  with-child-reads.Asked,
+  with-child-reads.Learnt,
   put-left-reads.Asked,
   put-left-reads.Learnt,
 ) (emit-below-at t) emit-below.Post emit-below-Inv-loop emit-below-μ-loop
@@ -247,10 +314,14 @@ emit-below-sub-emit-below : (t : ℕ) → emit-below-lts.Need-sub-emit-below (
   emit-leaf-reads.Learnt,
   count-at-reads.Asked,
   count-at-reads.Learnt,
+  empty-reads.Asked,
+  empty-reads.Learnt,
   child-at-reads.Asked,
   child-at-reads.Learnt,
   emit-below-below t,
   emit-below.Post,
+  with-child-reads.Asked,
+  with-child-reads.Learnt,
   put-left-reads.Asked,
   put-left-reads.Learnt,
 ) (emit-below-at t) emit-below.Post emit-below-Inv-loop emit-below-μ-loop
@@ -265,16 +336,20 @@ emit-below-emit-below-requires : (t : ℕ) → emit-below-lts.Need-emit-below-re
   emit-leaf-reads.Learnt,
   count-at-reads.Asked,
   count-at-reads.Learnt,
+  empty-reads.Asked,
+  empty-reads.Learnt,
   child-at-reads.Asked,
   child-at-reads.Learnt,
   emit-below-below t,
   emit-below.Post,
+  with-child-reads.Asked,
+  with-child-reads.Learnt,
   put-left-reads.Asked,
   put-left-reads.Learnt,
 ) (emit-below-at t) emit-below.Post emit-below-Inv-loop emit-below-μ-loop
 emit-below-emit-below-requires t c κs = (omega arith, (search child-walk, search child-room))
 
-emit-below-sub-tops : (t : ℕ) → emit-below-lts.Need-sub-tops (
+emit-below-sub-with-child : (t : ℕ) → emit-below-lts.Need-sub-with-child (
   copy-below-reads.Asked,
   copy-below-reads.Learnt,
   part-at-reads.Asked,
@@ -283,16 +358,20 @@ emit-below-sub-tops : (t : ℕ) → emit-below-lts.Need-sub-tops (
   emit-leaf-reads.Learnt,
   count-at-reads.Asked,
   count-at-reads.Learnt,
+  empty-reads.Asked,
+  empty-reads.Learnt,
   child-at-reads.Asked,
   child-at-reads.Learnt,
   emit-below-below t,
   emit-below.Post,
+  with-child-reads.Asked,
+  with-child-reads.Learnt,
   put-left-reads.Asked,
   put-left-reads.Learnt,
 ) (emit-below-at t) emit-below.Post emit-below-Inv-loop emit-below-μ-loop
-emit-below-sub-tops t c = search emit-moved
+emit-below-sub-with-child t c = search emit-moved
 
-emit-below-mul-tops : (t : ℕ) → emit-below-lts.Need-mul-tops (
+emit-below-with-child-requires : (t : ℕ) → emit-below-lts.Need-with-child-requires (
   copy-below-reads.Asked,
   copy-below-reads.Learnt,
   part-at-reads.Asked,
@@ -301,50 +380,18 @@ emit-below-mul-tops : (t : ℕ) → emit-below-lts.Need-mul-tops (
   emit-leaf-reads.Learnt,
   count-at-reads.Asked,
   count-at-reads.Learnt,
+  empty-reads.Asked,
+  empty-reads.Learnt,
   child-at-reads.Asked,
   child-at-reads.Learnt,
   emit-below-below t,
   emit-below.Post,
+  with-child-reads.Asked,
+  with-child-reads.Learnt,
   put-left-reads.Asked,
   put-left-reads.Learnt,
 ) (emit-below-at t) emit-below.Post emit-below-Inv-loop emit-below-μ-loop
-emit-below-mul-tops t c = search needs
-
-emit-below-array-write-tops : (t : ℕ) → emit-below-lts.Need-array-write-tops (
-  copy-below-reads.Asked,
-  copy-below-reads.Learnt,
-  part-at-reads.Asked,
-  part-at-reads.Learnt,
-  emit-leaf-reads.Asked,
-  emit-leaf-reads.Learnt,
-  count-at-reads.Asked,
-  count-at-reads.Learnt,
-  child-at-reads.Asked,
-  child-at-reads.Learnt,
-  emit-below-below t,
-  emit-below.Post,
-  put-left-reads.Asked,
-  put-left-reads.Learnt,
-) (emit-below-at t) emit-below.Post emit-below-Inv-loop emit-below-μ-loop
-emit-below-array-write-tops t c = search count-small
-
-emit-below-add-count : (t : ℕ) → emit-below-lts.Need-add-count (
-  copy-below-reads.Asked,
-  copy-below-reads.Learnt,
-  part-at-reads.Asked,
-  part-at-reads.Learnt,
-  emit-leaf-reads.Asked,
-  emit-leaf-reads.Learnt,
-  count-at-reads.Asked,
-  count-at-reads.Learnt,
-  child-at-reads.Asked,
-  child-at-reads.Learnt,
-  emit-below-below t,
-  emit-below.Post,
-  put-left-reads.Asked,
-  put-left-reads.Learnt,
-) (emit-below-at t) emit-below.Post emit-below-Inv-loop emit-below-μ-loop
-emit-below-add-count t c = search needs
+emit-below-with-child-requires t c κs = search count-small
 
 emit-below-add-low : (t : ℕ) → emit-below-lts.Need-add-low (
   copy-below-reads.Asked,
@@ -355,10 +402,14 @@ emit-below-add-low : (t : ℕ) → emit-below-lts.Need-add-low (
   emit-leaf-reads.Learnt,
   count-at-reads.Asked,
   count-at-reads.Learnt,
+  empty-reads.Asked,
+  empty-reads.Learnt,
   child-at-reads.Asked,
   child-at-reads.Learnt,
   emit-below-below t,
   emit-below.Post,
+  with-child-reads.Asked,
+  with-child-reads.Learnt,
   put-left-reads.Asked,
   put-left-reads.Learnt,
 ) (emit-below-at t) emit-below.Post emit-below-Inv-loop emit-below-μ-loop
@@ -373,10 +424,14 @@ emit-below-add-i : (t : ℕ) → emit-below-lts.Need-add-i (
   emit-leaf-reads.Learnt,
   count-at-reads.Asked,
   count-at-reads.Learnt,
+  empty-reads.Asked,
+  empty-reads.Learnt,
   child-at-reads.Asked,
   child-at-reads.Learnt,
   emit-below-below t,
   emit-below.Post,
+  with-child-reads.Asked,
+  with-child-reads.Learnt,
   put-left-reads.Asked,
   put-left-reads.Learnt,
 ) (emit-below-at t) emit-below.Post emit-below-Inv-loop emit-below-μ-loop
@@ -391,10 +446,14 @@ emit-below-loop-less : (t : ℕ) → emit-below-lts.Need-loop-less (
   emit-leaf-reads.Learnt,
   count-at-reads.Asked,
   count-at-reads.Learnt,
+  empty-reads.Asked,
+  empty-reads.Learnt,
   child-at-reads.Asked,
   child-at-reads.Learnt,
   emit-below-below t,
   emit-below.Post,
+  with-child-reads.Asked,
+  with-child-reads.Learnt,
   put-left-reads.Asked,
   put-left-reads.Learnt,
 ) (emit-below-at t) emit-below.Post emit-below-Inv-loop emit-below-μ-loop
@@ -409,10 +468,14 @@ emit-below-loop-again : (t : ℕ) → emit-below-lts.Need-loop-again (
   emit-leaf-reads.Learnt,
   count-at-reads.Asked,
   count-at-reads.Learnt,
+  empty-reads.Asked,
+  empty-reads.Learnt,
   child-at-reads.Asked,
   child-at-reads.Learnt,
   emit-below-below t,
   emit-below.Post,
+  with-child-reads.Asked,
+  with-child-reads.Learnt,
   put-left-reads.Asked,
   put-left-reads.Learnt,
 ) (emit-below-at t) emit-below.Post emit-below-Inv-loop emit-below-μ-loop
@@ -427,10 +490,14 @@ emit-below-same-length-3 : (t : ℕ) → emit-below-lts.Need-same-length-3 (
   emit-leaf-reads.Learnt,
   count-at-reads.Asked,
   count-at-reads.Learnt,
+  empty-reads.Asked,
+  empty-reads.Learnt,
   child-at-reads.Asked,
   child-at-reads.Learnt,
   emit-below-below t,
   emit-below.Post,
+  with-child-reads.Asked,
+  with-child-reads.Learnt,
   put-left-reads.Asked,
   put-left-reads.Learnt,
 ) (emit-below-at t) emit-below.Post emit-below-Inv-loop emit-below-μ-loop
@@ -445,10 +512,14 @@ emit-below-returns-3 : (t : ℕ) → emit-below-lts.Need-returns-3 (
   emit-leaf-reads.Learnt,
   count-at-reads.Asked,
   count-at-reads.Learnt,
+  empty-reads.Asked,
+  empty-reads.Learnt,
   child-at-reads.Asked,
   child-at-reads.Learnt,
   emit-below-below t,
   emit-below.Post,
+  with-child-reads.Asked,
+  with-child-reads.Learnt,
   put-left-reads.Asked,
   put-left-reads.Learnt,
 ) (emit-below-at t) emit-below.Post emit-below-Inv-loop emit-below-μ-loop
@@ -463,68 +534,18 @@ emit-below-part-at-requires-2 : (t : ℕ) → emit-below-lts.Need-part-at-requir
   emit-leaf-reads.Learnt,
   count-at-reads.Asked,
   count-at-reads.Learnt,
+  empty-reads.Asked,
+  empty-reads.Learnt,
   child-at-reads.Asked,
   child-at-reads.Learnt,
   emit-below-below t,
   emit-below.Post,
+  with-child-reads.Asked,
+  with-child-reads.Learnt,
   put-left-reads.Asked,
   put-left-reads.Learnt,
 ) (emit-below-at t) emit-below.Post emit-below-Inv-loop emit-below-μ-loop
 emit-below-part-at-requires-2 t c κs = search needs
-
-emit-below-cast-put-left : (t : ℕ) → emit-below-lts.Need-cast-put-left (
-  copy-below-reads.Asked,
-  copy-below-reads.Learnt,
-  part-at-reads.Asked,
-  part-at-reads.Learnt,
-  emit-leaf-reads.Asked,
-  emit-leaf-reads.Learnt,
-  count-at-reads.Asked,
-  count-at-reads.Learnt,
-  child-at-reads.Asked,
-  child-at-reads.Learnt,
-  emit-below-below t,
-  emit-below.Post,
-  put-left-reads.Asked,
-  put-left-reads.Learnt,
-) (emit-below-at t) emit-below.Post emit-below-Inv-loop emit-below-μ-loop
-emit-below-cast-put-left t c = search needs
-
-emit-below-array-share-prefix-tops : (t : ℕ) → emit-below-lts.Need-array-share-prefix-tops (
-  copy-below-reads.Asked,
-  copy-below-reads.Learnt,
-  part-at-reads.Asked,
-  part-at-reads.Learnt,
-  emit-leaf-reads.Asked,
-  emit-leaf-reads.Learnt,
-  count-at-reads.Asked,
-  count-at-reads.Learnt,
-  child-at-reads.Asked,
-  child-at-reads.Learnt,
-  emit-below-below t,
-  emit-below.Post,
-  put-left-reads.Asked,
-  put-left-reads.Learnt,
-) (emit-below-at t) emit-below.Post emit-below-Inv-loop emit-below-μ-loop
-emit-below-array-share-prefix-tops t c = search needs
-
-emit-below-slice-aggregate-put-left : (t : ℕ) → emit-below-lts.Need-slice-aggregate-put-left (
-  copy-below-reads.Asked,
-  copy-below-reads.Learnt,
-  part-at-reads.Asked,
-  part-at-reads.Learnt,
-  emit-leaf-reads.Asked,
-  emit-leaf-reads.Learnt,
-  count-at-reads.Asked,
-  count-at-reads.Learnt,
-  child-at-reads.Asked,
-  child-at-reads.Learnt,
-  emit-below-below t,
-  emit-below.Post,
-  put-left-reads.Asked,
-  put-left-reads.Learnt,
-) (emit-below-at t) emit-below.Post emit-below-Inv-loop emit-below-μ-loop
-emit-below-slice-aggregate-put-left t c = search left-count
 
 emit-below-put-left-requires : (t : ℕ) → emit-below-lts.Need-put-left-requires (
   copy-below-reads.Asked,
@@ -535,14 +556,18 @@ emit-below-put-left-requires : (t : ℕ) → emit-below-lts.Need-put-left-requir
   emit-leaf-reads.Learnt,
   count-at-reads.Asked,
   count-at-reads.Learnt,
+  empty-reads.Asked,
+  empty-reads.Learnt,
   child-at-reads.Asked,
   child-at-reads.Learnt,
   emit-below-below t,
   emit-below.Post,
+  with-child-reads.Asked,
+  with-child-reads.Learnt,
   put-left-reads.Asked,
   put-left-reads.Learnt,
 ) (emit-below-at t) emit-below.Post emit-below-Inv-loop emit-below-μ-loop
-emit-below-put-left-requires t c κs = (search node-part, search left-few, search node-own-room)
+emit-below-put-left-requires t c κs = (search node-part, search node-own-room)
 
 emit-below-add-result : (t : ℕ) → emit-below-lts.Need-add-result (
   copy-below-reads.Asked,
@@ -553,10 +578,14 @@ emit-below-add-result : (t : ℕ) → emit-below-lts.Need-add-result (
   emit-leaf-reads.Learnt,
   count-at-reads.Asked,
   count-at-reads.Learnt,
+  empty-reads.Asked,
+  empty-reads.Learnt,
   child-at-reads.Asked,
   child-at-reads.Learnt,
   emit-below-below t,
   emit-below.Post,
+  with-child-reads.Asked,
+  with-child-reads.Learnt,
   put-left-reads.Asked,
   put-left-reads.Learnt,
 ) (emit-below-at t) emit-below.Post emit-below-Inv-loop emit-below-μ-loop
@@ -571,10 +600,14 @@ emit-below-same-length-4 : (t : ℕ) → emit-below-lts.Need-same-length-4 (
   emit-leaf-reads.Learnt,
   count-at-reads.Asked,
   count-at-reads.Learnt,
+  empty-reads.Asked,
+  empty-reads.Learnt,
   child-at-reads.Asked,
   child-at-reads.Learnt,
   emit-below-below t,
   emit-below.Post,
+  with-child-reads.Asked,
+  with-child-reads.Learnt,
   put-left-reads.Asked,
   put-left-reads.Learnt,
 ) (emit-below-at t) emit-below.Post emit-below-Inv-loop emit-below-μ-loop
@@ -589,10 +622,14 @@ emit-below-returns-4 : (t : ℕ) → emit-below-lts.Need-returns-4 (
   emit-leaf-reads.Learnt,
   count-at-reads.Asked,
   count-at-reads.Learnt,
+  empty-reads.Asked,
+  empty-reads.Learnt,
   child-at-reads.Asked,
   child-at-reads.Learnt,
   emit-below-below t,
   emit-below.Post,
+  with-child-reads.Asked,
+  with-child-reads.Learnt,
   put-left-reads.Asked,
   put-left-reads.Learnt,
 ) (emit-below-at t) emit-below.Post emit-below-Inv-loop emit-below-μ-loop
@@ -608,10 +645,14 @@ pub +emit-below-spec : {M : Type 1} → statement M
   emit-leaf-reads.Learnt,
   count-at-reads.Asked,
   count-at-reads.Learnt,
+  empty-reads.Asked,
+  empty-reads.Learnt,
   child-at-reads.Asked,
   child-at-reads.Learnt,
   emit-below-below t,
   emit-below.Post,
+  with-child-reads.Asked,
+  with-child-reads.Learnt,
   put-left-reads.Asked,
   put-left-reads.Learnt,
 )
@@ -628,14 +669,13 @@ pub +emit-below-spec : {M : Type 1} → statement M
     (emit-below-returns-2 t)
     (emit-below-count-at-requires t)
     (emit-below-cast-n t)
+    (emit-below-empty-requires t)
     (emit-below-loop-holds t)
     (emit-below-child-at-requires t)
     (emit-below-sub-emit-below t)
     (emit-below-emit-below-requires t)
-    (emit-below-sub-tops t)
-    (emit-below-mul-tops t)
-    (emit-below-array-write-tops t)
-    (emit-below-add-count t)
+    (emit-below-sub-with-child t)
+    (emit-below-with-child-requires t)
     (emit-below-add-low t)
     (emit-below-add-i t)
     (emit-below-loop-less t)
@@ -643,9 +683,6 @@ pub +emit-below-spec : {M : Type 1} → statement M
     (emit-below-same-length-3 t)
     (emit-below-returns-3 t)
     (emit-below-part-at-requires-2 t)
-    (emit-below-cast-put-left t)
-    (emit-below-array-share-prefix-tops t)
-    (emit-below-slice-aggregate-put-left t)
     (emit-below-put-left-requires t)
     (emit-below-add-result t)
     (emit-below-same-length-4 t)

@@ -1,7 +1,6 @@
 -- `branches::emit_branches` meets its contract; its loop is in RowLaws.
 use borrow.Author.Needs.{needs}
 use Prim.Native.Nat.{_-_}
-use Rattle.geometry.proofs.ArrayLaws.{of-map}
 use Rattle.emission.proofs.RowLaws.{BranchLoop, emits-on, branch-start, branch-walk, branch-room, branch-again, branch-end}
 use Rattle.emission.proofs.branches.emit_branches.Statement.{statement}
 use Rattle.emission.proofs.branches.emit_branches.Tie as tie
@@ -13,7 +12,7 @@ abbrev μ-loop : tie.MeasureT-loop
 μ-loop m level k from to sides work₀ out₀ i₀ work out i = to - i
 
 loop-holds : tie.Need-loop-holds Inv-loop μ-loop
-loop-holds c = search (branch-start, of-map)
+loop-holds c = search branch-start
 
 child-at-requires : tie.Need-child-at-requires Inv-loop μ-loop
 child-at-requires c κs = search needs

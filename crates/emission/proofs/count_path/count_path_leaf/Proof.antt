@@ -1,7 +1,7 @@
 -- `count_path::count_path_leaf` meets its contract; its ways out are in PathCount.
-use borrow.Author.Needs.{needs}
 use Rattle.emission.proofs.PathLeaf.{leaf-in}
 use Rattle.emission.proofs.PathCount.{leaf-counted, leaf-uncounted}
+use borrow.Author.Needs.{needs}
 use Rattle.emission.proofs.count_path.count_path_leaf.Statement.{statement}
 use Rattle.emission.proofs.count_path.count_path_leaf.Tie as tie
 
@@ -11,11 +11,8 @@ shared-slice-read-part-at c = search needs
 part-at-requires : tie.Need-part-at-requires
 part-at-requires c κs = search needs
 
-slice-aggregate-gather-with : tie.Need-slice-aggregate-gather-with
-slice-aggregate-gather-with c = search needs
-
 gather-with-requires : tie.Need-gather-with-requires
-gather-with-requires c κs = (search leaf-in, search needs)
+gather-with-requires c κs = search leaf-in
 
 is-kept-requires : tie.Need-is-kept-requires
 is-kept-requires c κs = search needs
@@ -32,7 +29,6 @@ count-path-leaf-spec =
     (tie.spec
     shared-slice-read-part-at
     part-at-requires
-    slice-aggregate-gather-with
     gather-with-requires
     is-kept-requires
     returns

@@ -1,6 +1,5 @@
 -- `half::emit_half` meets its contract, with the level as its measure; its steps are in HalfLaws.
 use native.Mathlib.Omega.{arith}
-use Rattle.geometry.proofs.ArrayLaws.{of-map}
 use Rattle.emission.proofs.FrontLaws.{front-set, front-length, front-fits, front-taken}
 use Rattle.emission.proofs.PathLaws.{path-leaf, path-step, path-down, path-room, path-line}
 use Rattle.emission.proofs.RowLaws.{emits-on}
@@ -280,7 +279,7 @@ emit-half-emit-half-requires t c κs =
     let b = c .before .before .before .before .before in
     let s = b .before .before .before .before .before .before .before .pre .1 in
     let ne = b .before .before .if1 .left in
-    let h = half-start _ _ _ _ _ _ _ ne (s .0) (s .2) _ _ (search of-map) (b .emit-before .ensures) in
+    let h = half-start _ _ _ _ _ _ _ ne (s .0) (s .2) _ _ (b .emit-before .ensures) in
     let z = c .before .if2 .taken in
     (omega arith, (path-down _ _ _ ne (s .0), omega arith, whole-room _ _ _ _ _ _ _ _ _ h z))
 
@@ -306,7 +305,7 @@ emit-half-with-top-requires t c κs =
     let b = c .before .before .before .before .before .before .before .before in
     let s = b .before .before .before .before .before .before .before .pre .1 in
     let ne = b .before .before .if1 .left in
-    let h = half-start _ _ _ _ _ _ _ ne (s .0) (s .2) _ _ (search of-map) (b .emit-before .ensures) in
+    let h = half-start _ _ _ _ _ _ _ ne (s .0) (s .2) _ _ (b .emit-before .ensures) in
     (emits-on _ _ _ _ _ _ (c .before .before .emit-half .ensures), half-few _ _ _ _ _ _ _ _ _ _ _ h (omega arith))
 
 emit-half-emit-rest-requires : (t : ℕ) → emit-half-lts.Need-emit-rest-requires (
@@ -331,7 +330,7 @@ emit-half-emit-rest-requires t c κs =
     let b = c .before .before .before .before .before .before .before .before .before .before in
     let s = b .before .before .before .before .before .before .before .pre .1 in
     let ne = b .before .before .if1 .left in
-    let h = half-start _ _ _ _ _ _ _ ne (s .0) (s .2) _ _ (search of-map) (b .emit-before .ensures) in
+    let h = half-start _ _ _ _ _ _ _ ne (s .0) (s .2) _ _ (b .emit-before .ensures) in
     let z = c .before .before .before .before .before .before .if2 .taken in
     let y = whole-done _ _ _ _ _ _ _ _ _ h z _ _ _ (c .before .before .before .before .emit-half .ensures) (c .before .with-top .ensures) in
     (path-step _ _ _ ne (s .0), rest-few _ _ _ _ _ _ _ _ _ y, rest-room _ _ _ _ _ _ _ _ _ y)
@@ -378,7 +377,7 @@ emit-half-returns-2 t c =
     let b = c .before .before .before .before .before .before .before .before .before .before .before .before .before in
     let s = b .before .before .before .before .before .before .before .pre .1 in
     let ne = b .before .before .if1 .left in
-    let h = half-start _ _ _ _ _ _ _ ne (s .0) (s .2) _ _ (search of-map) (b .emit-before .ensures) in
+    let h = half-start _ _ _ _ _ _ _ ne (s .0) (s .2) _ _ (b .emit-before .ensures) in
     let z = c .before .before .before .before .before .before .before .before .before .if2 .taken in
     let y = whole-done _ _ _ _ _ _ _ _ _ h z _ _ _ (c .before .before .before .before .before .before .before .emit-half .ensures) (c .before .before .before .before .with-top .ensures) in
     half-done _ _ _ _ _ _ _ _ _ y _ _ (c .before .before .emit-rest .ensures)
@@ -529,7 +528,7 @@ emit-half-emit-half-requires-2 t c κs =
     let b = c .before .before .before .before .before .before .before .before .before .before in
     let s = b .before .before .before .before .before .before .before .pre .1 in
     let ne = b .before .before .if1 .left in
-    let h = half-start _ _ _ _ _ _ _ ne (s .0) (s .2) _ _ (search of-map) (b .emit-before .ensures) in
+    let h = half-start _ _ _ _ _ _ _ ne (s .0) (s .2) _ _ (b .emit-before .ensures) in
     let nz = c .before .before .before .before .before .before .if2 .left in
     let o = c .before .before .before .before .before .left-side .ensures in
     let u = c .before .before .before .put-in-front .ensures in
@@ -558,7 +557,7 @@ emit-half-with-top-requires-2 t c κs =
     let b = c .before .before .before .before .before .before .before .before .before .before .before .before .before in
     let s = b .before .before .before .before .before .before .before .pre .1 in
     let ne = b .before .before .if1 .left in
-    let h = half-start _ _ _ _ _ _ _ ne (s .0) (s .2) _ _ (search of-map) (b .emit-before .ensures) in
+    let h = half-start _ _ _ _ _ _ _ ne (s .0) (s .2) _ _ (b .emit-before .ensures) in
     (emits-on _ _ _ _ _ _ (c .before .before .emit-half2 .ensures), half-few _ _ _ _ _ _ _ _ _ _ _ h (omega arith))
 
 emit-half-right-side-requires : (t : ℕ) → emit-half-lts.Need-right-side-requires (
@@ -667,7 +666,7 @@ emit-half-emit-half-requires-3 t c κs =
     let b = c .before .before .before .before .before .before .before .before .before .before .before .before .before .before .before .before .before in
     let s = b .before .before .before .before .before .before .before .pre .1 in
     let ne = b .before .before .if1 .left in
-    let h = half-start _ _ _ _ _ _ _ ne (s .0) (s .2) _ _ (search of-map) (b .emit-before .ensures) in
+    let h = half-start _ _ _ _ _ _ _ ne (s .0) (s .2) _ _ (b .emit-before .ensures) in
     let nz = c .before .before .before .before .before .before .before .before .before .before .before .before .before .if2 .left in
     let o = c .before .before .before .before .before .before .before .before .before .before .before .before .left-side .ensures in
     let u = c .before .before .before .before .before .before .before .before .before .before .put-in-front .ensures in
@@ -699,7 +698,7 @@ emit-half-with-top-requires-3 t c κs =
     let b = c .before .before .before .before .before .before .before .before .before .before .before .before .before .before .before .before .before .before .before .before in
     let s = b .before .before .before .before .before .before .before .pre .1 in
     let ne = b .before .before .if1 .left in
-    let h = half-start _ _ _ _ _ _ _ ne (s .0) (s .2) _ _ (search of-map) (b .emit-before .ensures) in
+    let h = half-start _ _ _ _ _ _ _ ne (s .0) (s .2) _ _ (b .emit-before .ensures) in
     let nz = c .before .before .before .before .before .before .before .before .before .before .before .before .before .before .before .before .if2 .left in
     let o = c .before .before .before .before .before .before .before .before .before .before .before .before .before .before .before .left-side .ensures in
     let u = c .before .before .before .before .before .before .before .before .before .before .before .before .before .put-in-front .ensures in
@@ -728,7 +727,7 @@ emit-half-emit-rest-requires-2 t c κs =
     let b = c .before .before .before .before .before .before .before .before .before .before .before .before .before .before .before .before .before .before .before .before .before .before in
     let s = b .before .before .before .before .before .before .before .pre .1 in
     let ne = b .before .before .if1 .left in
-    let h = half-start _ _ _ _ _ _ _ ne (s .0) (s .2) _ _ (search of-map) (b .emit-before .ensures) in
+    let h = half-start _ _ _ _ _ _ _ ne (s .0) (s .2) _ _ (b .emit-before .ensures) in
     let nz = c .before .before .before .before .before .before .before .before .before .before .before .before .before .before .before .before .before .before .if2 .left in
     let o = c .before .before .before .before .before .before .before .before .before .before .before .before .before .before .before .before .before .left-side .ensures in
     let u = c .before .before .before .before .before .before .before .before .before .before .before .before .before .before .before .put-in-front .ensures in
@@ -760,7 +759,7 @@ emit-half-same-length-3 t c =
     let b = c .before .before .before .before .before .before .before .before .before .before .before .before .before .before .before .before .before .before .before .before .before .before .before .before .before in
     let s = b .before .before .before .before .before .before .before .pre .1 in
     let ne = b .before .before .if1 .left in
-    let h = half-start _ _ _ _ _ _ _ ne (s .0) (s .2) _ _ (search of-map) (b .emit-before .ensures) in
+    let h = half-start _ _ _ _ _ _ _ ne (s .0) (s .2) _ _ (b .emit-before .ensures) in
     let nz = c .before .before .before .before .before .before .before .before .before .before .before .before .before .before .before .before .before .before .before .before .before .if2 .left in
     let o = c .before .before .before .before .before .before .before .before .before .before .before .before .before .before .before .before .before .before .before .before .left-side .ensures in
     let u = c .before .before .before .before .before .before .before .before .before .before .before .before .before .before .before .before .before .before .put-in-front .ensures in
@@ -792,7 +791,7 @@ emit-half-returns-3 t c =
     let b = c .before .before .before .before .before .before .before .before .before .before .before .before .before .before .before .before .before .before .before .before .before .before .before .before .before in
     let s = b .before .before .before .before .before .before .before .pre .1 in
     let ne = b .before .before .if1 .left in
-    let h = half-start _ _ _ _ _ _ _ ne (s .0) (s .2) _ _ (search of-map) (b .emit-before .ensures) in
+    let h = half-start _ _ _ _ _ _ _ ne (s .0) (s .2) _ _ (b .emit-before .ensures) in
     let nz = c .before .before .before .before .before .before .before .before .before .before .before .before .before .before .before .before .before .before .before .before .before .if2 .left in
     let o = c .before .before .before .before .before .before .before .before .before .before .before .before .before .before .before .before .before .before .before .before .left-side .ensures in
     let u = c .before .before .before .before .before .before .before .before .before .before .before .before .before .before .before .before .before .before .put-in-front .ensures in

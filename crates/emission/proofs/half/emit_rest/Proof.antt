@@ -1,9 +1,6 @@
 -- `half::emit_rest` meets its contract; the laws are in RestLaws.
-use mathlib.Core.Path.{sym}
-use lib.Seq.{length-take-le}
 use borrow.Author.Needs.{needs}
-use Rattle.geometry.proofs.ArrayLaws.{of-map}
-use Rattle.emission.proofs.RestLaws.{behind-few, behind-fits, all-fit, rest-top-room, rest-written}
+use Rattle.emission.proofs.RestLaws.{behind-few, behind-fits, rest-top-room, rest-written}
 use Rattle.emission.proofs.half.emit_rest.Statement.{statement}
 use Rattle.emission.proofs.half.emit_rest.Tie as tie
 
@@ -46,15 +43,9 @@ emit-branches-requires c κs = (search needs, search needs, search needs, search
 path-polygon-requires : tie.Need-path-polygon-requires
 path-polygon-requires c κs = search needs
 
-array-share-prefix-parts : tie.Need-array-share-prefix-parts
-array-share-prefix-parts c = all-fit _ _ _ (c .before .before .before .before .before .before .before .before .before .before .before .before .before .pre .0) _ (c .before .before .before .before .before .before .count-at .ensures) _ (c .before .before .before .before .before .before .before .before .before .before .before .before .before .pre .1) _ _ _ _ (c .before .before .before .before .emit-branches .ensures) (search of-map)
-
-slice-aggregate-emit-top : tie.Need-slice-aggregate-emit-top
-slice-aggregate-emit-top c = sym (length-take-le _ _ (all-fit _ _ _ (c .before .before .before .before .before .before .before .before .before .before .before .before .before .before .pre .0) _ (c .before .before .before .before .before .before .before .count-at .ensures) _ (c .before .before .before .before .before .before .before .before .before .before .before .before .before .before .pre .1) _ _ _ _ (c .before .before .before .before .before .emit-branches .ensures) (search of-map)))
-
 emit-top-requires : tie.Need-emit-top-requires
 emit-top-requires c κs =
-    let b = c .before .before .before .before .before .before in
+    let b = c .before .before .before .before .before in
     let n = b .before .before in
     let s = n .before .before .before .before .before .before .before in
     (search needs, rest-top-room _ _ _ (s .pre .0) _ (n .count-at .ensures) _ (s .pre .1) _ _ _ _ (b .emit-branches .ensures) (s .pre .2))
@@ -64,10 +55,10 @@ same-length c = search needs
 
 returns : tie.Need-returns
 returns c =
-    let b = c .before .before .before .before .before .before .before .before .before in
+    let b = c .before .before .before .before .before .before .before .before in
     let n = b .before .before in
     let s = n .before .before .before .before .before .before .before in
-    rest-written _ _ _ (s .pre .0) _ (n .count-at .ensures) _ (s .pre .1) _ _ _ _ (b .emit-branches .ensures) _ _ _ (c .before .before .before .before .before .before .path-polygon .ensures) (c .before .before .emit-top .ensures)
+    rest-written _ _ _ (s .pre .0) _ (n .count-at .ensures) _ (s .pre .1) _ _ _ _ (b .emit-branches .ensures) _ _ _ (c .before .before .before .before .before .path-polygon .ensures) (c .before .before .emit-top .ensures)
 
 pub emit-rest-spec : {M : Type 1} → statement M
 emit-rest-spec =
@@ -86,8 +77,6 @@ emit-rest-spec =
     sub-emit-branches
     emit-branches-requires
     path-polygon-requires
-    array-share-prefix-parts
-    slice-aggregate-emit-top
     emit-top-requires
     same-length
     returns)

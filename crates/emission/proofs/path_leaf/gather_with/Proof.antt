@@ -10,33 +10,15 @@ gather-requires c κs = search needs
 on-all-requires : tie.Need-on-all-requires
 on-all-requires c κs = search needs
 
-put-entry-requires : tie.Need-put-entry-requires
-put-entry-requires c κs = search needs
-
-add-result : tie.Need-add-result
-add-result c = search needs
-
-same-length : tie.Need-same-length
-same-length c = search needs
+with-entry-requires : tie.Need-with-entry-requires
+with-entry-requires c κs = search needs
 
 returns : tie.Need-returns
 returns c = search with-hit
-
-same-length-2 : tie.Need-same-length-2
-same-length-2 c = search needs
 
 returns-2 : tie.Need-returns-2
 returns-2 c = search with-miss
 
 pub gather-with-spec : {M : Type 1} → statement M
 gather-with-spec =
-    tie.close
-    (tie.spec
-    gather-requires
-    on-all-requires
-    put-entry-requires
-    add-result
-    same-length
-    returns
-    same-length-2
-    returns-2)
+    tie.close (tie.spec gather-requires on-all-requires with-entry-requires returns returns-2)

@@ -14,11 +14,8 @@ returns c = search (top-dropped, not-true)
 clipped-requires : tie.Need-clipped-requires
 clipped-requires c κs = search needs
 
-cast-put-node : tie.Need-cast-put-node
-cast-put-node c = search needs
-
 put-node-requires : tie.Need-put-node-requires
-put-node-requires c κs = (search (top-room, not-false), search needs, search needs)
+put-node-requires c κs = (search (top-room, not-false), search needs)
 
 add-result : tie.Need-add-result
 add-result c = search needs
@@ -36,7 +33,6 @@ emit-top-spec =
     is-kept-requires
     returns
     clipped-requires
-    cast-put-node
     put-node-requires
     add-result
     same-length

@@ -1,9 +1,8 @@
 -- `whole::emit_split` meets its contract; its steps are in TreeLaws.
 use mathlib.Core.Path.{refl, sym}
 use native.Mathlib.Omega.{arith}
-use lib.Seq.{length-take-le}
 use Rattle.emission.proofs.RowLaws.{emits-on}
-use Rattle.emission.proofs.TreeLaws.{none-next, none-few, root-left-room, root-left, root-right-room, root-right, root-fits, root-top-room, root-done}
+use Rattle.emission.proofs.TreeLaws.{none-next, none-few, root-left-room, root-left, root-right-room, root-right, root-top-room, root-done}
 use borrow.Author.Needs.{needs}
 use Rattle.emission.proofs.whole.emit_split.Statement.{statement}
 use Rattle.emission.proofs.whole.emit_split.Tie as tie
@@ -70,55 +69,35 @@ path-polygon-requires c κs = (c .before .before .before .before .before .before
 slice-aggregate-emit-top : tie.Need-slice-aggregate-emit-top
 slice-aggregate-emit-top c = search needs
 
-array-share-prefix-parts : tie.Need-array-share-prefix-parts
-array-share-prefix-parts c =
-    let s = c .before .before .before .before .before .before .before .before .before .before .before .before .before .before .before .before .before .before .before .before .before .before .pre in
-    let z = c .before .before .before .before .before .before .before .before .before .before .before .before .before .before .before .before .before .none .ensures in
-    let o = c .before .before .before .before .before .before .before .before .before .before .before .before .before .before .before .before .left-side .ensures in
-    let y = root-left _ _ _ _ _ (s .3) (s .4) _ z _ _ o refl _ _ _ (c .before .before .before .before .before .before .before .before .before .before .before .before .before .emit-half .ensures) (c .before .before .before .before .before .before .before .before .before .before .with-top .ensures) in
-    let q = c .before .before .before .before .before .before .before .before .before .right-side .ensures in
-    let x = root-right _ _ _ _ _ _ _ y _ _ q refl _ _ _ (c .before .before .before .before .before .before .emit-half2 .ensures) (c .before .before .before .with-top2 .ensures) in
-    root-fits _ _ _ _ _ _ _ x
-
-slice-aggregate-emit-top-2 : tie.Need-slice-aggregate-emit-top-2
-slice-aggregate-emit-top-2 c =
+emit-top-requires : tie.Need-emit-top-requires
+emit-top-requires c κs =
     let s = c .before .before .before .before .before .before .before .before .before .before .before .before .before .before .before .before .before .before .before .before .before .before .before .pre in
     let z = c .before .before .before .before .before .before .before .before .before .before .before .before .before .before .before .before .before .before .none .ensures in
     let o = c .before .before .before .before .before .before .before .before .before .before .before .before .before .before .before .before .before .left-side .ensures in
     let y = root-left _ _ _ _ _ (s .3) (s .4) _ z _ _ o refl _ _ _ (c .before .before .before .before .before .before .before .before .before .before .before .before .before .before .emit-half .ensures) (c .before .before .before .before .before .before .before .before .before .before .before .with-top .ensures) in
     let q = c .before .before .before .before .before .before .before .before .before .before .right-side .ensures in
     let x = root-right _ _ _ _ _ _ _ y _ _ q refl _ _ _ (c .before .before .before .before .before .before .before .emit-half2 .ensures) (c .before .before .before .before .with-top2 .ensures) in
-    sym (length-take-le _ _ (root-fits _ _ _ _ _ _ _ x))
-
-emit-top-requires : tie.Need-emit-top-requires
-emit-top-requires c κs =
-    let s = c .before .before .before .before .before .before .before .before .before .before .before .before .before .before .before .before .before .before .before .before .before .before .before .before .pre in
-    let z = c .before .before .before .before .before .before .before .before .before .before .before .before .before .before .before .before .before .before .before .none .ensures in
-    let o = c .before .before .before .before .before .before .before .before .before .before .before .before .before .before .before .before .before .before .left-side .ensures in
-    let y = root-left _ _ _ _ _ (s .3) (s .4) _ z _ _ o refl _ _ _ (c .before .before .before .before .before .before .before .before .before .before .before .before .before .before .before .emit-half .ensures) (c .before .before .before .before .before .before .before .before .before .before .before .before .with-top .ensures) in
-    let q = c .before .before .before .before .before .before .before .before .before .before .before .right-side .ensures in
-    let x = root-right _ _ _ _ _ _ _ y _ _ q refl _ _ _ (c .before .before .before .before .before .before .before .before .emit-half2 .ensures) (c .before .before .before .before .before .with-top2 .ensures) in
-    (c .before .before .before .before .path-polygon .ensures .fits, root-top-room _ _ _ _ _ _ _ x)
+    (c .before .before .before .path-polygon .ensures .fits, root-top-room _ _ _ _ _ _ _ x)
 
 same-length : tie.Need-same-length
 same-length c =
-    let s = c .before .before .before .before .before .before .before .before .before .before .before .before .before .before .before .before .before .before .before .before .before .before .before .before .before .before .before .pre in
-    let z = c .before .before .before .before .before .before .before .before .before .before .before .before .before .before .before .before .before .before .before .before .before .before .none .ensures in
-    let o = c .before .before .before .before .before .before .before .before .before .before .before .before .before .before .before .before .before .before .before .before .before .left-side .ensures in
-    let y = root-left _ _ _ _ _ (s .3) (s .4) _ z _ _ o refl _ _ _ (c .before .before .before .before .before .before .before .before .before .before .before .before .before .before .before .before .before .before .emit-half .ensures) (c .before .before .before .before .before .before .before .before .before .before .before .before .before .before .before .with-top .ensures) in
-    let q = c .before .before .before .before .before .before .before .before .before .before .before .before .before .before .right-side .ensures in
-    let x = root-right _ _ _ _ _ _ _ y _ _ q refl _ _ _ (c .before .before .before .before .before .before .before .before .before .before .before .emit-half2 .ensures) (c .before .before .before .before .before .before .before .before .with-top2 .ensures) in
-    root-done _ _ _ _ _ _ _ x _ _ _ (c .before .before .before .before .before .before .before .path-polygon .ensures) (c .before .before .emit-top .ensures) .same-length
+    let s = c .before .before .before .before .before .before .before .before .before .before .before .before .before .before .before .before .before .before .before .before .before .before .before .before .before .before .pre in
+    let z = c .before .before .before .before .before .before .before .before .before .before .before .before .before .before .before .before .before .before .before .before .before .none .ensures in
+    let o = c .before .before .before .before .before .before .before .before .before .before .before .before .before .before .before .before .before .before .before .before .left-side .ensures in
+    let y = root-left _ _ _ _ _ (s .3) (s .4) _ z _ _ o refl _ _ _ (c .before .before .before .before .before .before .before .before .before .before .before .before .before .before .before .before .before .emit-half .ensures) (c .before .before .before .before .before .before .before .before .before .before .before .before .before .before .with-top .ensures) in
+    let q = c .before .before .before .before .before .before .before .before .before .before .before .before .before .right-side .ensures in
+    let x = root-right _ _ _ _ _ _ _ y _ _ q refl _ _ _ (c .before .before .before .before .before .before .before .before .before .before .emit-half2 .ensures) (c .before .before .before .before .before .before .before .with-top2 .ensures) in
+    root-done _ _ _ _ _ _ _ x _ _ _ (c .before .before .before .before .before .before .path-polygon .ensures) (c .before .before .emit-top .ensures) .same-length
 
 returns : tie.Need-returns
 returns c =
-    let s = c .before .before .before .before .before .before .before .before .before .before .before .before .before .before .before .before .before .before .before .before .before .before .before .before .before .before .before .pre in
-    let z = c .before .before .before .before .before .before .before .before .before .before .before .before .before .before .before .before .before .before .before .before .before .before .none .ensures in
-    let o = c .before .before .before .before .before .before .before .before .before .before .before .before .before .before .before .before .before .before .before .before .before .left-side .ensures in
-    let y = root-left _ _ _ _ _ (s .3) (s .4) _ z _ _ o refl _ _ _ (c .before .before .before .before .before .before .before .before .before .before .before .before .before .before .before .before .before .before .emit-half .ensures) (c .before .before .before .before .before .before .before .before .before .before .before .before .before .before .before .with-top .ensures) in
-    let q = c .before .before .before .before .before .before .before .before .before .before .before .before .before .before .right-side .ensures in
-    let x = root-right _ _ _ _ _ _ _ y _ _ q refl _ _ _ (c .before .before .before .before .before .before .before .before .before .before .before .emit-half2 .ensures) (c .before .before .before .before .before .before .before .before .with-top2 .ensures) in
-    root-done _ _ _ _ _ _ _ x _ _ _ (c .before .before .before .before .before .before .before .path-polygon .ensures) (c .before .before .emit-top .ensures)
+    let s = c .before .before .before .before .before .before .before .before .before .before .before .before .before .before .before .before .before .before .before .before .before .before .before .before .before .before .pre in
+    let z = c .before .before .before .before .before .before .before .before .before .before .before .before .before .before .before .before .before .before .before .before .before .none .ensures in
+    let o = c .before .before .before .before .before .before .before .before .before .before .before .before .before .before .before .before .before .before .before .before .left-side .ensures in
+    let y = root-left _ _ _ _ _ (s .3) (s .4) _ z _ _ o refl _ _ _ (c .before .before .before .before .before .before .before .before .before .before .before .before .before .before .before .before .before .emit-half .ensures) (c .before .before .before .before .before .before .before .before .before .before .before .before .before .before .with-top .ensures) in
+    let q = c .before .before .before .before .before .before .before .before .before .before .before .before .before .right-side .ensures in
+    let x = root-right _ _ _ _ _ _ _ y _ _ q refl _ _ _ (c .before .before .before .before .before .before .before .before .before .before .emit-half2 .ensures) (c .before .before .before .before .before .before .before .with-top2 .ensures) in
+    root-done _ _ _ _ _ _ _ x _ _ _ (c .before .before .before .before .before .before .path-polygon .ensures) (c .before .before .emit-top .ensures)
 
 pub emit-split-spec : {M : Type 1} → statement M
 emit-split-spec =
@@ -139,8 +118,6 @@ emit-split-spec =
     with-top-requires-2
     path-polygon-requires
     slice-aggregate-emit-top
-    array-share-prefix-parts
-    slice-aggregate-emit-top-2
     emit-top-requires
     same-length
     returns)

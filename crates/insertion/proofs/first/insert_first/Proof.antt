@@ -1,7 +1,8 @@
+-- `first::insert_first` meets its contract; its laws are in FirstLaws.
 use denote.Ref.{now}
-use native.Mathlib.Omega.{arith}
-use Rattle.insertion.proofs.FirstLaws.{x-room, y-room, first-long, first-work, first-room, one-few, first-done}
 use borrow.Author.Needs.{needs}
+use native.Mathlib.Omega.{arith}
+use Rattle.insertion.proofs.FirstLaws.{x-room, y-room, first-long, first-work, first-room, empty-room, first-done}
 use Rattle.insertion.proofs.first.insert_first.Statement.{statement}
 use Rattle.insertion.proofs.first.insert_first.Tie as tie
 
@@ -11,23 +12,20 @@ add-t7 c = search x-room
 add-t8 : tie.Need-add-t8
 add-t8 c = search y-room
 
-slice-aggregate-put-entry : tie.Need-slice-aggregate-put-entry
-slice-aggregate-put-entry c = search needs
-
-put-entry-requires : tie.Need-put-entry-requires
-put-entry-requires c κs = search needs
+empty-requires : tie.Need-empty-requires
+empty-requires c κs = search needs
 
 of-requires : tie.Need-of-requires
 of-requires c κs = search needs
 
-slice-aggregate-put-node : tie.Need-slice-aggregate-put-node
-slice-aggregate-put-node c = search needs
+with-entry-requires : tie.Need-with-entry-requires
+with-entry-requires c κs = search empty-room
 
 put-node-requires : tie.Need-put-node-requires
-put-node-requires c κs = (search first-room, search needs, search one-few)
+put-node-requires c κs = (search first-room, search needs)
 
 put-tree-requires : tie.Need-put-tree-requires
-put-tree-requires c κs = let s = c .before .before .before .before .before .before .before .before .before .before .before .before .before .before .before in (omega arith, omega arith, search first-long, first-work (now (s .args .m)) _ _ _ (s .pre .1) (c .before .before .before .before .put-node .ensures))
+put-tree-requires c κs = let s = c .before .before .before .before .before .before .before .before .before .before .before .before .before in (omega arith, omega arith, search first-long, first-work (now (s .args .m)) _ _ _ (s .pre .1) (c .before .before .before .before .put-node .ensures))
 
 same-length : tie.Need-same-length
 same-length c = search needs
@@ -44,10 +42,9 @@ insert-first-spec =
     (tie.spec
     add-t7
     add-t8
-    slice-aggregate-put-entry
-    put-entry-requires
+    empty-requires
     of-requires
-    slice-aggregate-put-node
+    with-entry-requires
     put-node-requires
     put-tree-requires
     same-length

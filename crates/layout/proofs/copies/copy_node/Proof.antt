@@ -1,6 +1,7 @@
 -- `copies::copy_node` meets its contract.
 use borrow.Author.Needs.{needs}
-use Rattle.layout.proofs.PartCopies.{items-put}
+use Rattle.geometry.proofs.ArrayLaws.{of-map}
+use Rattle.layout.proofs.PartCopies.{copied-put}
 use Rattle.layout.proofs.copies.copy_node.Statement.{statement}
 use Rattle.layout.proofs.copies.copy_node.Tie as tie
 
@@ -32,7 +33,7 @@ same-length : tie.Need-same-length
 same-length c = search needs
 
 returns : tie.Need-returns
-returns c = search items-put
+returns c = search (copied-put, of-map)
 
 pub copy-node-spec : {M : Type 1} → statement M
 copy-node-spec =

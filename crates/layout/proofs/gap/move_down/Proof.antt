@@ -14,20 +14,20 @@ abbrev μ-loop : tie.MeasureT-loop
 loop-holds : tie.Need-loop-holds Inv-loop μ-loop
 loop-holds c = search move-start
 
-add-p : tie.Need-add-p Inv-loop μ-loop
-add-p c = search needs
+add-list : tie.Need-add-list Inv-loop μ-loop
+add-list c = search needs
 
-mul-p : tie.Need-mul-p Inv-loop μ-loop
-mul-p c = search needs
+mul-list : tie.Need-mul-list Inv-loop μ-loop
+mul-list c = search needs
 
-slice-read-p : tie.Need-slice-read-p Inv-loop μ-loop
-slice-read-p c = search needs
+slice-read-list : tie.Need-slice-read-list Inv-loop μ-loop
+slice-read-list c = search needs
 
-mul-p-2 : tie.Need-mul-p-2 Inv-loop μ-loop
-mul-p-2 c = search needs
+mul-list-2 : tie.Need-mul-list-2 Inv-loop μ-loop
+mul-list-2 c = search needs
 
-slice-write-p : tie.Need-slice-write-p Inv-loop μ-loop
-slice-write-p c = search needs
+slice-write-list : tie.Need-slice-write-list Inv-loop μ-loop
+slice-write-list c = search needs
 
 add-at : tie.Need-add-at Inv-loop μ-loop
 add-at c = search needs
@@ -51,11 +51,11 @@ move-down-spec =
     Inv-loop
     μ-loop
     loop-holds
-    add-p
-    mul-p
-    slice-read-p
-    mul-p-2
-    slice-write-p
+    add-list
+    mul-list
+    slice-read-list
+    mul-list-2
+    slice-write-list
     add-at
     loop-less
     loop-again

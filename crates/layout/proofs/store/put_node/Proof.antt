@@ -1,5 +1,6 @@
 -- `store::put_node` meets its contract.
 use borrow.Author.Needs.{needs}
+use Rattle.geometry.proofs.ArrayLaws.{of-map}
 use Rattle.layout.proofs.NodeStore.{node-put}
 use Rattle.layout.proofs.store.put_node.Statement.{statement}
 use Rattle.layout.proofs.store.put_node.Tie as tie
@@ -32,7 +33,7 @@ same-length : tie.Need-same-length
 same-length c = search needs
 
 returns : tie.Need-returns
-returns c = search node-put
+returns c = search (node-put, of-map)
 
 pub put-node-spec : {M : Type 1} → statement M
 put-node-spec =

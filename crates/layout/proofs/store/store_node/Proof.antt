@@ -1,6 +1,7 @@
 -- `store::store_node` meets its contract; what it writes is in NodeStore.
 use borrow.Author.Needs.{needs}
 use lib.ListN.{length-set}
+use Rattle.geometry.proofs.ArrayLaws.{of-map}
 use Rattle.layout.proofs.NodeStore.{node-stored}
 use Rattle.layout.proofs.store.store_node.Statement.{statement}
 use Rattle.layout.proofs.store.store_node.Tie as tie
@@ -17,17 +18,8 @@ part-store-rects-end c = search needs
 store-rects-requires : tie.Need-store-rects-requires
 store-rects-requires c κs = search needs
 
-sub-copy : tie.Need-sub-copy
-sub-copy c = search needs
-
-part-copy-start : tie.Need-part-copy-start
-part-copy-start c = search needs
-
-part-copy-end : tie.Need-part-copy-end
-part-copy-end c = search needs
-
-copy-requires : tie.Need-copy-requires
-copy-requires c κs = search needs
+store-items-requires : tie.Need-store-items-requires
+store-items-requires c κs = search needs
 
 cast-part : tie.Need-cast-part
 cast-part c = search needs
@@ -35,14 +27,11 @@ cast-part c = search needs
 slice-write-part : tie.Need-slice-write-part
 slice-write-part c = search needs
 
-slice-write-part-2 : tie.Need-slice-write-part-2
-slice-write-part-2 c = simp length-set (search needs)
-
 same-length : tie.Need-same-length
 same-length c = simp length-set (search needs)
 
 returns : tie.Need-returns
-returns c = search node-stored
+returns c = search (node-stored, of-map)
 
 pub store-node-spec : {M : Type 1} → statement M
 store-node-spec =
@@ -52,12 +41,8 @@ store-node-spec =
     part-store-rects-start
     part-store-rects-end
     store-rects-requires
-    sub-copy
-    part-copy-start
-    part-copy-end
-    copy-requires
+    store-items-requires
     cast-part
     slice-write-part
-    slice-write-part-2
     same-length
     returns)

@@ -1,11 +1,11 @@
 -- `below::take_branch` meets its contract; its ways are in TakeWays.
-use Rattle.removal.proofs.TakeWays.{take-last, take-branch}
 use borrow.Author.Needs.{needs}
+use Rattle.removal.proofs.TakeWays.{has-item, few-items, take-last, take-branch}
 use Rattle.removal.proofs.below.take_branch.Statement.{statement}
 use Rattle.removal.proofs.below.take_branch.Tie as tie
 
-count-at-requires : tie.Need-count-at-requires
-count-at-requires c κs = search needs
+node-at-requires : tie.Need-node-at-requires
+node-at-requires c κs = search needs
 
 set-free-requires : tie.Need-set-free-requires
 set-free-requires c κs = search needs
@@ -16,8 +16,11 @@ same-length c = search needs
 returns : tie.Need-returns
 returns c = search take-last
 
-drop-branch-at-requires : tie.Need-drop-branch-at-requires
-drop-branch-at-requires c κs = search needs
+without-child-requires : tie.Need-without-child-requires
+without-child-requires c κs = (search has-item, search few-items)
+
+set-node-requires : tie.Need-set-node-requires
+set-node-requires c κs = search needs
 
 same-length-2 : tie.Need-same-length-2
 same-length-2 c = search needs
@@ -29,10 +32,11 @@ pub take-branch-spec : {M : Type 1} → statement M
 take-branch-spec =
     tie.close
     (tie.spec
-    count-at-requires
+    node-at-requires
     set-free-requires
     same-length
     returns
-    drop-branch-at-requires
+    without-child-requires
+    set-node-requires
     same-length-2
     returns-2)

@@ -1,11 +1,11 @@
 -- `below::take_entry` meets its contract; its ways are in TakeWays.
-use Rattle.removal.proofs.TakeWays.{take-last, take-entry}
 use borrow.Author.Needs.{needs}
+use Rattle.removal.proofs.TakeWays.{has-item, few-items, take-last, take-entry}
 use Rattle.removal.proofs.below.take_entry.Statement.{statement}
 use Rattle.removal.proofs.below.take_entry.Tie as tie
 
-count-at-requires : tie.Need-count-at-requires
-count-at-requires c κs = search needs
+node-at-requires : tie.Need-node-at-requires
+node-at-requires c κs = search needs
 
 set-free-requires : tie.Need-set-free-requires
 set-free-requires c κs = search needs
@@ -16,8 +16,11 @@ same-length c = search needs
 returns : tie.Need-returns
 returns c = search take-last
 
-drop-entry-at-requires : tie.Need-drop-entry-at-requires
-drop-entry-at-requires c κs = search needs
+without-entry-requires : tie.Need-without-entry-requires
+without-entry-requires c κs = (search has-item, search few-items)
+
+set-node-requires : tie.Need-set-node-requires
+set-node-requires c κs = search needs
 
 same-length-2 : tie.Need-same-length-2
 same-length-2 c = search needs
@@ -29,10 +32,11 @@ pub take-entry-spec : {M : Type 1} → statement M
 take-entry-spec =
     tie.close
     (tie.spec
-    count-at-requires
+    node-at-requires
     set-free-requires
     same-length
     returns
-    drop-entry-at-requires
+    without-entry-requires
+    set-node-requires
     same-length-2
     returns-2)

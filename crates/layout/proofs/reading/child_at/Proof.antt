@@ -1,7 +1,7 @@
 use Rattle.layout.proofs.NodeLaws.{child-of}
 use borrow.Author.Needs.{needs}
-use Rattle.layout.proofs.node.child_at.Statement.{statement}
-use Rattle.layout.proofs.node.child_at.Tie as tie
+use Rattle.layout.proofs.reading.child_at.Statement.{statement}
+use Rattle.layout.proofs.reading.child_at.Tie as tie
 
 part-at-requires : tie.Need-part-at-requires
 part-at-requires c κs = search needs

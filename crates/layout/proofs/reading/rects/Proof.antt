@@ -1,7 +1,7 @@
 use borrow.Author.Needs.{needs}
 use Rattle.layout.proofs.NodeLaws.{rest-is}
-use Rattle.layout.proofs.node.rects.Statement.{statement}
-use Rattle.layout.proofs.node.rects.Tie as tie
+use Rattle.layout.proofs.reading.rects.Statement.{statement}
+use Rattle.layout.proofs.reading.rects.Tie as tie
 
 sub-result : tie.Need-sub-result
 sub-result c = search needs

@@ -1,7 +1,7 @@
 use Rattle.layout.proofs.NodeLaws.{count-of}
 use borrow.Author.Needs.{needs}
-use Rattle.layout.proofs.node.count_at.Statement.{statement}
-use Rattle.layout.proofs.node.count_at.Tie as tie
+use Rattle.layout.proofs.reading.count_at.Statement.{statement}
+use Rattle.layout.proofs.reading.count_at.Tie as tie
 
 part-at-requires : tie.Need-part-at-requires
 part-at-requires c κs = search needs

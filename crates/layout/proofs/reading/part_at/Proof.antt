@@ -1,7 +1,7 @@
 use borrow.Author.Needs.{needs}
 use Rattle.layout.proofs.NodeLaws.{part-is, part-long}
-use Rattle.layout.proofs.node.part_at.Statement.{statement}
-use Rattle.layout.proofs.node.part_at.Tie as tie
+use Rattle.layout.proofs.reading.part_at.Statement.{statement}
+use Rattle.layout.proofs.reading.part_at.Tie as tie
 
 mul-a : tie.Need-mul-a
 mul-a c = search needs

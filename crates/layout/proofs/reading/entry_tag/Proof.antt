@@ -1,7 +1,7 @@
 use borrow.Author.Needs.{needs}
 use Rattle.layout.proofs.NodeLaws.{tag-is}
-use Rattle.layout.proofs.node.entry_tag.Statement.{statement}
-use Rattle.layout.proofs.node.entry_tag.Tie as tie
+use Rattle.layout.proofs.reading.entry_tag.Statement.{statement}
+use Rattle.layout.proofs.reading.entry_tag.Tie as tie
 
 mul-result : tie.Need-mul-result
 mul-result c = search needs

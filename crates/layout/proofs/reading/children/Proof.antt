@@ -1,7 +1,7 @@
 use borrow.Author.Needs.{needs}
 use Rattle.layout.proofs.NodeLaws.{children-are}
-use Rattle.layout.proofs.node.children.Statement.{statement}
-use Rattle.layout.proofs.node.children.Tie as tie
+use Rattle.layout.proofs.reading.children.Statement.{statement}
+use Rattle.layout.proofs.reading.children.Tie as tie
 
 shared-slice-read-end : tie.Need-shared-slice-read-end
 shared-slice-read-end c = search needs

@@ -1,7 +1,7 @@
 use borrow.Author.Needs.{needs}
 use Rattle.layout.proofs.NodeLaws.{cell-is}
-use Rattle.layout.proofs.node.entry_cell.Statement.{statement}
-use Rattle.layout.proofs.node.entry_cell.Tie as tie
+use Rattle.layout.proofs.reading.entry_cell.Statement.{statement}
+use Rattle.layout.proofs.reading.entry_cell.Tie as tie
 
 mul-at : tie.Need-mul-at
 mul-at c = search needs
