@@ -8,25 +8,32 @@ use lib.ListN.{length}
 use Rattle.geometry.specs.declared.rect.Cell.{Cell}
 use Rattle.tree.specs.Lists.{notEmpty}
 use Rattle.plane.specs.Lines.{CellEntry}
-use Rattle.memory.specs.Layout.{itemCount, entryIn}
+use Rattle.memory.specs.Layout.{entryIn}
 use Rattle.layout.specs.declared.node.Node.{Node}
-use Rattle.layout.specs.Loaded.{nodeOf, leafOf, withEntry}
+use Rattle.layout.specs.Loaded.{nodeOf, leafOf, nodeIn, entryOf, withEntry}
 use Rattle.layout.specs.Nodes.{NodePart}
-use Rattle.layout.proofs.LoadedLaws.{no-entries, count-entries, entry-more}
-use Rattle.index.proofs.WalkLeaf.{AtEntry, entry-start, entry-miss, entry-hit, entry-end}
+use Rattle.layout.proofs.LoadedLaws.{no-entries, count-entries, entry-more, loaded-entry}
+use Rattle.index.proofs.WalkLeaf.{AtEntry, loaded-start, entry-small, entry-nine, entry-test, entry-miss, entry-hit, entry-end}
 use Rattle.sides.specs.Sides.{onEvery}
 use Rattle.emission.specs.Leaves.{onTest, leafLeft}
 
 -- an entry's test, by its cell
-pub left-is : (ss p : List ℕ) (i : ℕ) (c : Cell) (b : Bool) → c ≡ entryIn p i .cell → b ≡ onEvery ss c → b ≡ onTest ss (entryIn p i)
+pub left-is : (ss : List ℕ) (e : CellEntry) (c : Cell) (b : Bool) → c ≡ e .cell → b ≡ onEvery ss c → b ≡ onTest ss e
 unfolding onTest
-left-is ss p i c b q e = e ∙ ap (onEvery ss) q
+left-is ss e c b q g = g ∙ ap (onEvery ss) q
 
 -- an entry was found, or none is left
 module _ (ss p : List ℕ) (n i : ℕ) (a : AtEntry (onTest ss) p n i []) where
-  pub left-found : (b : Bool) → i < n → b ≡ onTest ss (entryIn p i) → b ≡ true → true ≡ notEmpty (leafLeft ss p)
-  unfolding leafLeft
-  left-found b h e f = rw (← (entry-hit (onTest ss) p n i [] a h b e f .entries))
+  module _ (leaf : Node) (q : leaf ≡ nodeIn p) (h : i < n) (b : Bool) (e : b ≡ onTest ss (entryOf leaf i)) where
+    passed : b ≡ onTest ss (entryIn p i)
+    passed = entry-test (onTest ss) p n i [] a leaf q h b e
+
+    pub left-found : b ≡ true → true ≡ notEmpty (leafLeft ss p)
+    unfolding leafLeft
+    left-found f = rw (← (entry-hit (onTest ss) p n i [] a h b passed f .entries))
+
+    pub left-not : b ≡ false → AtEntry (onTest ss) p n (i + 1) []
+    left-not f = entry-miss (onTest ss) p n i [] a h b passed f
 
   pub left-nothing : n ≤ i → false ≡ notEmpty (leafLeft ss p)
   unfolding leafLeft
@@ -39,12 +46,12 @@ pub record GatherLoop (ss p : List ℕ) (n i : ℕ) (left : Node) : Type 0 where
   pub so-far : left ≡ leafOf es
   pub few : left .count ≤ i
 
-module _ (ss p : List ℕ) (n : ℕ) where
-  pub gather-start : (left : Node) → NodePart p → n ≡ itemCount p → left ≡ nodeOf 0 [] → GatherLoop ss p n 0 left
+module _ (ss p : List ℕ) (n : ℕ) (leaf : Node) (l : leaf ≡ nodeIn p) where
+  pub gather-start : (left : Node) → NodePart p → n ≡ leaf .count → left ≡ nodeOf 0 [] → GatherLoop ss p n 0 left
   unfolding nodeOf
   gather-start left v q e = record {
     es = [];
-    at = entry-start (onTest ss) p n v q;
+    at = loaded-start (onTest ss) p n leaf l v q;
     so-far = e ∙ no-entries;
     few = rw e (omega arith);
   }
@@ -57,25 +64,35 @@ module _ (ss p : List ℕ) (n : ℕ) where
     pub gather-few : left .count ≤ 8
     gather-few = let f = a .few in let g = a .at .i-le in let q = a .at .count in let k = a .at .leaf .few-items in omega arith
 
-    module _ (h : i < n) (b : Bool) (e : b ≡ onTest ss (entryIn p i)) where
+    pub gather-small : i < n → i < 8
+    gather-small h = entry-small (onTest ss) p n i (a .es) (a .at) leaf l h
+
+    pub gather-nine : i < n → i < 9
+    gather-nine h = entry-nine (onTest ss) p n i (a .es) (a .at) leaf l h
+
+    module _ (h : i < n) (b : Bool) (e : b ≡ onTest ss (entryOf leaf i)) where
+      kept : b ≡ onTest ss (entryIn p i)
+      kept = entry-test (onTest ss) p n i (a .es) (a .at) leaf l h b e
+
       pub gather-miss : (left′ : Node) → b ≡ false → left′ ≡ left → GatherLoop ss p n (i + 1) left′
       gather-miss left′ f q = rw q (record {
         es = a .es;
-        at = entry-miss (onTest ss) p n i (a .es) (a .at) h b e f;
+        at = entry-miss (onTest ss) p n i (a .es) (a .at) h b kept f;
         so-far = a .so-far;
         few = let g = a .few in omega arith;
       })
 
-      pub gather-hit : (c : Cell) (t : ℕ) (left″ left′ : Node) → b ≡ true → c ≡ entryIn p i .cell → t ≡ entryIn p i .tag
+      pub gather-hit : (c : Cell) (t : ℕ) (left″ left′ : Node) → b ≡ true → c ≡ entryOf leaf i .cell → t ≡ entryOf leaf i .tag
           → left″ ≡ withEntry left (record { cell = c; tag = t }) → left′ ≡ left″ → GatherLoop ss p n (i + 1) left′
       unfolding withEntry
       gather-hit c t left″ left′ f u v x q =
           let g = gather-few in
           let k : left .count ≡ length (a .es) = ap (λ (l : Node). l .count) (a .so-far) ∙ count-entries (a .es) in
-          let y : left′ ≡ withEntry left (entryIn p i) = q ∙ rw (u, v) at x in
+          let o = loaded-entry p leaf l i (gather-small h) in
+          let y : left′ ≡ withEntry left (entryIn p i) = q ∙ (rw (u, v) at x) ∙ ap (withEntry left) o in
           rw y (record {
             es = a .es ++ (entryIn p i ∷ []);
-            at = entry-hit (onTest ss) p n i (a .es) (a .at) h b e f;
+            at = entry-hit (onTest ss) p n i (a .es) (a .at) h b kept f;
             so-far = ap (λ (l : Node). withEntry l (entryIn p i)) (a .so-far) ∙ entry-more (a .es) (entryIn p i) (omega arith);
             few = let m = a .few in omega arith;
           })

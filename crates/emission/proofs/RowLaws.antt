@@ -19,11 +19,11 @@ use Rattle.memory.proofs.NodeImage.{length-node}
 use Rattle.memory.proofs.ReadingLaws.{lowAt, row-at, row-length, node-parts, node-lower}
 use Rattle.memory.specs.Fanout.{fanout}
 use Rattle.layout.specs.declared.node.Node.{Node}
-use Rattle.layout.specs.Loaded.{nodeOf, routingOf, withChild}
+use Rattle.layout.specs.Loaded.{nodeOf, routingOf, nodeIn, childOf, withChild}
 use Rattle.layout.specs.Nodes.{childAt, countAt}
 use Rattle.index.specs.Walks.{Walkable}
 use Rattle.layout.proofs.NodeLaws.{child-in}
-use Rattle.layout.proofs.LoadedLaws.{count-children, child-more}
+use Rattle.layout.proofs.LoadedLaws.{count-children, child-at, child-more}
 use Rattle.index.proofs.WalkLoop.{children-count}
 use Rattle.index.proofs.WalkRows.{walkable}
 use Rattle.emission.specs.declared.tops.Tops.{Tops}
@@ -81,6 +81,14 @@ module _ (n : ℕ) (m : List ℕ) (k : ℕ) (v : Walkable (suc n) m 0 k) where
 pub range-none : (n : ℕ) (m : List ℕ) (k i : ℕ) (ss : List ℕ) → rangeUnder n m k i i ss ≡ []
 unfolding rangeUnder flatMap
 range-none n m k i ss = let e : i - i ≡ 0 = omega arith in rw e
+
+-- the branches of the node as it was loaded, up to one of them
+module _ (n : ℕ) (m : List ℕ) (k : ℕ) (v : Walkable (suc n) m 0 k) (to : ℕ) (l : to ≤ countAt m k) (node : Node) (q : node ≡ nodeIn (part m k)) (i : ℕ) (h : i < to) where
+  pub range-nine : i < 9
+  range-nine = let f = v .few in omega arith
+
+  pub range-child : (j : ℕ) → j ≡ childOf node i → j ≡ childAt m k i
+  range-child j e = let f = v .few in child-at m k node q i j (omega arith) e
 
 -- branches that follow one another fit where all of them fit
 module _ (n : ℕ) (w : List ℕ) (next : ℕ) (bs cs : List (Item (planeSpace fanout) (suc n))) (r : Room n w next (bs ++ cs)) where

@@ -9,10 +9,9 @@ ghost use Rattle.emission.specs.Leaves.{leafUnder};
 use crate::leaf::gather;
 use crate::node::put_left;
 use layout::Node;
-use layout::child_at;
 use layout::copy_node;
 use layout::copy_part;
-use layout::count_at;
+use layout::node_at;
 use layout::part_at;
 
 // Copies the subtree at part k, whose parts are those from lo on, into the parts of the work area from next on; answers the next free part.
@@ -25,19 +24,20 @@ pub fn copy_below(m: &[u32], level: u32, lo: u32, k: u32, work: &mut [u32], next
         copy_part(part_at(m, k), work, next);
         return next + 1;
     }
-    let n = count_at(m, k) as usize;
-    let mut node = Node::empty();
+    let node = node_at(m, k);
+    let n = node.count as usize;
+    let mut copy = Node::empty();
     let mut free = next;
     let mut low = lo;
     let mut i = 0;
     while i < n {
-        let j = child_at(m, k, i);
+        let j = node.child(i);
         free = copy_below(m, level - 1, low, j, work, free);
-        node = node.with_child(free - 1);
+        copy = copy.with_child(free - 1);
         low = j + 1;
         i += 1;
     }
-    copy_node(part_at(m, k), node, work, free);
+    copy_node(part_at(m, k), copy, work, free);
     free + 1
 }
 
@@ -73,13 +73,14 @@ pub fn emit_below(
     if level == 0 {
         return emit_leaf(part_at(m, k), sides, work, next);
     }
-    let n = count_at(m, k) as usize;
+    let node = node_at(m, k);
+    let n = node.count as usize;
     let mut left = Node::empty();
     let mut free = next;
     let mut low = lo;
     let mut i = 0;
     while i < n {
-        let j = child_at(m, k, i);
+        let j = node.child(i);
         let after = emit_below(m, level - 1, low, j, sides, work, free);
         if after != free {
             left = left.with_child(after - 1);

@@ -14,6 +14,8 @@ ghost use Rattle.emission.specs.Rows.{topParts};
 use crate::beside::count_beside;
 use crate::capped::capped_sum;
 use crate::front::put_in_front;
+use crate::path::PATH_LEVEL;
+use crate::path::PATH_LINE;
 use crate::path_leaf::gather_with;
 use crate::top::is_kept;
 use geometry::Cell;
@@ -54,7 +56,7 @@ pub fn count_half(m: &[u32], path: &[u32], level: u32, sides: &[u32], c: Cell, t
     }
     let beside = count_beside(m, path, level, sides);
     let below = level - 1;
-    let line = path[68 * (below as usize) + 2];
+    let line = path[PATH_LEVEL * (below as usize) + PATH_LINE];
     if line == 0 {
         let whole = count_half(m, path, below, sides, c, tag);
         return count_top(sides, capped_sum(beside, whole));
@@ -74,7 +76,7 @@ pub fn count_tree(m: &[u32], path: &[u32], level: u32, c: Cell, tag: u32) -> u32
     requires { ⌜ PathFrom level (now path) (now m) × (level ≤ 255) ⌝ }
     ensures { λ r. ⌜ r ≡ min countLimit (nodeCount (planeSpace fanout) (some (plannedTree level (now (path .entry)) (now (m .entry)) (entryOf c tag)))) ⌝ }
 {
-    let line = path[68 * (level as usize) + 2];
+    let line = path[PATH_LEVEL * (level as usize) + PATH_LINE];
     if line == 0 {
         let none = [0u32; 0];
         return count_half(m, path, level, &none, c, tag);

@@ -7,8 +7,7 @@ ghost use Rattle.emission.specs.Emits.{counted, deepAt};
 ghost use Rattle.emission.specs.Leaves.{leafUnder};
 use crate::capped::capped_sum;
 use crate::leaf::any_left;
-use layout::child_at;
-use layout::count_at;
+use layout::node_at;
 use layout::part_at;
 
 // How many nodes are left of a leaf under the sides: one, or none where it is dropped.
@@ -33,12 +32,13 @@ pub fn count_below(m: &[u32], level: u32, lo: u32, k: u32, sides: &[u32]) -> u32
     if level == 0 {
         return count_leaf(part_at(m, k), sides);
     }
-    let n = count_at(m, k) as usize;
+    let node = node_at(m, k);
+    let n = node.count as usize;
     let mut nodes: u32 = 0;
     let mut low = lo;
     let mut i = 0;
     while i < n {
-        let j = child_at(m, k, i);
+        let j = node.child(i);
         let below = count_below(m, level - 1, low, j, sides);
         nodes = capped_sum(nodes, below);
         low = j + 1;

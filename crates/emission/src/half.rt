@@ -8,6 +8,9 @@ ghost use Rattle.emission.specs.Path.{PathFrom, halfUnder, placeOn, poly
 ghost use Rattle.emission.specs.Rows.{PathStep, Grows, RestWritten, RestRoom, noTops, beforeOn, behindOn};
 use crate::branches::emit_branches;
 use crate::front::put_in_front;
+use crate::path::PATH_LEVEL;
+use crate::path::PATH_LINE;
+use crate::path::PATH_PLACE;
 use crate::path::path_polygon;
 use crate::path_leaf::emit_leaf;
 use crate::top::emit_top;
@@ -29,9 +32,9 @@ fn emit_before(
     requires { ⌜ PathStep level (now path) (now m) × Room (level - 1) (now work) next (beforeOn level (now path) (now m) (now sides)) ⌝ }
     ensures { λ t. ⌜ Grows (level - 1) (now (work .entry)) (noTops next) (beforeOn level (now (path .entry)) (now (m .entry)) (now (sides .entry))) (now (work .exit)) t ⌝ }
 {
-    let at = 68 * (level as usize);
+    let at = PATH_LEVEL * (level as usize);
     let k = path[at];
-    let place = path[at + 1] as usize;
+    let place = path[at + PATH_PLACE] as usize;
     let tops = Tops::none(next);
     emit_branches(m, level - 1, k, 0, place, sides, work, tops)
 }
@@ -48,9 +51,9 @@ fn emit_rest(
     requires { ⌜ PathStep level (now path) (now m) × (tops .node .count ≤ placeOn (now path) level + 2) × RestRoom (level - 1) (now sides) (behindOn level (now path) (now m) (now sides)) (now work) tops ⌝ }
     ensures { λ r. ⌜ RestWritten (level - 1) (polygonOn (now (path .entry)) level) (now (sides .entry)) (behindOn level (now (path .entry)) (now (m .entry)) (now (sides .entry))) (now (work .entry)) tops (now (work .exit)) r ⌝ }
 {
-    let at = 68 * (level as usize);
+    let at = PATH_LEVEL * (level as usize);
     let k = path[at];
-    let from = (path[at + 1] as usize) + 1;
+    let from = (path[at + PATH_PLACE] as usize) + 1;
     let to = count_at(m, k) as usize;
     let all = emit_branches(m, level - 1, k, from, to, sides, work, tops);
     let p = path_polygon(path, level as usize);
@@ -78,7 +81,7 @@ pub fn emit_half(
     }
     let before = emit_before(m, path, level, sides, work, next);
     let below = level - 1;
-    let line = path[68 * (below as usize) + 2];
+    let line = path[PATH_LEVEL * (below as usize) + PATH_LINE];
     if line == 0 {
         let after = emit_half(m, path, below, sides, c, tag, work, before.next);
         let tops = before.with_top(after);

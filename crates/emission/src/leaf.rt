@@ -2,22 +2,18 @@
 ghost use mathlib.Core.Path.{_≡_};
 ghost use Prim.Native.Nat.{_≤_, _<_};
 ghost use Rattle.tree.specs.Lists.{notEmpty};
-ghost use Rattle.memory.specs.Layout.{entryIn};
-ghost use Rattle.layout.specs.Loaded.{leafOf};
-ghost use Rattle.layout.specs.Nodes.{IsPart, NodePart};
+ghost use Rattle.layout.specs.Loaded.{leafOf, entryOf};
+ghost use Rattle.layout.specs.Nodes.{NodePart};
 ghost use Rattle.emission.specs.Leaves.{onTest, leafLeft};
 use layout::Node;
-use layout::entry_cell;
-use layout::entry_tag;
-use layout::item_count;
 use sides::on_all;
 
-// Whether the i-th entry of a leaf's part is on every side.
-fn is_left(p: &[u32], i: usize, sides: &[u32]) -> bool
-    requires { ⌜ IsPart (now p) × (i < 8) ⌝ }
-    ensures { λ b. ⌜ b ≡ onTest (now (sides .entry)) (entryIn (now (p .entry)) i) ⌝ }
+// Whether the i-th entry of a leaf is on every side.
+fn is_left(leaf: Node, i: usize, sides: &[u32]) -> bool
+    requires { ⌜ i < 8 ⌝ }
+    ensures { λ b. ⌜ b ≡ onTest (now (sides .entry)) (entryOf leaf i) ⌝ }
 {
-    on_all(sides, entry_cell(p, i))
+    on_all(sides, leaf.cell(i))
 }
 
 // Whether an entry of a leaf's part is on every side.
@@ -25,10 +21,11 @@ pub fn any_left(p: &[u32], sides: &[u32]) -> bool
     requires { ⌜ NodePart (now p) ⌝ }
     ensures { λ b. ⌜ b ≡ notEmpty (leafLeft (now (sides .entry)) (now (p .entry))) ⌝ }
 {
-    let n = item_count(p) as usize;
+    let leaf = Node::load(p);
+    let n = leaf.count as usize;
     let mut i = 0;
     while i < n {
-        if is_left(p, i, sides) {
+        if is_left(leaf, i, sides) {
             return true;
         }
         i += 1;
@@ -42,12 +39,13 @@ pub fn gather(p: &[u32], sides: &[u32]) -> Node
     ensures { λ r. ⌜ r ≡ leafOf (leafLeft (now (sides .entry)) (now (p .entry))) ⌝ }
     ensures { λ r. ⌜ r .count ≤ 8 ⌝ }
 {
-    let n = item_count(p) as usize;
+    let leaf = Node::load(p);
+    let n = leaf.count as usize;
     let mut left = Node::empty();
     let mut i = 0;
     while i < n {
-        if is_left(p, i, sides) {
-            left = left.with_entry(entry_cell(p, i), entry_tag(p, i));
+        if is_left(leaf, i, sides) {
+            left = left.with_entry(leaf.cell(i), leaf.tag(i));
         }
         i += 1;
     }

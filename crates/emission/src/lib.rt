@@ -17,6 +17,11 @@ mod tops;
 mod whole;
 
 pub use count_path::count_tree;
+pub use path::PATH_COUNT;
+pub use path::PATH_LEVEL;
+pub use path::PATH_LINE;
+pub use path::PATH_PLACE;
+pub use path::PATH_RECTS;
 pub use path::path_polygon;
 pub use whole::Emitted;
 pub use whole::emit_tree;

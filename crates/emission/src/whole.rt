@@ -9,6 +9,8 @@ ghost use Rattle.emission.specs.Path.{PathNode, PathFrom, lineOn, polygo
 ghost use Rattle.emission.specs.Rows.{RestRoom, noTops};
 ghost use Rattle.emission.specs.Whole.{TreeRoom, TreeEmitted};
 use crate::half::emit_half;
+use crate::path::PATH_LEVEL;
+use crate::path::PATH_LINE;
 use crate::path::path_polygon;
 use crate::top::emit_top;
 use crate::tops::Tops;
@@ -27,7 +29,7 @@ fn emit_split(m: &[u32], path: &[u32], level: u32, c: Cell, tag: u32, work: &mut
     requires { ⌜ PathNode level (now path) (now m) × PathFrom level (now path) (now m) × (level ≤ 255) × (lineOn (now path) level ≡ 0 → ⊥) × RestRoom level [] (cutUnder level (now path) (now m) (entryOf c tag) (sidesOf [])) (now work) (noTops 0) ⌝ }
     ensures { λ r. ⌜ Emits (suc level) (now (work .entry)) 0 (record { poly = polygonOn (now (path .entry)) level; child = cutUnder level (now (path .entry)) (now (m .entry)) (entryOf c tag) [] } ∷ []) (now (work .exit)) r ⌝ }
 {
-    let line = path[68 * (level as usize) + 2];
+    let line = path[PATH_LEVEL * (level as usize) + PATH_LINE];
     let tops = Tops::none(0);
     let before = [left_side(line); 1];
     let middle = emit_half(m, path, level, &before, c, tag, work, 0);
@@ -53,7 +55,7 @@ pub fn emit_tree(
     requires { ⌜ PathFrom level (now path) (now m) × (level ≤ 255) × TreeRoom (now work) (plannedTree level (now path) (now m) (entryOf c tag)) ⌝ }
     ensures { λ r. ⌜ TreeEmitted (now (work .entry)) (plannedTree level (now (path .entry)) (now (m .entry)) (entryOf c tag)) (now (work .exit)) r ⌝ }
 {
-    let line = path[68 * (level as usize) + 2];
+    let line = path[PATH_LEVEL * (level as usize) + PATH_LINE];
     if line == 0 {
         let none = [0u32; 0];
         let parts = emit_half(m, path, level, &none, c, tag, work, 0);

@@ -7,6 +7,7 @@ pub mod OpenLaws
 pub mod ReadsLaws
 pub mod ClearWays
 pub mod WalkParts
+pub mod WalkNode
 pub mod WalkRows
 pub mod WalkLoop
 pub mod WalkLeaf

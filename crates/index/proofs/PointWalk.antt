@@ -9,10 +9,12 @@ use lib.Dec.{eqb}
 use Rattle.geometry.specs.declared.rect.Cell.{Cell}
 use Rattle.plane.specs.Lines.{CellEntry}
 use Rattle.memory.specs.Layout.{part, entryIn, polygonIn}
+use Rattle.layout.specs.declared.node.Node.{Node}
+use Rattle.layout.specs.Loaded.{nodeIn, entryOf}
 use Rattle.layout.specs.Nodes.{childAt, countAt}
 use Rattle.index.specs.declared.walk.Found.{Found}
 use Rattle.index.specs.Walks.{hasTest, cellTest, visitsBelow, leafEntries, Walkable, found, foundOf, joined, heldBelow}
-use Rattle.index.proofs.WalkLeaf.{AtEntry, entry-hit}
+use Rattle.index.proofs.WalkLeaf.{AtEntry, entry-hit, entry-miss, entry-test, entry-tag}
 use Rattle.index.proofs.WalkRows.{leaf-visits, leaf-entries}
 use Rattle.index.proofs.WalkLoop.{AtChild, child-start, child-miss, child-hit, end-visits, end-entries, so-far-few}
 
@@ -50,10 +52,18 @@ found-visits (e ∷ es) v = refl
 
 -- the leaf: the first entry that passes, or none
 module _ (c : Cell) (p : List ℕ) (n i : ℕ) (a : AtEntry (cellTest c) p n i []) where
-  pub leaf-held : (b : Bool) (t : ℕ) → i < n → b ≡ cellTest c (entryIn p i) → b ≡ true → t ≡ entryIn p i .tag
-      → record { held = true; tag = t; visits = 1 } ≡ found (leafEntries (cellTest c) p) 1
-  unfolding found foundOf
-  leaf-held b t h e f g = rw (g, ← (entry-hit (cellTest c) p n i [] a h b e f .entries))
+  module _ (leaf : Node) (q : leaf ≡ nodeIn p) (h : i < n) (b : Bool) (e : b ≡ cellTest c (entryOf leaf i)) where
+    of-cell : b ≡ cellTest c (entryIn p i)
+    of-cell = entry-test (cellTest c) p n i [] a leaf q h b e
+
+    pub leaf-held : (t : ℕ) → b ≡ true → t ≡ entryOf leaf i .tag → record { held = true; tag = t; visits = 1 } ≡ found (leafEntries (cellTest c) p) 1
+    unfolding found foundOf
+    leaf-held t f g =
+        let k = entry-tag (cellTest c) p n i [] a leaf q h t g in
+        rw (k, ← (entry-hit (cellTest c) p n i [] a h b of-cell f .entries))
+
+    pub leaf-passed : b ≡ false → AtEntry (cellTest c) p n (i + 1) []
+    leaf-passed f = entry-miss (cellTest c) p n i [] a h b of-cell f
 
   pub leaf-not-held : [] ≡ leafEntries (cellTest c) p → record { held = false; tag = 0; visits = 1 } ≡ found (leafEntries (cellTest c) p) 1
   unfolding found foundOf

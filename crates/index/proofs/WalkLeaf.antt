@@ -5,12 +5,17 @@ use mathlib.Core.Bool.{Bool, true, false, cond}
 use mathlib.Core.List.{List, [], _∷_, _++_, append-nil}
 use native.Mathlib.Omega.{arith}
 use lib.ListN.{length, drop, drop-of-length-le}
+use Rattle.geometry.specs.declared.rect.Cell.{Cell}
 use lib.Seq.{append-snoc}
 use Rattle.tree.specs.Lists.{keep}
 use Rattle.plane.specs.Lines.{CellEntry}
 use Rattle.memory.specs.Layout.{itemCount, entryIn, entriesIn}
 use Rattle.memory.proofs.ReadingLaws.{entries-length}
+use Rattle.layout.specs.declared.node.Node.{Node}
+use Rattle.layout.specs.Items.{putEntry}
+use Rattle.layout.specs.Loaded.{nodeIn, entryOf}
 use Rattle.layout.specs.Nodes.{NodePart}
+use Rattle.layout.proofs.LoadedLaws.{loaded-count, loaded-test, loaded-tag, loaded-put}
 use Rattle.index.specs.Walks.{leafEntries}
 use Rattle.index.proofs.LeafLaws.{entries-next}
 
@@ -26,6 +31,10 @@ module _ (u : CellEntry → Bool) (p : List ℕ) (n : ℕ) where
   unfolding leafEntries
   entry-start v c = record { count = c; i-le = omega arith; leaf = v; entries = refl }
 
+  -- the same with the leaf as it was loaded
+  pub loaded-start : (leaf : Node) → leaf ≡ nodeIn p → NodePart p → n ≡ leaf .count → AtEntry u p n 0 []
+  loaded-start leaf q v c = entry-start v (c ∙ loaded-count p leaf q)
+
   module _ (i : ℕ) (es : List CellEntry) (a : AtEntry u p n i es) where
     pub entry-end : n ≤ i → es ≡ leafEntries u p
     unfolding keep
@@ -34,6 +43,24 @@ module _ (u : CellEntry → Bool) (p : List ℕ) (n : ℕ) where
         let l = entries-length p (itemCount p) in
         let s : length (entriesIn p (itemCount p)) ≤ i = omega arith in
         sym (append-nil es) ∙ (rw (drop-of-length-le (entriesIn p (itemCount p)) s) at (a .entries))
+
+    -- the i-th entry, by the leaf as it was loaded
+    module _ (leaf : Node) (q : leaf ≡ nodeIn p) (h : i < n) where
+      pub entry-small : i < 8
+      entry-small = let c = a .count in let f = a .leaf .few-items in omega arith
+
+      pub entry-nine : i < 9
+      entry-nine = let s = entry-small in omega arith
+
+      pub entry-test : (b : Bool) → b ≡ u (entryOf leaf i) → b ≡ u (entryIn p i)
+      entry-test b e = loaded-test p leaf q u i b entry-small e
+
+      pub entry-tag : (t : ℕ) → t ≡ entryOf leaf i .tag → t ≡ entryIn p i .tag
+      entry-tag t e = loaded-tag p leaf q i t entry-small e
+
+      pub entry-put : (c : Cell) (t : ℕ) (l : List ℕ) (at : ℕ) (l′ : List ℕ) → c ≡ entryOf leaf i .cell → t ≡ entryOf leaf i .tag
+          → l′ ≡ putEntry l at (record { cell = c; tag = t }) → l′ ≡ putEntry l at (entryIn p i)
+      entry-put c t l at l′ e f g = loaded-put p leaf q i c t l at l′ entry-small e f g
 
     module _ (h : i < n) (b : Bool) (e : b ≡ u (entryIn p i)) where
       whole : es ++ cond b (entryIn p i ∷ keep u (drop (i + 1) (entriesIn p (itemCount p)))) (keep u (drop (i + 1) (entriesIn p (itemCount p)))) ≡ leafEntries u p

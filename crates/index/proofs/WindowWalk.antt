@@ -11,11 +11,13 @@ use Rattle.geometry.specs.declared.rect.Cell.{Cell}
 use Rattle.geometry.specs.declared.rect.Rect.{Rect}
 use Rattle.geometry.specs.Cells.{hasCell}
 use Rattle.plane.specs.Lines.{CellEntry}
-use Rattle.memory.specs.Layout.{part, itemCount, entryIn, polygonIn}
+use Rattle.memory.specs.Layout.{part, entryIn, polygonIn}
+use Rattle.layout.specs.declared.node.Node.{Node}
+use Rattle.layout.specs.Loaded.{nodeIn, entryOf}
 use Rattle.layout.specs.Nodes.{childAt, countAt, NodePart}
 use Rattle.index.specs.declared.window_query.Matched.{Matched}
 use Rattle.index.specs.Walks.{meetsTest, insideTest, visitsBelow, leafEntries, Walkable, matched, matchesBelow}
-use Rattle.index.proofs.WalkLeaf.{AtEntry, entry-start, entry-miss, entry-hit, entry-end}
+use Rattle.index.proofs.WalkLeaf.{AtEntry, entry-miss, entry-hit, entry-end, loaded-start, entry-small, entry-test}
 use Rattle.index.proofs.WalkRows.{leaf-visits, leaf-entries, entries-few}
 use Rattle.index.proofs.WalkLoop.{AtChild, child-start, child-miss, child-hit, end-visits, end-entries, so-far-few}
 
@@ -31,20 +33,26 @@ pub record CountLeaf (w : Rect) (p : List ℕ) (n i sum : ℕ) : Type 0 where
   pub so-far : sum ≡ length es
   pub few : sum ≤ i
 
-module _ (w : Rect) (p : List ℕ) (n : ℕ) where
-  pub count-start : NodePart p → n ≡ itemCount p → CountLeaf w p n 0 0
-  count-start v c = record { es = []; at = entry-start (insideTest w) p n v c; so-far = refl; few = omega arith }
+module _ (w : Rect) (p : List ℕ) (n : ℕ) (leaf : Node) (l : leaf ≡ nodeIn p) where
+  pub count-start : NodePart p → n ≡ leaf .count → CountLeaf w p n 0 0
+  count-start v c = record { es = []; at = loaded-start (insideTest w) p n leaf l v c; so-far = refl; few = omega arith }
 
   module _ (i sum : ℕ) (x : CountLeaf w p n i sum) where
     pub count-end : n ≤ i → sum ≡ length (leafEntries (insideTest w) p)
     count-end h = x .so-far ∙ ap length (entry-end (insideTest w) p n i (x .es) (x .at) h)
 
-    module _ (h : i < n) (b : Bool) (e : b ≡ insideTest w (entryIn p i)) where
+    pub count-small : i < n → i < 8
+    count-small h = entry-small (insideTest w) p n i (x .es) (x .at) leaf l h
+
+    module _ (h : i < n) (b : Bool) (e : b ≡ insideTest w (entryOf leaf i)) where
+      passed : b ≡ insideTest w (entryIn p i)
+      passed = entry-test (insideTest w) p n i (x .es) (x .at) leaf l h b e
+
       pub count-miss : (sum′ : ℕ) → b ≡ false → sum′ ≡ sum → CountLeaf w p n (i + 1) sum′
       count-miss sum′ f q =
           let s = x .so-far in
           let t = x .few in
-          record { es = x .es; at = entry-miss (insideTest w) p n i (x .es) (x .at) h b e f; so-far = omega arith; few = omega arith }
+          record { es = x .es; at = entry-miss (insideTest w) p n i (x .es) (x .at) h b passed f; so-far = omega arith; few = omega arith }
 
       pub count-hit : (sum′ : ℕ) → b ≡ true → sum′ ≡ sum + 1 → CountLeaf w p n (i + 1) sum′
       count-hit sum′ f q =
@@ -52,7 +60,7 @@ module _ (w : Rect) (p : List ℕ) (n : ℕ) where
           let t = x .few in
           record {
             es = x .es ++ (entryIn p i ∷ []);
-            at = entry-hit (insideTest w) p n i (x .es) (x .at) h b e f;
+            at = entry-hit (insideTest w) p n i (x .es) (x .at) h b passed f;
             so-far = rw length-append (omega arith);
             few = omega arith;
           }

@@ -5,13 +5,16 @@ use mathlib.Core.Bool.{Bool, true, false}
 use mathlib.Core.List.{List, [], _∷_, _++_}
 use native.Mathlib.Omega.{arith}
 use lib.ListN.{length, length-append, length-set}
+use Rattle.geometry.specs.declared.rect.Cell.{Cell}
 use Rattle.geometry.specs.declared.rect.Rect.{Rect}
 use Rattle.plane.specs.Lines.{CellEntry}
-use Rattle.memory.specs.Layout.{part, itemCount, entryIn, polygonIn}
+use Rattle.memory.specs.Layout.{part, entryIn, polygonIn}
 use Rattle.layout.specs.Items.{putEntry}
+use Rattle.layout.specs.declared.node.Node.{Node}
+use Rattle.layout.specs.Loaded.{nodeIn, entryOf}
 use Rattle.layout.specs.Nodes.{childAt, countAt}
 use Rattle.index.specs.Walks.{meetsTest, insideTest, leafEntries, Walkable, putEntries, Listed, LeafRoom, WalkRoom, matchesBelow}
-use Rattle.index.proofs.WalkLeaf.{AtEntry, entry-start, entry-miss, entry-hit, entry-end}
+use Rattle.index.proofs.WalkLeaf.{AtEntry, entry-miss, entry-hit, entry-end, loaded-start, entry-small, entry-nine, entry-put, entry-test}
 use Rattle.index.proofs.WalkRows.{leaf-entries, node-part}
 use Rattle.index.proofs.WalkLoop.{AtChild, child-start, child-miss, child-hit, end-entries, child-walkable}
 
@@ -57,18 +60,27 @@ pub record WriteLeaf (w : Rect) (p : List ℕ) (n : ℕ) (l₀ : List ℕ) (at�
   pub fits : 3 * next ≤ length l
   pub so-far : Listed l₀ at₀ es l next
 
-module _ (w : Rect) (p : List ℕ) (n : ℕ) (l₀ : List ℕ) (at₀ : ℕ) where
-  pub write-start : LeafRoom p w l₀ at₀ → n ≡ itemCount p → WriteLeaf w p n l₀ at₀ 0 l₀ at₀
-  write-start v c = record { es = []; at = entry-start (insideTest w) p n (v .leaf) c; room = v .room; fits = (let r = v .room in omega arith); so-far = put-none l₀ at₀ }
+module _ (w : Rect) (p : List ℕ) (n : ℕ) (l₀ : List ℕ) (at₀ : ℕ) (leaf : Node) (q : leaf ≡ nodeIn p) where
+  pub write-start : LeafRoom p w l₀ at₀ → n ≡ leaf .count → WriteLeaf w p n l₀ at₀ 0 l₀ at₀
+  write-start v c = record { es = []; at = loaded-start (insideTest w) p n leaf q (v .leaf) c; room = v .room; fits = (let r = v .room in omega arith); so-far = put-none l₀ at₀ }
 
   module _ (i : ℕ) (l : List ℕ) (next : ℕ) (x : WriteLeaf w p n l₀ at₀ i l next) where
     pub write-end : n ≤ i → Listed l₀ at₀ (leafEntries (insideTest w) p) l next
     write-end h = rw (entry-end (insideTest w) p n i (x .es) (x .at) h) at (x .so-far)
 
-    module _ (h : i < n) (b : Bool) (e : b ≡ insideTest w (entryIn p i)) where
+    pub write-small : i < n → i < 8
+    write-small h = entry-small (insideTest w) p n i (x .es) (x .at) leaf q h
+
+    pub write-nine : i < n → i < 9
+    write-nine h = entry-nine (insideTest w) p n i (x .es) (x .at) leaf q h
+
+    module _ (h : i < n) (b : Bool) (e : b ≡ insideTest w (entryOf leaf i)) where
+      passed : b ≡ insideTest w (entryIn p i)
+      passed = entry-test (insideTest w) p n i (x .es) (x .at) leaf q h b e
+
       pub write-room : b ≡ true → 3 * (next + 1) ≤ length l
       write-room f =
-          let a = entry-hit (insideTest w) p n i (x .es) (x .at) h b e f .entries in
+          let a = entry-hit (insideTest w) p n i (x .es) (x .at) h b passed f .entries in
           let q = simp length-append at (ap length a) in
           let r = x .room in
           let s = x .so-far .next-is in
@@ -76,19 +88,22 @@ module _ (w : Rect) (p : List ℕ) (n : ℕ) (l₀ : List ℕ) (at₀ : ℕ) whe
           omega arith
 
       pub write-miss : (l′ : List ℕ) (next′ : ℕ) → b ≡ false → l′ ≡ l → next′ ≡ next → WriteLeaf w p n l₀ at₀ (i + 1) l′ next′
-      write-miss l′ next′ f q r = rw (q, r) (record { es = x .es; at = entry-miss (insideTest w) p n i (x .es) (x .at) h b e f; room = x .room; fits = x .fits; so-far = x .so-far })
+      write-miss l′ next′ f u r = rw (u, r) (record { es = x .es; at = entry-miss (insideTest w) p n i (x .es) (x .at) h b passed f; room = x .room; fits = x .fits; so-far = x .so-far })
 
-      pub write-hit : (l″ l′ : List ℕ) (next′ : ℕ) → b ≡ true → l″ ≡ putEntry l next (entryIn p i) → l′ ≡ l″ → next′ ≡ next + 1 → WriteLeaf w p n l₀ at₀ (i + 1) l′ next′
-      write-hit l″ l′ next′ f q s r = rw (s, r) (record {
-        es = x .es ++ (entryIn p i ∷ []);
-        at = entry-hit (insideTest w) p n i (x .es) (x .at) h b e f;
-        room = x .room;
-        fits =
-            let a : length l″ ≡ length l = ap length q ∙ length-put l next (entryIn p i) in
-            let d = write-room f in
-            omega arith;
-        so-far = more l₀ at₀ (x .es) l next (entryIn p i ∷ []) l″ (next + 1) (x .so-far) (one-more l next (entryIn p i) l″ q);
-      })
+      pub write-hit : (c : Cell) (t : ℕ) (l″ l′ : List ℕ) (next′ : ℕ) → b ≡ true → c ≡ entryOf leaf i .cell → t ≡ entryOf leaf i .tag
+          → l″ ≡ putEntry l next (record { cell = c; tag = t }) → l′ ≡ l″ → next′ ≡ next + 1 → WriteLeaf w p n l₀ at₀ (i + 1) l′ next′
+      write-hit c t l″ l′ next′ f g k u s r =
+          let v = entry-put (insideTest w) p n i (x .es) (x .at) leaf q h c t l next l″ g k u in
+          rw (s, r) (record {
+            es = x .es ++ (entryIn p i ∷ []);
+            at = entry-hit (insideTest w) p n i (x .es) (x .at) h b passed f;
+            room = x .room;
+            fits =
+                let a : length l″ ≡ length l = ap length v ∙ length-put l next (entryIn p i) in
+                let d = write-room f in
+                omega arith;
+            so-far = more l₀ at₀ (x .es) l next (entryIn p i ∷ []) l″ (next + 1) (x .so-far) (one-more l next (entryIn p i) l″ v);
+          })
 
 module _ (w : Rect) (level : ℕ) (m : List ℕ) (lo k : ℕ) (l : List ℕ) (at : ℕ) where
   -- a node that is a leaf

@@ -1,10 +1,10 @@
 // The point query: the walk into the nodes whose polygon has the cell.
 ghost use mathlib.Core.Path.{_≡_};
 ghost use Prim.Native.Nat.{_<_};
-ghost use Rattle.memory.specs.Layout.{entryIn};
 ghost use Rattle.memory.specs.Reading.{reading};
 ghost use Rattle.memory.specs.Fanout.{fanout};
-ghost use Rattle.layout.specs.Nodes.{IsPart, NodePart};
+ghost use Rattle.layout.specs.Loaded.{entryOf};
+ghost use Rattle.layout.specs.Nodes.{NodePart};
 ghost use Rattle.index.specs.Answers.{pointRead, pointAnswer};
 ghost use Rattle.index.specs.Open.{TreeIn, OpenedAs};
 ghost use Rattle.index.specs.Walks.{hasTest, cellTest, visitsBelow, heldBelow, leafEntries, Walkable, found};
@@ -14,20 +14,17 @@ use crate::opening::open;
 use crate::walk::Found;
 use crate::walk::polygon_has;
 use geometry::Cell;
-use layout::child_at;
-use layout::count_at;
-use layout::entry_cell;
-use layout::entry_tag;
-use layout::item_count;
+use layout::Node;
+use layout::node_at;
 use layout::part_at;
 use layout::right_length;
 
-// Whether the i-th entry of a leaf's part is of the cell.
-pub fn is_of_cell(p: &[u32], i: usize, c: Cell) -> bool
-    requires { ⌜ IsPart (now p) × (i < 8) ⌝ }
-    ensures { λ b. ⌜ b ≡ cellTest c (entryIn (now (p .entry)) i) ⌝ }
+// Whether the i-th entry of a leaf is of the cell.
+pub fn is_of_cell(leaf: Node, i: usize, c: Cell) -> bool
+    requires { ⌜ i < 8 ⌝ }
+    ensures { λ b. ⌜ b ≡ cellTest c (entryOf leaf i) ⌝ }
 {
-    let held = entry_cell(p, i);
+    let held = leaf.cell(i);
     if held.x != c.x {
         return false;
     }
@@ -39,13 +36,14 @@ fn point_in_leaf(p: &[u32], c: Cell) -> Found
     requires { ⌜ NodePart (now p) ⌝ }
     ensures { λ r. ⌜ r ≡ found (leafEntries (cellTest c) (now (p .entry))) 1 ⌝ }
 {
-    let n = item_count(p) as usize;
+    let leaf = Node::load(p);
+    let n = leaf.count as usize;
     let mut i = 0;
     while i < n {
-        if is_of_cell(p, i, c) {
+        if is_of_cell(leaf, i, c) {
             return Found {
                 held: true,
-                tag: entry_tag(p, i),
+                tag: leaf.tag(i),
                 visits: 1,
             };
         }
@@ -67,7 +65,8 @@ pub fn point_below(m: &[u32], level: u32, lo: u32, k: u32, c: Cell) -> Found
     if level == 0 {
         return point_in_leaf(part_at(m, k), c);
     }
-    let n = count_at(m, k) as usize;
+    let node = node_at(m, k);
+    let n = node.count as usize;
     let mut so_far = Found {
         held: false,
         tag: 0,
@@ -76,7 +75,7 @@ pub fn point_below(m: &[u32], level: u32, lo: u32, k: u32, c: Cell) -> Found
     let mut low = lo;
     let mut i = 0;
     while i < n {
-        let j = child_at(m, k, i);
+        let j = node.child(i);
         if polygon_has(m, j, c) {
             let below = point_below(m, level - 1, low, j, c);
             so_far = so_far.then(below);

@@ -3,8 +3,8 @@
 ghost use mathlib.Core.Path.{_≡_};
 ghost use Prim.Native.Nat.{_+_, _*_, _<_};
 ghost use lib.ListN.{length};
-ghost use Rattle.memory.specs.Layout.{entryIn};
-ghost use Rattle.layout.specs.Nodes.{IsPart, NodePart};
+ghost use Rattle.layout.specs.Loaded.{entryOf};
+ghost use Rattle.layout.specs.Nodes.{NodePart};
 ghost use Rattle.index.specs.Open.{TreeIn, OpenedAs};
 ghost use Rattle.index.specs.Walks.{meetsTest, insideTest, visitsBelow, matchesBelow, leafEntries, Walkable, matched, Listed, LeafRoom, WalkRoom, WindowDone, WindowCall};
 use crate::answer::WindowFound;
@@ -12,12 +12,10 @@ use crate::opening::Opened;
 use crate::opening::open;
 use crate::walk::polygon_meets;
 use geometry::Rect;
-use layout::child_at;
-use layout::copy_entry;
-use layout::count_at;
-use layout::entry_cell;
-use layout::item_count;
+use layout::Node;
+use layout::node_at;
 use layout::part_at;
+use layout::put_entry;
 use layout::right_length;
 
 // How many entries match a window, and the nodes visited.
@@ -26,12 +24,12 @@ pub struct Matched {
     pub visits: u32,
 }
 
-// Whether the cell of the i-th entry of a leaf's part is in the window.
-fn is_inside(p: &[u32], i: usize, w: Rect) -> bool
-    requires { ⌜ IsPart (now p) × (i < 8) ⌝ }
-    ensures { λ b. ⌜ b ≡ insideTest w (entryIn (now (p .entry)) i) ⌝ }
+// Whether the cell of the i-th entry of a leaf is in the window.
+fn is_inside(leaf: Node, i: usize, w: Rect) -> bool
+    requires { ⌜ i < 8 ⌝ }
+    ensures { λ b. ⌜ b ≡ insideTest w (entryOf leaf i) ⌝ }
 {
-    w.has_cell(entry_cell(p, i))
+    w.has_cell(leaf.cell(i))
 }
 
 // How many entries of a leaf's part are in the window.
@@ -39,11 +37,12 @@ fn count_leaf(p: &[u32], w: Rect) -> u32
     requires { ⌜ NodePart (now p) ⌝ }
     ensures { λ r. ⌜ r ≡ length (leafEntries (insideTest w) (now (p .entry))) ⌝ }
 {
-    let n = item_count(p) as usize;
+    let leaf = Node::load(p);
+    let n = leaf.count as usize;
     let mut matches: u32 = 0;
     let mut i = 0;
     while i < n {
-        if is_inside(p, i, w) {
+        if is_inside(leaf, i, w) {
             matches += 1;
         }
         i += 1;
@@ -61,7 +60,8 @@ pub fn count_below(m: &[u32], level: u32, lo: u32, k: u32, w: Rect) -> Matched
         let matches = count_leaf(part_at(m, k), w);
         return Matched { matches, visits: 1 };
     }
-    let n = count_at(m, k) as usize;
+    let node = node_at(m, k);
+    let n = node.count as usize;
     let mut so_far = Matched {
         matches: 0,
         visits: 1,
@@ -69,7 +69,7 @@ pub fn count_below(m: &[u32], level: u32, lo: u32, k: u32, w: Rect) -> Matched
     let mut low = lo;
     let mut i = 0;
     while i < n {
-        let j = child_at(m, k, i);
+        let j = node.child(i);
         if polygon_meets(m, j, w) {
             let below = count_below(m, level - 1, low, j, w);
             so_far.matches += below.matches;
@@ -87,12 +87,13 @@ fn write_leaf(p: &[u32], w: Rect, list: &mut [u32], at: usize) -> usize
     requires { ⌜ LeafRoom (now p) w (now list) at ⌝ }
     ensures { λ r. ⌜ Listed (now (list .entry)) at (leafEntries (insideTest w) (now (p .entry))) (now (list .exit)) r ⌝ }
 {
-    let n = item_count(p) as usize;
+    let leaf = Node::load(p);
+    let n = leaf.count as usize;
     let mut next = at;
     let mut i = 0;
     while i < n {
-        if is_inside(p, i, w) {
-            copy_entry(p, i, list, next);
+        if is_inside(leaf, i, w) {
+            put_entry(list, next, leaf.cell(i), leaf.tag(i));
             next += 1;
         }
         i += 1;
@@ -117,12 +118,13 @@ pub fn write_below(
     if level == 0 {
         return write_leaf(part_at(m, k), w, list, at);
     }
-    let n = count_at(m, k) as usize;
+    let node = node_at(m, k);
+    let n = node.count as usize;
     let mut next = at;
     let mut low = lo;
     let mut i = 0;
     while i < n {
-        let j = child_at(m, k, i);
+        let j = node.child(i);
         if polygon_meets(m, j, w) {
             next = write_below(m, level - 1, low, j, w, list, next);
         }

@@ -3,6 +3,11 @@ ghost use Prim.Native.Nat.{_*_, _+_, _≤_};
 ghost use lib.ListN.{length};
 ghost use Rattle.geometry.specs.Numbers.{rectsOf};
 ghost use Rattle.insertion.specs.Descent.{LevelPut, Descending, Descended};
+use emission::PATH_COUNT;
+use emission::PATH_LEVEL;
+use emission::PATH_LINE;
+use emission::PATH_PLACE;
+use emission::PATH_RECTS;
 use emission::path_polygon;
 use geometry::Cell;
 use geometry::Polygon;
@@ -15,12 +20,12 @@ pub fn put_level(path: &mut [u32], level: usize, k: u32, p: Polygon)
     requires { ⌜ (68 * level + 68 ≤ length (now path)) × (p .count ≤ 16) ⌝ }
     ensures { λ _. ⌜ LevelPut (now (path .entry)) level k (rectsOf p) (now (path .exit)) ⌝ }
 {
-    let at = 68 * level;
+    let at = PATH_LEVEL * level;
     path[at] = k;
-    path[at + 2] = 0;
-    path[at + 3] = p.count as u32;
-    let from = at + 4;
-    let to = at + 68;
+    path[at + PATH_LINE] = 0;
+    path[at + PATH_COUNT] = p.count as u32;
+    let from = at + PATH_RECTS;
+    let to = at + PATH_LEVEL;
     p.store(&mut path[from..to]);
 }
 
@@ -33,7 +38,7 @@ pub fn descend(m: &[u32], level: u32, c: Cell, path: &mut [u32]) -> bool
         return true;
     }
     let n = level as usize;
-    let at = 68 * n;
+    let at = PATH_LEVEL * n;
     let k = path[at];
     let p = path_polygon(path, n);
     let choice = choose(m, k, p, c);
@@ -41,7 +46,7 @@ pub fn descend(m: &[u32], level: u32, c: Cell, path: &mut [u32]) -> bool
     let Taken::Branch(place) = taken else {
         return false;
     };
-    path[at + 1] = place as u32;
+    path[at + PATH_PLACE] = place as u32;
     let child = child_at(m, k, place);
     put_level(path, n - 1, child, choice.polygon);
     descend(m, level - 1, c, path)

@@ -14,6 +14,7 @@ use crate::descent::descend;
 use crate::descent::put_level;
 use crate::first::insert_first;
 use crate::planning::plan;
+use emission::PATH_LEVEL;
 use emission::count_tree;
 use emission::emit_tree;
 use geometry::Cell;
@@ -95,10 +96,10 @@ fn build_on_path(
     ensures { λ r. ⌜ Built (now (m .entry)) (now (work .entry)) (entryOf c tag) (now (m .exit)) (now (work .exit)) r ⌝ }
 {
     if level < 16 {
-        let mut path = [0u32; 1088];
+        let mut path = [0u32; 16 * PATH_LEVEL];
         return build(m, work, level, root, c, tag, &mut path);
     }
-    let mut path = [0u32; 17408];
+    let mut path = [0u32; 256 * PATH_LEVEL];
     build(m, work, level, root, c, tag, &mut path)
 }
 

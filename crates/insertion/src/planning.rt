@@ -1,5 +1,8 @@
 // Step 4, planned: which nodes on the path are split, and at which lines.
 ghost use Rattle.insertion.specs.Planning.{Plannable, Full, LineOfLevel, PlanMade};
+use emission::PATH_LEVEL;
+use emission::PATH_LINE;
+use emission::PATH_PLACE;
 use geometry::Cell;
 use layout::count_at;
 use layout::part_at;
@@ -11,13 +14,13 @@ fn line_at(m: &[u32], path: &[u32], n: u32, level: u32, c: Cell) -> u32
     requires { ⌜ Full n level (now path) (now m) c ⌝ }
     ensures { λ r. ⌜ LineOfLevel n (now (path .entry)) (now (m .entry)) c r ⌝ }
 {
-    let at = 68 * (n as usize);
+    let at = PATH_LEVEL * (n as usize);
     let k = path[at];
     if n == 0 {
         return leaf_line(part_at(m, k), c);
     }
-    let place = path[at + 1];
-    let below = path[68 * ((n - 1) as usize) + 2];
+    let place = path[at + PATH_PLACE];
+    let below = path[PATH_LEVEL * ((n - 1) as usize) + PATH_LINE];
     node_line(m, n, 0, k, place, below, c)
 }
 
@@ -28,14 +31,14 @@ pub fn plan(m: &[u32], level: u32, c: Cell, path: &mut [u32])
 {
     let mut n: u32 = 0;
     while n <= level {
-        let at = 68 * (n as usize);
+        let at = PATH_LEVEL * (n as usize);
         let k = path[at];
         // with the new item it has at most eight: it is not split, nor is any above
         if count_at(m, k) < 8 {
             return;
         }
         let line = line_at(m, path, n, level, c);
-        path[at + 2] = line;
+        path[at + PATH_LINE] = line;
         n += 1;
     }
 }

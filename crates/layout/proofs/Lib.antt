@@ -11,5 +11,4 @@ pub mod FreeLaws
 pub mod WritingLaws
 pub mod PartCopies
 pub mod NodeStore
-pub mod ItemLaws
 pub mod LoadedLaws

@@ -2,19 +2,22 @@
 use Prim.Native.Nat.{ℕ, suc, _+_, _*_, _-_, _≤_, _<_}
 use mathlib.Core.Path.{_≡_, refl, sym, ap, _∙_}
 use mathlib.Core.List.{List, [], _∷_, _++_, append-assoc, append-nil, flatMap}
+use mathlib.Core.Bool.{Bool}
 use native.Mathlib.Omega.{arith}
 use lib.ListN.{length, getD, take, drop, set, replicate, length-append, length-replicate, replicate-append-replicate}
-use lib.Seq.{set-append-seam, append-snoc, take-take}
+use lib.Seq.{set-append-seam, append-snoc, take-take, getD-take, getD-drop}
+use Rattle.geometry.specs.declared.rect.Cell.{Cell}
 use Rattle.geometry.specs.declared.rect.Rect.{Rect}
 use Rattle.tree.proofs.Lists.{flatMap-append, flatMap-one}
 use Rattle.plane.specs.Lines.{CellEntry}
-use Rattle.memory.specs.Layout.{part}
+use Rattle.memory.specs.Layout.{part, itemCount, entryIn}
 use Rattle.memory.specs.Image.{padded, entryNumbers, nodePart}
 use Rattle.memory.proofs.PartImage.{length-padded, length-entries}
 use Rattle.layout.specs.declared.node.Node.{Node}
+use Rattle.layout.specs.Nodes.{NodePart, childIn, countAt, childAt}
 use Rattle.layout.specs.Items.{putEntry}
 use Rattle.layout.specs.Gap.{MovedDown}
-use Rattle.layout.specs.Loaded.{nodeOf, leafOf, routingOf, nodeIn, withEntry, withChild, ItemOut}
+use Rattle.layout.specs.Loaded.{nodeOf, leafOf, routingOf, nodeIn, childOf, entryOf, withEntry, withChild, ItemOut}
 
 -- a node without items is a leaf without entries, and a routing node without children
 pub no-entries : nodeOf 0 [] ≡ leafOf []
@@ -61,6 +64,18 @@ load-is p l h e =
 pub node-of : (m : List ℕ) (k : ℕ) (p : List ℕ) (n : Node) → p ≡ part m k → n ≡ nodeIn p → n ≡ nodeIn (part m k)
 node-of m k p n e f = f ∙ ap nodeIn e
 
+pub child-here : (n : Node) (i : ℕ) → getD (n .items) i 0 ≡ childOf n i
+unfolding childOf
+child-here n i = refl
+
+pub cell-here : (n : Node) (i : ℕ) → record { x = getD (n .items) (3 * i) 0; y = getD (n .items) (3 * i + 1) 0 } ≡ entryOf n i .cell
+unfolding entryOf
+cell-here n i = refl
+
+pub tag-here : (n : Node) (i : ℕ) → getD (n .items) (3 * i + 2) 0 ≡ entryOf n i .tag
+unfolding entryOf
+tag-here n i = refl
+
 pub entry-is : (n : Node) (e : CellEntry) (l : List ℕ) → l ≡ putEntry (n .items) (n .count) e → record { count = n .count + 1; items = l } ≡ withEntry n e
 unfolding withEntry
 entry-is n e l q = rw q
@@ -71,6 +86,59 @@ child-is n k = refl
 
 pub item-out : (w i : ℕ) (n : Node) (l : List ℕ) → MovedDown w (w * i) (w * n .count) (n .items) l → ItemOut w i n (record { count = n .count - 1; items = l })
 item-out w i n l v = record { count = refl; items = v }
+
+-- What a loaded node has is what its part has.
+module _ (p : List ℕ) (n : Node) (q : n ≡ nodeIn p) where
+  pub loaded-count : n .count ≡ itemCount p
+  unfolding nodeIn
+  loaded-count = rw q
+
+  loaded-item : (x : ℕ) → x < 27 → getD (n .items) x 0 ≡ getD p (66 + x) 0
+  unfolding nodeIn
+  loaded-item x h = rw q (getD-take 27 (drop 66 p) x 0 h ∙ getD-drop 66 p x 0)
+
+  pub loaded-child : (i j : ℕ) → i < 8 → j ≡ childOf n i → j ≡ childIn p i
+  unfolding childOf
+  loaded-child i j h e = e ∙ loaded-item i (omega arith)
+
+  pub loaded-entry : (i : ℕ) → i < 8 → entryOf n i ≡ entryIn p i
+  unfolding entryOf entryIn
+  loaded-entry i h =
+      let e : 66 + (3 * i + 1) ≡ 66 + 3 * i + 1 = omega arith in
+      let f : 66 + (3 * i + 2) ≡ 66 + 3 * i + 2 = omega arith in
+      rw (loaded-item (3 * i) (omega arith), loaded-item (3 * i + 1) (omega arith), loaded-item (3 * i + 2) (omega arith), e, f)
+
+  pub loaded-test : (u : CellEntry → Bool) (i : ℕ) (b : Bool) → i < 8 → b ≡ u (entryOf n i) → b ≡ u (entryIn p i)
+  loaded-test u i b h e = e ∙ ap u (loaded-entry i h)
+
+  pub loaded-cell : (i : ℕ) (c : Cell) → i < 8 → c ≡ entryOf n i .cell → c ≡ entryIn p i .cell
+  loaded-cell i c h e = e ∙ ap (λ (x : CellEntry). x .cell) (loaded-entry i h)
+
+  pub loaded-tag : (i t : ℕ) → i < 8 → t ≡ entryOf n i .tag → t ≡ entryIn p i .tag
+  loaded-tag i t h e = e ∙ ap (λ (x : CellEntry). x .tag) (loaded-entry i h)
+
+  pub loaded-put : (i : ℕ) (c : Cell) (t : ℕ) (l : List ℕ) (at : ℕ) (l′ : List ℕ) → i < 8 → c ≡ entryOf n i .cell → t ≡ entryOf n i .tag
+      → l′ ≡ putEntry l at (record { cell = c; tag = t }) → l′ ≡ putEntry l at (entryIn p i)
+  loaded-put i c t l at l′ h e f g = let a = loaded-cell i c h e in let b = loaded-tag i t h f in rw (a, b) at g
+
+-- an entry of a leaf's part, by the leaf as it was loaded
+module _ (p : List ℕ) (v : NodePart p) (n : Node) (q : n ≡ nodeIn p) (i : ℕ) (h : i < n .count) where
+  part-small : i < 8
+  part-small = let c = loaded-count p n q in let f = v .few-items in omega arith
+
+  pub part-nine : i < 9
+  part-nine = let s = part-small in omega arith
+
+  pub part-cell : (c : Cell) → c ≡ entryOf n i .cell → c ≡ entryIn p i .cell
+  part-cell c e = loaded-cell p n q i c part-small e
+
+-- the same of the node at part k
+module _ (m : List ℕ) (k : ℕ) (n : Node) (q : n ≡ nodeIn (part m k)) where
+  pub count-at : n .count ≡ countAt m k
+  count-at = loaded-count (part m k) n q
+
+  pub child-at : (i j : ℕ) → i < 8 → j ≡ childOf n i → j ≡ childAt m k i
+  child-at i j h e = loaded-child (part m k) n q i j h e
 
 -- the items of a node are as many numbers as it has room for
 pub routing-length : (ks : List ℕ) → length ks ≤ 27 → length (routingOf ks .items) ≡ 27

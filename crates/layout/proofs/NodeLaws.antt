@@ -21,10 +21,6 @@ pub cell-is : (p : List ℕ) (i : ℕ) → record { x = getD p (66 + 3 * i) 0; y
 unfolding entryIn
 cell-is p i = refl
 
-pub tag-is : (p : List ℕ) (i : ℕ) → getD p (66 + 3 * i + 2) 0 ≡ entryIn p i .tag
-unfolding entryIn
-tag-is p i = refl
-
 -- a part of a list from a place to its end
 pub rest-is : (p : List ℕ) (a : ℕ) → take (length p - a) (drop a p) ≡ drop a p
 rest-is p a = take-all (length p - a) (drop a p) (rw length-drop (omega arith))

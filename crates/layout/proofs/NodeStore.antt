@@ -1,12 +1,11 @@
 -- What the stores of a node's part leave: the rectangles with zeros behind them, the whole part, the part in the work area.
-use Prim.Native.Nat.{ℕ, suc, _+_, _*_, _-_, _≤_}
+use Prim.Native.Nat.{ℕ, _+_, _*_, _-_, _≤_}
 use mathlib.Core.Path.{_≡_, sym, ap, _∙_}
 use mathlib.Core.List.{List, [], _∷_, _++_, append-assoc, append-nil}
 use native.Mathlib.Omega.{arith}
 use borrow.Rule.Slice.PartMut.{putMid, same-len-mid, mid-len}
-use lib.ListN.{length, take, drop, set, replicate, length-append, length-take, length-drop, length-replicate, replicate-append-replicate, drop-of-length-le}
+use lib.ListN.{length, take, drop, set, replicate, length-append, length-take, length-drop, replicate-append-replicate, drop-of-length-le}
 use lib.Seq.{take-at, drop-at, take-all, drop-drop, length-take-le}
-use Rattle.geometry.specs.declared.rect.Rect.{Rect}
 use Rattle.geometry.specs.declared.polygon.Polygon.{Polygon}
 use Rattle.geometry.specs.Numbers.{numbersOf, rectsIn, rectsOf, Appended}
 use Rattle.geometry.proofs.NumberLaws.{length-rects, length-numbers, numbers-take}
@@ -22,12 +21,6 @@ unfolding padded
 padded-more n k l h =
     let e : n + k - length l ≡ (n - length l) + k = omega arith in
     rw (e, append-assoc, replicate-append-replicate)
-
-drop-zeros : (k n : ℕ) → k ≤ n → drop {A = ℕ} k (replicate n 0) ≡ replicate (n - k) 0
-drop-zeros k n h =
-    let e : n ≡ k + (n - k) = omega arith in
-    ap (λ (j : ℕ). drop {A = ℕ} k (replicate j 0)) e ∙ ap (drop {A = ℕ} k) (sym (replicate-append-replicate k (n - k) 0))
-    ∙ drop-at (replicate k 0) (replicate (n - k) 0) k (length-replicate k 0)
 
 -- the rectangles were stored, and the rest was zeroed
 pub rects-stored : (p : Polygon) (l₀ l z : List ℕ) → length l₀ ≡ 126 → p .count ≤ 16 → Appended l₀ 0 (rectsOf p) 16 l (p .count)

@@ -2,7 +2,7 @@
 use Prim.Native.Nat.{ℕ, _+_, _*_, _-_}
 use mathlib.Core.List.{List, _++_, flatMap}
 use mathlib.Core.Path.{_≡_}
-use lib.ListN.{length, take, drop, set}
+use lib.ListN.{length, getD, take, drop, set}
 use Rattle.plane.specs.Lines.{CellEntry}
 use Rattle.memory.specs.Layout.{itemCount}
 use Rattle.memory.specs.Image.{padded, entryNumbers}
@@ -25,6 +25,16 @@ routingOf ks = nodeOf (length ks) ks
 -- the node of a part
 unfoldable pub nodeIn : List ℕ → Node
 nodeIn p = record { count = itemCount p; items = take 27 (drop 66 p) }
+
+-- the i-th child of a routing node, and the i-th entry of a leaf
+unfoldable pub childOf : Node → ℕ → ℕ
+childOf n i = getD (n .items) i 0
+
+unfoldable pub entryOf : Node → ℕ → CellEntry
+entryOf n i = record {
+  cell = record { x = getD (n .items) (3 * i) 0; y = getD (n .items) (3 * i + 1) 0 };
+  tag = getD (n .items) (3 * i + 2) 0;
+}
 
 -- a part with the count and the items of a node; its polygon stays
 unfoldable pub withNode : List ℕ → Node → List ℕ

@@ -3,7 +3,7 @@ ghost use mathlib.Core.List.{[]};
 ghost use mathlib.Core.Path.{_≡_};
 ghost use Prim.Native.Nat.{_≤_, _<_};
 ghost use Rattle.memory.specs.Layout.{part};
-ghost use Rattle.layout.specs.Loaded.{nodeOf, nodeIn, withEntry, withChild, ItemOut};
+ghost use Rattle.layout.specs.Loaded.{nodeOf, nodeIn, childOf, entryOf, withEntry, withChild, ItemOut};
 ghost use Rattle.layout.specs.Nodes.{IsPart, PartIn};
 use crate::gap::move_down;
 use crate::items::put_entry;
@@ -36,7 +36,7 @@ impl Node {
     }
 
     // The node of a part.
-    fn load(p: &[u32]) -> Node
+    pub fn load(p: &[u32]) -> Node
         requires { ⌜ IsPart (now p) ⌝ }
         ensures { λ n. ⌜ n ≡ nodeIn (now (p .entry)) ⌝ }
     {
@@ -46,6 +46,34 @@ impl Node {
             count: p[ITEM_COUNT],
             items,
         }
+    }
+
+    // The part number of a routing node's i-th child.
+    pub fn child(self, i: usize) -> u32
+        requires { ⌜ i < 9 ⌝ }
+        ensures { λ k. ⌜ k ≡ childOf self i ⌝ }
+    {
+        self.items[i]
+    }
+
+    // The cell of a leaf's i-th entry.
+    pub fn cell(self, i: usize) -> Cell
+        requires { ⌜ i < 9 ⌝ }
+        ensures { λ c. ⌜ c ≡ entryOf self i .cell ⌝ }
+    {
+        let at = ENTRY * i;
+        Cell {
+            x: self.items[at],
+            y: self.items[at + 1],
+        }
+    }
+
+    // Its tag.
+    pub fn tag(self, i: usize) -> u32
+        requires { ⌜ i < 9 ⌝ }
+        ensures { λ t. ⌜ t ≡ entryOf self i .tag ⌝ }
+    {
+        self.items[ENTRY * i + 2]
     }
 
     // A leaf with one more entry, behind the others.

@@ -58,14 +58,6 @@ pub fn entry_cell(p: &[u32], i: usize) -> Cell
     }
 }
 
-// Its tag.
-pub fn entry_tag(p: &[u32], i: usize) -> u32
-    requires { ⌜ IsPart (now p) × (i < 8) ⌝ }
-    ensures { λ t. ⌜ t ≡ entryIn (now (p .entry)) i .tag ⌝ }
-{
-    p[ITEMS + ENTRY * i + 2]
-}
-
 // The i-th child of a routing node, by its part number.
 fn child(p: &[u32], i: usize) -> u32
     requires { ⌜ IsPart (now p) × (i < 8) ⌝ }

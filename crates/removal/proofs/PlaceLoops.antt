@@ -14,9 +14,12 @@ use Rattle.geometry.specs.declared.rect.Cell.{Cell}
 use Rattle.tree.proofs.Booleans.{contrary}
 use Rattle.memory.specs.Layout.{part, itemCount, entryIn, polygonIn, childrenIn}
 use Rattle.memory.proofs.ReadingLaws.{lowAt, part-length}
+use Rattle.layout.specs.declared.node.Node.{Node}
+use Rattle.layout.specs.Loaded.{nodeIn, childOf, entryOf}
 use Rattle.layout.specs.Nodes.{countAt, childAt, PartIn, PolygonPart}
 use Rattle.index.specs.Walks.{hasTest, cellTest}
 use Rattle.layout.proofs.NodeLaws.{child-in}
+use Rattle.layout.proofs.LoadedLaws.{loaded-test, child-at}
 use Rattle.removal.specs.Place.{EntryPlace, HoldsCell, ChildrenHave, ChildPlace}
 
 -- Before the i-th entry: the cell's entry is not an earlier one.
@@ -37,7 +40,10 @@ module _ (p : List ℕ) (c : Cell) where
   pub seek-start : HoldsCell p c → SeekEntry p c 0
   seek-start h = seek-at p c 0 h (omega arith)
 
-  module _ (i : ℕ) (v : SeekEntry p c i) (b : Bool) (e : b ≡ cellTest c (entryIn p i)) where
+  module _ (leaf : Node) (l : leaf ≡ nodeIn p) (i : ℕ) (v : SeekEntry p c i) (b : Bool) (t : b ≡ cellTest c (entryOf leaf i)) where
+    e : b ≡ cellTest c (entryIn p i)
+    e = loaded-test p leaf l (cellTest c) i b (v .few) t
+
     pub seek-found : not b ≡ false → EntryPlace p c i
     seek-found f = record { inside = v .inside; is = sym e ∙ not-false b f }
 
@@ -93,8 +99,10 @@ seek-child-at m lo k c i low j h l e f =
     record { have = h; i-le = l; inside = omega arith; few = omega arith; low-is = e; part-is = f }
 
 module _ (m : List ℕ) (lo k : ℕ) (c : Cell) where
-  pub seek-child-start : (j : ℕ) → ChildrenHave m k c → j ≡ childAt m k 0 → SeekChild m lo k c 0 lo j
-  seek-child-start j h q = seek-child-at m lo k c 0 lo j h (omega arith) (sym (low-first lo (childrenIn (part m k)))) q
+  module _ (node : Node) (l : node ≡ nodeIn (part m k)) where
+    pub seek-child-start : (j : ℕ) → ChildrenHave m k c → j ≡ childOf node 0 → SeekChild m lo k c 0 lo j
+    seek-child-start j h q =
+        seek-child-at m lo k c 0 lo j h (omega arith) (sym (low-first lo (childrenIn (part m k)))) (child-at m k node l 0 j (omega arith) q)
 
   module _ (i low j : ℕ) (v : SeekChild m lo k c i low j) where
     pub seek-polygon : PolygonPart m j
@@ -126,19 +134,22 @@ module _ (m : List ℕ) (lo k : ℕ) (c : Cell) where
               let t = rw (q, ← (v .part-is)) at (v .have .place .has) in
               absurd (contrary (hasTest c (polygonIn (part m j))) t (sym e ∙ not-true b f))
 
-      pub seek-child-few : not b ≡ true → i + 1 < 8
+      seek-child-few : not b ≡ true → i + 1 < 8
       seek-child-few f =
           let a = later f in
           let h = v .have .place .inside in
           let n = v .have .few in
           omega arith
 
-      pub seek-child-again : (x : ℕ) → not b ≡ true → x ≡ childAt m k (i + 1) → SeekChild m lo k c (i + 1) (j + 1) x
-      seek-child-again x f q =
+      pub seek-child-nine : not b ≡ true → i + 1 < 9
+      seek-child-nine f = let a = seek-child-few f in omega arith
+
+      pub seek-child-again : (node : Node) (x : ℕ) → node ≡ nodeIn (part m k) → not b ≡ true → x ≡ childOf node (i + 1) → SeekChild m lo k c (i + 1) (j + 1) x
+      seek-child-again node x l f q =
           let n = child-numbers m k (v .have .ends) (v .have .few) in
           let s = n .count in
           let h = v .inside in
           let g : lowAt lo (childrenIn (part m k)) (i + 1) ≡ j + 1 =
           ap (λ (x : ℕ). lowAt lo (childrenIn (part m k)) x) (add-one i) ∙ low-next lo (childrenIn (part m k)) i (omega arith)
           ∙ ap (λ (x : ℕ). x + 1) (n .at i (v .inside) ∙ sym (v .part-is)) in
-          seek-child-at m lo k c (i + 1) (j + 1) x (v .have) (later f) (sym g) q
+          seek-child-at m lo k c (i + 1) (j + 1) x (v .have) (later f) (sym g) (child-at m k node l (i + 1) x (seek-child-few f) q)

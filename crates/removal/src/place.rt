@@ -3,7 +3,8 @@ ghost use Rattle.removal.specs.Place.{HoldsCell, EntryPlace, ChildrenHav
 use geometry::Cell;
 use index::is_of_cell;
 use index::polygon_has;
-use layout::child_at;
+use layout::Node;
+use layout::node_at;
 
 // A child of a routing node: its place among the branches, the lower end of its subtree and its part.
 pub struct Child {
@@ -17,8 +18,9 @@ pub fn entry_place(p: &[u32], c: Cell) -> usize
     requires { ⌜ HoldsCell (now p) c ⌝ }
     ensures { λ r. ⌜ EntryPlace (now (p .entry)) c r ⌝ }
 {
+    let leaf = Node::load(p);
     let mut i = 0;
-    while !is_of_cell(p, i, c) {
+    while !is_of_cell(leaf, i, c) {
         i += 1;
     }
     i
@@ -30,13 +32,14 @@ pub fn child_place(m: &[u32], lo: u32, k: u32, c: Cell) -> Child
     requires { ⌜ ChildrenHave (now m) k c ⌝ }
     ensures { λ r. ⌜ ChildPlace (now (m .entry)) lo k c r ⌝ }
 {
+    let node = node_at(m, k);
     let mut at = 0;
     let mut low = lo;
-    let mut part = child_at(m, k, 0);
+    let mut part = node.child(0);
     while !polygon_has(m, part, c) {
         at += 1;
         low = part + 1;
-        part = child_at(m, k, at);
+        part = node.child(at);
     }
     Child { at, low, part }
 }

@@ -2,7 +2,7 @@
 ghost use mathlib.Core.Path.{_≡_};
 ghost use Rattle.split_line.specs.FullLeaf.{entriesOf, LeafHere, LeafLineIs, sumsOf, addedSums, SmallSums};
 use geometry::Cell;
-use layout::entry_cell;
+use layout::Node;
 use layout::item_count;
 
 // The sums of coordinates and of their squares.
@@ -35,7 +35,8 @@ fn leaf_sums(p: &[u32], c: Cell) -> Sums
     requires { ⌜ LeafHere (now p) c ⌝ }
     ensures { λ r. ⌜ r ≡ addedSums (sumsOf (entriesOf (now (p .entry)))) c ⌝ }
 {
-    let n = item_count(p) as usize;
+    let leaf = Node::load(p);
+    let n = leaf.count as usize;
     let mut sums = Sums {
         x: 0,
         xx: 0,
@@ -44,7 +45,7 @@ fn leaf_sums(p: &[u32], c: Cell) -> Sums
     };
     let mut i = 0;
     while i < n {
-        sums = sums.add(entry_cell(p, i));
+        sums = sums.add(leaf.cell(i));
         i += 1;
     }
     sums.add(c)

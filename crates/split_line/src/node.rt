@@ -14,8 +14,7 @@ use crate::reach::reach_under;
 use geometry::Cell;
 use geometry::Rect;
 use geometry::put_rect;
-use layout::child_at;
-use layout::count_at;
+use layout::node_at;
 use sides::is_on;
 use sides::left_side;
 use sides::right_side;
@@ -85,12 +84,13 @@ fn put_bounds(
     requires { ⌜ NodeHere (now m) level lo k place below c × (length (now list) ≡ 36) ⌝ }
     ensures { λ r. ⌜ GroupBounds (now (m .entry)) level lo k place below c (now (list .exit)) r ⌝ }
 {
-    let n = count_at(m, k);
+    let node = node_at(m, k);
+    let n = node.count;
     let mut next = 0;
     let mut low = lo;
     let mut i: u32 = 0;
     while i < n {
-        let j = child_at(m, k, i as usize);
+        let j = node.child(i as usize);
         next = put_branch(m, level - 1, low, j, i == place, below, c, list, next);
         low = j + 1;
         i += 1;

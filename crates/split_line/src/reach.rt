@@ -7,10 +7,8 @@ ghost use Rattle.index.specs.Walks.{leafEntries};
 ghost use Rattle.split_line.specs.Reached.{reachOf, reachAdd, reachJoin, onSides, keptUnder, LeafReach, NodeReach};
 use geometry::Cell;
 use geometry::Rect;
-use layout::child_at;
-use layout::count_at;
-use layout::entry_cell;
-use layout::item_count;
+use layout::Node;
+use layout::node_at;
 use layout::part_at;
 use sides::on_all;
 
@@ -83,11 +81,12 @@ fn reach_in_leaf(p: &[u32], sides: &[u32]) -> Reach
     requires { ⌜ LeafReach (now p) (now sides) ⌝ }
     ensures { λ r. ⌜ r ≡ reachOf (leafEntries (onSides (now (sides .entry))) (now (p .entry))) ⌝ }
 {
-    let n = item_count(p) as usize;
+    let leaf = Node::load(p);
+    let n = leaf.count as usize;
     let mut reach = Reach::empty();
     let mut i = 0;
     while i < n {
-        let c = entry_cell(p, i);
+        let c = leaf.cell(i);
         if on_all(sides, c) {
             reach = reach.add(c);
         }
@@ -104,12 +103,13 @@ pub fn reach_under(m: &[u32], level: u32, lo: u32, k: u32, sides: &[u32]) -> Rea
     if level == 0 {
         return reach_in_leaf(part_at(m, k), sides);
     }
-    let n = count_at(m, k) as usize;
+    let node = node_at(m, k);
+    let n = node.count as usize;
     let mut reach = Reach::empty();
     let mut low = lo;
     let mut i = 0;
     while i < n {
-        let j = child_at(m, k, i);
+        let j = node.child(i);
         reach = reach.join(reach_under(m, level - 1, low, j, sides));
         low = j + 1;
         i += 1;

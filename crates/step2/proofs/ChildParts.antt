@@ -9,8 +9,11 @@ use lib.Seq.{drop-cons, getD-drop}
 use Rattle.geometry.specs.declared.polygon.Polygon.{Polygon}
 use Rattle.geometry.specs.Numbers.{rectsIn, PolygonOf}
 use Rattle.memory.specs.Layout.{part, rectCount, polygonIn, childrenIn, rectNumbers}
+use Rattle.layout.specs.declared.node.Node.{Node}
+use Rattle.layout.specs.Loaded.{nodeIn, childOf}
 use Rattle.layout.specs.Nodes.{countAt, childAt, PolygonPart}
 use Rattle.layout.proofs.NodeLaws.{lent-polygon, child-in}
+use Rattle.layout.proofs.LoadedLaws.{count-at, child-at}
 use Rattle.step2.specs.Branches.{polygonsIn, Branches}
 
 -- the polygon loaded from the part p of a node, by its rectangles r and their count n
@@ -49,3 +52,26 @@ module _ (m : List ℕ) (k : ℕ) (v : Branches m k) where
       let c = v .count in
       let s : length (polygonsIn m k) ≤ i = omega arith in
       drop-of-length-le (polygonsIn m k) s
+
+-- the children of the node as it was loaded, up to one of them
+module _ (m : List ℕ) (k : ℕ) (v : Branches m k) (node : Node) (q : node ≡ nodeIn (part m k)) where
+  pub loaded-branches : node .count ≡ countAt m k
+  loaded-branches = count-at m k node q
+
+  module _ (to : ℕ) (l : to ≤ countAt m k) (i : ℕ) (h : i < to) where
+    pub branch-nine : i < 9
+    branch-nine = let f = v .few in omega arith
+
+    pub branch-child : (j : ℕ) → j ≡ childOf node i → j ≡ childAt m k i
+    branch-child j e = let f = v .few in child-at m k node q i j (omega arith) e
+
+  -- up to the last
+  module _ (i : ℕ) (h : i < node .count) where
+    each-below : i < countAt m k
+    each-below = let c = loaded-branches in omega arith
+
+    pub each-nine : i < 9
+    each-nine = let f = v .few in let g = each-below in omega arith
+
+    pub each-child : (j : ℕ) → j ≡ childOf node i → j ≡ childAt m k i
+    each-child j e = let f = v .few in let g = each-below in child-at m k node q i j (omega arith) e

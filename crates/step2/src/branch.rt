@@ -8,8 +8,7 @@ ghost use Rattle.step2.specs.Branches.{polygonsIn, Branches, firstPlace}
 use geometry::Cell;
 use geometry::Polygon;
 use index::polygon_has;
-use layout::child_at;
-use layout::count_at;
+use layout::node_at;
 use layout::part_at;
 use layout::rect_count;
 use layout::rects;
@@ -29,10 +28,11 @@ pub fn first_with(m: &[u32], k: u32, c: Cell) -> usize
     requires { ⌜ Branches (now m) k ⌝ }
     ensures { λ r. ⌜ r ≡ firstPlace (hasTest c) (polygonsIn (now (m .entry)) k) ⌝ }
 {
-    let n = count_at(m, k) as usize;
+    let node = node_at(m, k);
+    let n = node.count as usize;
     let mut i = 0;
     while i < n {
-        let j = child_at(m, k, i);
+        let j = node.child(i);
         if polygon_has(m, j, c) {
             return i;
         }

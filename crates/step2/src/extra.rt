@@ -12,8 +12,7 @@ ghost use Rattle.step2.specs.Extra.{noneYet, nearestIn, nearestFrom};
 use geometry::Cell;
 use geometry::Rect;
 use geometry::rect_at;
-use layout::child_at;
-use layout::count_at;
+use layout::node_at;
 use layout::part_at;
 use layout::rect_count;
 use layout::rects;
@@ -71,7 +70,8 @@ pub fn find_nearest(m: &[u32], k: u32, c: Cell) -> Nearest
     requires { ⌜ Branches (now m) k × (onGrid c ≡ true) ⌝ }
     ensures { λ r. ⌜ r ≡ nearestFrom c 0 noneYet (polygonsIn (now (m .entry)) k) ⌝ }
 {
-    let n = count_at(m, k) as usize;
+    let node = node_at(m, k);
+    let n = node.count as usize;
     let mut best = Nearest {
         branch: 0,
         rect: 0,
@@ -79,7 +79,7 @@ pub fn find_nearest(m: &[u32], k: u32, c: Cell) -> Nearest
     };
     let mut i = 0;
     while i < n {
-        let j = child_at(m, k, i);
+        let j = node.child(i);
         best = nearest_at(m, j, i, c, best);
         i += 1;
     }

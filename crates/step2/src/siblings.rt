@@ -10,8 +10,8 @@ ghost use Rattle.step2.specs.Pieces.{rectsAll, siblings};
 use crate::branch::polygon_at;
 use geometry::Count;
 use geometry::cut_polygon;
-use layout::child_at;
 use layout::count_at;
+use layout::node_at;
 
 // Cuts the first n rectangles of a list by the children of the node at part k, from the given one up to
 // before another, in place; the spare list holds the pieces on the way.
@@ -28,10 +28,11 @@ fn cut_by_children(
     ensures { λ c. ⌜ Written (now (list .entry)) (cutLimited (rectsIn (now (list .entry)) n) (rectsAll (drop from (take to (polygonsIn (now (m .entry)) k))))) c (now (list .exit)) ⌝ }
     ensures { λ _. ⌜ length (now (spare .exit)) ≡ length (now (spare .entry)) ⌝ }
 {
+    let node = node_at(m, k);
     let mut left = n;
     let mut i = from;
     while i < to {
-        let j = child_at(m, k, i);
+        let j = node.child(i);
         let p = polygon_at(m, j);
         let c = cut_polygon(list, left, p, spare);
         let Count::Rects(rects) = c else {

@@ -4,6 +4,7 @@ use borrow.Author.Needs.{needs}
 use Prim.Native.Nat.{ℕ, _<_, _-_}
 use Rattle.emission.proofs.DeepRows.{deep-fits}
 use Rattle.emission.proofs.CopyBelow.{CopyLoop, copy-leaf-room, copy-leaf, copy-start, copy-few, copy-walk, copy-child-room, copy-again, copy-moved, copy-room, copy-end}
+use Rattle.index.proofs.WalkNode.{walk-count, walk-nine, walk-child}
 use borrow.Fn.Kinds.{In}
 use borrow.Fn.PlainCycle.{Measures, is, falls, and}
 use Rattle.emission.proofs.below.copy_below.Reads as copy-below
@@ -11,10 +12,10 @@ use Rattle.emission.proofs.below.copy_below.Kinds as copy-below-kinds
 use Rattle.emission.proofs.below.+copy_below.Lts-copy_below as copy-below-lts
 use Rattle.layout.proofs.copy_node.Reads as copy-node-reads
 use Rattle.layout.proofs.copy_part.Reads as copy-part-reads
+use Rattle.layout.proofs.node.Node.child.Reads as child-reads
 use Rattle.layout.proofs.node.Node.empty.Reads as empty-reads
 use Rattle.layout.proofs.node.Node.with_child.Reads as with-child-reads
-use Rattle.layout.proofs.child_at.Reads as child-at-reads
-use Rattle.layout.proofs.count_at.Reads as count-at-reads
+use Rattle.layout.proofs.node_at.Reads as node-at-reads
 use Rattle.layout.proofs.part_at.Reads as part-at-reads
 use Rattle.emission.proofs.below.+copy_below.{statement}
 use Rattle.emission.proofs.below.+copy_below.Tie.{close}
@@ -31,22 +32,22 @@ copy-below-below t =
     and 2 copy-below-kinds.ps (falls 2 copy-below-kinds.ps _<_ μ-copy-below t) copy-below.Pre
 
 abbrev copy-below-Inv-loop : copy-below-lts.InvT-loop
-copy-below-Inv-loop m level lo k work₀ next n node₀ free₀ low₀ i₀ work node free low i = CopyLoop level m lo k work₀ next n i low work free node
+copy-below-Inv-loop m level lo k work₀ next node n copy₀ free₀ low₀ i₀ work copy free low i = CopyLoop level m lo k work₀ next n i low work free copy
 
 abbrev copy-below-μ-loop : copy-below-lts.MeasureT-loop
-copy-below-μ-loop m level lo k work₀ next n node₀ free₀ low₀ i₀ work node free low i = n - i
+copy-below-μ-loop m level lo k work₀ next node n copy₀ free₀ low₀ i₀ work copy free low i = n - i
 
 copy-below-part-at-requires : (t : ℕ) → copy-below-lts.Need-part-at-requires (
   part-at-reads.Asked,
   part-at-reads.Learnt,
   copy-part-reads.Asked,
   copy-part-reads.Learnt,
-  count-at-reads.Asked,
-  count-at-reads.Learnt,
+  node-at-reads.Asked,
+  node-at-reads.Learnt,
   empty-reads.Asked,
   empty-reads.Learnt,
-  child-at-reads.Asked,
-  child-at-reads.Learnt,
+  child-reads.Asked,
+  child-reads.Learnt,
   copy-below-below t,
   copy-below.Post,
   with-child-reads.Asked,
@@ -61,12 +62,12 @@ copy-below-copy-part-requires : (t : ℕ) → copy-below-lts.Need-copy-part-requ
   part-at-reads.Learnt,
   copy-part-reads.Asked,
   copy-part-reads.Learnt,
-  count-at-reads.Asked,
-  count-at-reads.Learnt,
+  node-at-reads.Asked,
+  node-at-reads.Learnt,
   empty-reads.Asked,
   empty-reads.Learnt,
-  child-at-reads.Asked,
-  child-at-reads.Learnt,
+  child-reads.Asked,
+  child-reads.Learnt,
   copy-below-below t,
   copy-below.Post,
   with-child-reads.Asked,
@@ -81,12 +82,12 @@ copy-below-add-result : (t : ℕ) → copy-below-lts.Need-add-result (
   part-at-reads.Learnt,
   copy-part-reads.Asked,
   copy-part-reads.Learnt,
-  count-at-reads.Asked,
-  count-at-reads.Learnt,
+  node-at-reads.Asked,
+  node-at-reads.Learnt,
   empty-reads.Asked,
   empty-reads.Learnt,
-  child-at-reads.Asked,
-  child-at-reads.Learnt,
+  child-reads.Asked,
+  child-reads.Learnt,
   copy-below-below t,
   copy-below.Post,
   with-child-reads.Asked,
@@ -101,12 +102,12 @@ copy-below-same-length : (t : ℕ) → copy-below-lts.Need-same-length (
   part-at-reads.Learnt,
   copy-part-reads.Asked,
   copy-part-reads.Learnt,
-  count-at-reads.Asked,
-  count-at-reads.Learnt,
+  node-at-reads.Asked,
+  node-at-reads.Learnt,
   empty-reads.Asked,
   empty-reads.Learnt,
-  child-at-reads.Asked,
-  child-at-reads.Learnt,
+  child-reads.Asked,
+  child-reads.Learnt,
   copy-below-below t,
   copy-below.Post,
   with-child-reads.Asked,
@@ -121,12 +122,12 @@ copy-below-returns : (t : ℕ) → copy-below-lts.Need-returns (
   part-at-reads.Learnt,
   copy-part-reads.Asked,
   copy-part-reads.Learnt,
-  count-at-reads.Asked,
-  count-at-reads.Learnt,
+  node-at-reads.Asked,
+  node-at-reads.Learnt,
   empty-reads.Asked,
   empty-reads.Learnt,
-  child-at-reads.Asked,
-  child-at-reads.Learnt,
+  child-reads.Asked,
+  child-reads.Learnt,
   copy-below-below t,
   copy-below.Post,
   with-child-reads.Asked,
@@ -136,17 +137,17 @@ copy-below-returns : (t : ℕ) → copy-below-lts.Need-returns (
 ) (copy-below-at t) copy-below.Post copy-below-Inv-loop copy-below-μ-loop
 copy-below-returns t c = search copy-leaf
 
-copy-below-count-at-requires : (t : ℕ) → copy-below-lts.Need-count-at-requires (
+copy-below-node-at-requires : (t : ℕ) → copy-below-lts.Need-node-at-requires (
   part-at-reads.Asked,
   part-at-reads.Learnt,
   copy-part-reads.Asked,
   copy-part-reads.Learnt,
-  count-at-reads.Asked,
-  count-at-reads.Learnt,
+  node-at-reads.Asked,
+  node-at-reads.Learnt,
   empty-reads.Asked,
   empty-reads.Learnt,
-  child-at-reads.Asked,
-  child-at-reads.Learnt,
+  child-reads.Asked,
+  child-reads.Learnt,
   copy-below-below t,
   copy-below.Post,
   with-child-reads.Asked,
@@ -154,19 +155,19 @@ copy-below-count-at-requires : (t : ℕ) → copy-below-lts.Need-count-at-requir
   copy-node-reads.Asked,
   copy-node-reads.Learnt,
 ) (copy-below-at t) copy-below.Post copy-below-Inv-loop copy-below-μ-loop
-copy-below-count-at-requires t c κs = search needs
+copy-below-node-at-requires t c κs = search needs
 
 copy-below-cast-n : (t : ℕ) → copy-below-lts.Need-cast-n (
   part-at-reads.Asked,
   part-at-reads.Learnt,
   copy-part-reads.Asked,
   copy-part-reads.Learnt,
-  count-at-reads.Asked,
-  count-at-reads.Learnt,
+  node-at-reads.Asked,
+  node-at-reads.Learnt,
   empty-reads.Asked,
   empty-reads.Learnt,
-  child-at-reads.Asked,
-  child-at-reads.Learnt,
+  child-reads.Asked,
+  child-reads.Learnt,
   copy-below-below t,
   copy-below.Post,
   with-child-reads.Asked,
@@ -181,12 +182,12 @@ copy-below-empty-requires : (t : ℕ) → copy-below-lts.Need-empty-requires (
   part-at-reads.Learnt,
   copy-part-reads.Asked,
   copy-part-reads.Learnt,
-  count-at-reads.Asked,
-  count-at-reads.Learnt,
+  node-at-reads.Asked,
+  node-at-reads.Learnt,
   empty-reads.Asked,
   empty-reads.Learnt,
-  child-at-reads.Asked,
-  child-at-reads.Learnt,
+  child-reads.Asked,
+  child-reads.Learnt,
   copy-below-below t,
   copy-below.Post,
   with-child-reads.Asked,
@@ -201,12 +202,12 @@ copy-below-loop-holds : (t : ℕ) → copy-below-lts.Need-loop-holds (
   part-at-reads.Learnt,
   copy-part-reads.Asked,
   copy-part-reads.Learnt,
-  count-at-reads.Asked,
-  count-at-reads.Learnt,
+  node-at-reads.Asked,
+  node-at-reads.Learnt,
   empty-reads.Asked,
   empty-reads.Learnt,
-  child-at-reads.Asked,
-  child-at-reads.Learnt,
+  child-reads.Asked,
+  child-reads.Learnt,
   copy-below-below t,
   copy-below.Post,
   with-child-reads.Asked,
@@ -214,19 +215,19 @@ copy-below-loop-holds : (t : ℕ) → copy-below-lts.Need-loop-holds (
   copy-node-reads.Asked,
   copy-node-reads.Learnt,
 ) (copy-below-at t) copy-below.Post copy-below-Inv-loop copy-below-μ-loop
-copy-below-loop-holds t c = search copy-start
+copy-below-loop-holds t c = search (copy-start, walk-count)
 
-copy-below-child-at-requires : (t : ℕ) → copy-below-lts.Need-child-at-requires (
+copy-below-child-requires : (t : ℕ) → copy-below-lts.Need-child-requires (
   part-at-reads.Asked,
   part-at-reads.Learnt,
   copy-part-reads.Asked,
   copy-part-reads.Learnt,
-  count-at-reads.Asked,
-  count-at-reads.Learnt,
+  node-at-reads.Asked,
+  node-at-reads.Learnt,
   empty-reads.Asked,
   empty-reads.Learnt,
-  child-at-reads.Asked,
-  child-at-reads.Learnt,
+  child-reads.Asked,
+  child-reads.Learnt,
   copy-below-below t,
   copy-below.Post,
   with-child-reads.Asked,
@@ -234,19 +235,19 @@ copy-below-child-at-requires : (t : ℕ) → copy-below-lts.Need-child-at-requir
   copy-node-reads.Asked,
   copy-node-reads.Learnt,
 ) (copy-below-at t) copy-below.Post copy-below-Inv-loop copy-below-μ-loop
-copy-below-child-at-requires t c κs = search needs
+copy-below-child-requires t c κs = search walk-nine
 
 copy-below-sub-copy-below : (t : ℕ) → copy-below-lts.Need-sub-copy-below (
   part-at-reads.Asked,
   part-at-reads.Learnt,
   copy-part-reads.Asked,
   copy-part-reads.Learnt,
-  count-at-reads.Asked,
-  count-at-reads.Learnt,
+  node-at-reads.Asked,
+  node-at-reads.Learnt,
   empty-reads.Asked,
   empty-reads.Learnt,
-  child-at-reads.Asked,
-  child-at-reads.Learnt,
+  child-reads.Asked,
+  child-reads.Learnt,
   copy-below-below t,
   copy-below.Post,
   with-child-reads.Asked,
@@ -261,12 +262,12 @@ copy-below-copy-below-requires : (t : ℕ) → copy-below-lts.Need-copy-below-re
   part-at-reads.Learnt,
   copy-part-reads.Asked,
   copy-part-reads.Learnt,
-  count-at-reads.Asked,
-  count-at-reads.Learnt,
+  node-at-reads.Asked,
+  node-at-reads.Learnt,
   empty-reads.Asked,
   empty-reads.Learnt,
-  child-at-reads.Asked,
-  child-at-reads.Learnt,
+  child-reads.Asked,
+  child-reads.Learnt,
   copy-below-below t,
   copy-below.Post,
   with-child-reads.Asked,
@@ -274,19 +275,19 @@ copy-below-copy-below-requires : (t : ℕ) → copy-below-lts.Need-copy-below-re
   copy-node-reads.Asked,
   copy-node-reads.Learnt,
 ) (copy-below-at t) copy-below.Post copy-below-Inv-loop copy-below-μ-loop
-copy-below-copy-below-requires t c κs = (omega arith, (search copy-walk, search copy-child-room))
+copy-below-copy-below-requires t c κs = (omega arith, (search (copy-walk, walk-child), search (copy-child-room, walk-child)))
 
 copy-below-sub-with-child : (t : ℕ) → copy-below-lts.Need-sub-with-child (
   part-at-reads.Asked,
   part-at-reads.Learnt,
   copy-part-reads.Asked,
   copy-part-reads.Learnt,
-  count-at-reads.Asked,
-  count-at-reads.Learnt,
+  node-at-reads.Asked,
+  node-at-reads.Learnt,
   empty-reads.Asked,
   empty-reads.Learnt,
-  child-at-reads.Asked,
-  child-at-reads.Learnt,
+  child-reads.Asked,
+  child-reads.Learnt,
   copy-below-below t,
   copy-below.Post,
   with-child-reads.Asked,
@@ -294,19 +295,19 @@ copy-below-sub-with-child : (t : ℕ) → copy-below-lts.Need-sub-with-child (
   copy-node-reads.Asked,
   copy-node-reads.Learnt,
 ) (copy-below-at t) copy-below.Post copy-below-Inv-loop copy-below-μ-loop
-copy-below-sub-with-child t c = search copy-moved
+copy-below-sub-with-child t c = search (copy-moved, walk-child)
 
 copy-below-with-child-requires : (t : ℕ) → copy-below-lts.Need-with-child-requires (
   part-at-reads.Asked,
   part-at-reads.Learnt,
   copy-part-reads.Asked,
   copy-part-reads.Learnt,
-  count-at-reads.Asked,
-  count-at-reads.Learnt,
+  node-at-reads.Asked,
+  node-at-reads.Learnt,
   empty-reads.Asked,
   empty-reads.Learnt,
-  child-at-reads.Asked,
-  child-at-reads.Learnt,
+  child-reads.Asked,
+  child-reads.Learnt,
   copy-below-below t,
   copy-below.Post,
   with-child-reads.Asked,
@@ -321,12 +322,12 @@ copy-below-add-low : (t : ℕ) → copy-below-lts.Need-add-low (
   part-at-reads.Learnt,
   copy-part-reads.Asked,
   copy-part-reads.Learnt,
-  count-at-reads.Asked,
-  count-at-reads.Learnt,
+  node-at-reads.Asked,
+  node-at-reads.Learnt,
   empty-reads.Asked,
   empty-reads.Learnt,
-  child-at-reads.Asked,
-  child-at-reads.Learnt,
+  child-reads.Asked,
+  child-reads.Learnt,
   copy-below-below t,
   copy-below.Post,
   with-child-reads.Asked,
@@ -334,19 +335,19 @@ copy-below-add-low : (t : ℕ) → copy-below-lts.Need-add-low (
   copy-node-reads.Asked,
   copy-node-reads.Learnt,
 ) (copy-below-at t) copy-below.Post copy-below-Inv-loop copy-below-μ-loop
-copy-below-add-low t c = search deep-fits
+copy-below-add-low t c = search (deep-fits, walk-child)
 
 copy-below-add-i : (t : ℕ) → copy-below-lts.Need-add-i (
   part-at-reads.Asked,
   part-at-reads.Learnt,
   copy-part-reads.Asked,
   copy-part-reads.Learnt,
-  count-at-reads.Asked,
-  count-at-reads.Learnt,
+  node-at-reads.Asked,
+  node-at-reads.Learnt,
   empty-reads.Asked,
   empty-reads.Learnt,
-  child-at-reads.Asked,
-  child-at-reads.Learnt,
+  child-reads.Asked,
+  child-reads.Learnt,
   copy-below-below t,
   copy-below.Post,
   with-child-reads.Asked,
@@ -361,12 +362,12 @@ copy-below-loop-less : (t : ℕ) → copy-below-lts.Need-loop-less (
   part-at-reads.Learnt,
   copy-part-reads.Asked,
   copy-part-reads.Learnt,
-  count-at-reads.Asked,
-  count-at-reads.Learnt,
+  node-at-reads.Asked,
+  node-at-reads.Learnt,
   empty-reads.Asked,
   empty-reads.Learnt,
-  child-at-reads.Asked,
-  child-at-reads.Learnt,
+  child-reads.Asked,
+  child-reads.Learnt,
   copy-below-below t,
   copy-below.Post,
   with-child-reads.Asked,
@@ -381,12 +382,12 @@ copy-below-loop-again : (t : ℕ) → copy-below-lts.Need-loop-again (
   part-at-reads.Learnt,
   copy-part-reads.Asked,
   copy-part-reads.Learnt,
-  count-at-reads.Asked,
-  count-at-reads.Learnt,
+  node-at-reads.Asked,
+  node-at-reads.Learnt,
   empty-reads.Asked,
   empty-reads.Learnt,
-  child-at-reads.Asked,
-  child-at-reads.Learnt,
+  child-reads.Asked,
+  child-reads.Learnt,
   copy-below-below t,
   copy-below.Post,
   with-child-reads.Asked,
@@ -394,19 +395,19 @@ copy-below-loop-again : (t : ℕ) → copy-below-lts.Need-loop-again (
   copy-node-reads.Asked,
   copy-node-reads.Learnt,
 ) (copy-below-at t) copy-below.Post copy-below-Inv-loop copy-below-μ-loop
-copy-below-loop-again t c = search copy-again
+copy-below-loop-again t c = search (copy-again, walk-child)
 
 copy-below-part-at-requires-2 : (t : ℕ) → copy-below-lts.Need-part-at-requires-2 (
   part-at-reads.Asked,
   part-at-reads.Learnt,
   copy-part-reads.Asked,
   copy-part-reads.Learnt,
-  count-at-reads.Asked,
-  count-at-reads.Learnt,
+  node-at-reads.Asked,
+  node-at-reads.Learnt,
   empty-reads.Asked,
   empty-reads.Learnt,
-  child-at-reads.Asked,
-  child-at-reads.Learnt,
+  child-reads.Asked,
+  child-reads.Learnt,
   copy-below-below t,
   copy-below.Post,
   with-child-reads.Asked,
@@ -421,12 +422,12 @@ copy-below-copy-node-requires : (t : ℕ) → copy-below-lts.Need-copy-node-requ
   part-at-reads.Learnt,
   copy-part-reads.Asked,
   copy-part-reads.Learnt,
-  count-at-reads.Asked,
-  count-at-reads.Learnt,
+  node-at-reads.Asked,
+  node-at-reads.Learnt,
   empty-reads.Asked,
   empty-reads.Learnt,
-  child-at-reads.Asked,
-  child-at-reads.Learnt,
+  child-reads.Asked,
+  child-reads.Learnt,
   copy-below-below t,
   copy-below.Post,
   with-child-reads.Asked,
@@ -441,12 +442,12 @@ copy-below-add-result-2 : (t : ℕ) → copy-below-lts.Need-add-result-2 (
   part-at-reads.Learnt,
   copy-part-reads.Asked,
   copy-part-reads.Learnt,
-  count-at-reads.Asked,
-  count-at-reads.Learnt,
+  node-at-reads.Asked,
+  node-at-reads.Learnt,
   empty-reads.Asked,
   empty-reads.Learnt,
-  child-at-reads.Asked,
-  child-at-reads.Learnt,
+  child-reads.Asked,
+  child-reads.Learnt,
   copy-below-below t,
   copy-below.Post,
   with-child-reads.Asked,
@@ -461,12 +462,12 @@ copy-below-same-length-2 : (t : ℕ) → copy-below-lts.Need-same-length-2 (
   part-at-reads.Learnt,
   copy-part-reads.Asked,
   copy-part-reads.Learnt,
-  count-at-reads.Asked,
-  count-at-reads.Learnt,
+  node-at-reads.Asked,
+  node-at-reads.Learnt,
   empty-reads.Asked,
   empty-reads.Learnt,
-  child-at-reads.Asked,
-  child-at-reads.Learnt,
+  child-reads.Asked,
+  child-reads.Learnt,
   copy-below-below t,
   copy-below.Post,
   with-child-reads.Asked,
@@ -481,12 +482,12 @@ copy-below-returns-2 : (t : ℕ) → copy-below-lts.Need-returns-2 (
   part-at-reads.Learnt,
   copy-part-reads.Asked,
   copy-part-reads.Learnt,
-  count-at-reads.Asked,
-  count-at-reads.Learnt,
+  node-at-reads.Asked,
+  node-at-reads.Learnt,
   empty-reads.Asked,
   empty-reads.Learnt,
-  child-at-reads.Asked,
-  child-at-reads.Learnt,
+  child-reads.Asked,
+  child-reads.Learnt,
   copy-below-below t,
   copy-below.Post,
   with-child-reads.Asked,
@@ -502,12 +503,12 @@ pub +copy-below-spec : {M : Type 1} → statement M
   part-at-reads.Learnt,
   copy-part-reads.Asked,
   copy-part-reads.Learnt,
-  count-at-reads.Asked,
-  count-at-reads.Learnt,
+  node-at-reads.Asked,
+  node-at-reads.Learnt,
   empty-reads.Asked,
   empty-reads.Learnt,
-  child-at-reads.Asked,
-  child-at-reads.Learnt,
+  child-reads.Asked,
+  child-reads.Learnt,
   copy-below-below t,
   copy-below.Post,
   with-child-reads.Asked,
@@ -524,11 +525,11 @@ pub +copy-below-spec : {M : Type 1} → statement M
     (copy-below-add-result t)
     (copy-below-same-length t)
     (copy-below-returns t)
-    (copy-below-count-at-requires t)
+    (copy-below-node-at-requires t)
     (copy-below-cast-n t)
     (copy-below-empty-requires t)
     (copy-below-loop-holds t)
-    (copy-below-child-at-requires t)
+    (copy-below-child-requires t)
     (copy-below-sub-copy-below t)
     (copy-below-copy-below-requires t)
     (copy-below-sub-with-child t)

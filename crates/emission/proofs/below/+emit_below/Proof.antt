@@ -7,7 +7,7 @@ use Rattle.index.proofs.WalkRows.{node-part}
 use Rattle.emission.proofs.DeepRows.{deep-fits}
 use Rattle.emission.proofs.EmitLoop.{EmitLoop, emit-start, child-walk, child-room, count-small}
 use Rattle.emission.proofs.EmitBelow.{plain-room, plain-emits, at-leaf-room, at-leaf-emits, emit-one, emit-nothing, emit-moved, node-gone, node-own-room, node-emits}
-use Prim.Native.Nat.{ℕ, _<_}
+use Rattle.index.proofs.WalkNode.{walk-count, walk-nine, walk-child}
 use borrow.Fn.Kinds.{In}
 use borrow.Fn.PlainCycle.{Measures, is, falls, and}
 use Rattle.emission.proofs.below.emit_below.Reads as emit-below
@@ -16,10 +16,10 @@ use Rattle.emission.proofs.below.+emit_below.Lts-emit_below as emit-bel
 use Rattle.emission.proofs.below.copy_below.Reads as copy-below-reads
 use Rattle.emission.proofs.below.emit_leaf.Reads as emit-leaf-reads
 use Rattle.emission.proofs.node.put_left.Reads as put-left-reads
+use Rattle.layout.proofs.node.Node.child.Reads as child-reads
 use Rattle.layout.proofs.node.Node.empty.Reads as empty-reads
 use Rattle.layout.proofs.node.Node.with_child.Reads as with-child-reads
-use Rattle.layout.proofs.child_at.Reads as child-at-reads
-use Rattle.layout.proofs.count_at.Reads as count-at-reads
+use Rattle.layout.proofs.node_at.Reads as node-at-reads
 use Rattle.layout.proofs.part_at.Reads as part-at-reads
 use Rattle.emission.proofs.below.+emit_below.{statement}
 use Rattle.emission.proofs.below.+emit_below.Tie.{close}
@@ -36,10 +36,11 @@ emit-below-below t =
     and 3 emit-below-kinds.ps (falls 3 emit-below-kinds.ps _<_ μ-emit-below t) emit-below.Pre
 
 abbrev emit-below-Inv-loop : emit-below-lts.InvT-loop
-emit-below-Inv-loop m level lo k sides work₀ next n left₀ free₀ low₀ i₀ work left free low i = EmitLoop level m lo k sides work₀ next n i low work free left
+emit-below-Inv-loop m level lo k sides work₀ next node n left₀ free₀ low₀ i₀ work left free low i =
+    EmitLoop level m lo k sides work₀ next n i low work free left
 
 abbrev emit-below-μ-loop : emit-below-lts.MeasureT-loop
-emit-below-μ-loop m level lo k sides work₀ next n left₀ free₀ low₀ i₀ work left free low i = n - i
+emit-below-μ-loop m level lo k sides work₀ next node n left₀ free₀ low₀ i₀ work left free low i = n - i
 
 emit-below-copy-below-requires : (t : ℕ) → emit-below-lts.Need-copy-below-requires (
   copy-below-reads.Asked,
@@ -48,12 +49,12 @@ emit-below-copy-below-requires : (t : ℕ) → emit-below-lts.Need-copy-below-re
   part-at-reads.Learnt,
   emit-leaf-reads.Asked,
   emit-leaf-reads.Learnt,
-  count-at-reads.Asked,
-  count-at-reads.Learnt,
+  node-at-reads.Asked,
+  node-at-reads.Learnt,
   empty-reads.Asked,
   empty-reads.Learnt,
-  child-at-reads.Asked,
-  child-at-reads.Learnt,
+  child-reads.Asked,
+  child-reads.Learnt,
   emit-below-below t,
   emit-below.Post,
   with-child-reads.Asked,
@@ -70,12 +71,12 @@ emit-below-same-length : (t : ℕ) → emit-below-lts.Need-same-length (
   part-at-reads.Learnt,
   emit-leaf-reads.Asked,
   emit-leaf-reads.Learnt,
-  count-at-reads.Asked,
-  count-at-reads.Learnt,
+  node-at-reads.Asked,
+  node-at-reads.Learnt,
   empty-reads.Asked,
   empty-reads.Learnt,
-  child-at-reads.Asked,
-  child-at-reads.Learnt,
+  child-reads.Asked,
+  child-reads.Learnt,
   emit-below-below t,
   emit-below.Post,
   with-child-reads.Asked,
@@ -92,12 +93,12 @@ emit-below-returns : (t : ℕ) → emit-below-lts.Need-returns (
   part-at-reads.Learnt,
   emit-leaf-reads.Asked,
   emit-leaf-reads.Learnt,
-  count-at-reads.Asked,
-  count-at-reads.Learnt,
+  node-at-reads.Asked,
+  node-at-reads.Learnt,
   empty-reads.Asked,
   empty-reads.Learnt,
-  child-at-reads.Asked,
-  child-at-reads.Learnt,
+  child-reads.Asked,
+  child-reads.Learnt,
   emit-below-below t,
   emit-below.Post,
   with-child-reads.Asked,
@@ -114,12 +115,12 @@ emit-below-part-at-requires : (t : ℕ) → emit-below-lts.Need-part-at-requires
   part-at-reads.Learnt,
   emit-leaf-reads.Asked,
   emit-leaf-reads.Learnt,
-  count-at-reads.Asked,
-  count-at-reads.Learnt,
+  node-at-reads.Asked,
+  node-at-reads.Learnt,
   empty-reads.Asked,
   empty-reads.Learnt,
-  child-at-reads.Asked,
-  child-at-reads.Learnt,
+  child-reads.Asked,
+  child-reads.Learnt,
   emit-below-below t,
   emit-below.Post,
   with-child-reads.Asked,
@@ -136,12 +137,12 @@ emit-below-emit-leaf-requires : (t : ℕ) → emit-below-lts.Need-emit-leaf-requ
   part-at-reads.Learnt,
   emit-leaf-reads.Asked,
   emit-leaf-reads.Learnt,
-  count-at-reads.Asked,
-  count-at-reads.Learnt,
+  node-at-reads.Asked,
+  node-at-reads.Learnt,
   empty-reads.Asked,
   empty-reads.Learnt,
-  child-at-reads.Asked,
-  child-at-reads.Learnt,
+  child-reads.Asked,
+  child-reads.Learnt,
   emit-below-below t,
   emit-below.Post,
   with-child-reads.Asked,
@@ -158,12 +159,12 @@ emit-below-same-length-2 : (t : ℕ) → emit-below-lts.Need-same-length-2 (
   part-at-reads.Learnt,
   emit-leaf-reads.Asked,
   emit-leaf-reads.Learnt,
-  count-at-reads.Asked,
-  count-at-reads.Learnt,
+  node-at-reads.Asked,
+  node-at-reads.Learnt,
   empty-reads.Asked,
   empty-reads.Learnt,
-  child-at-reads.Asked,
-  child-at-reads.Learnt,
+  child-reads.Asked,
+  child-reads.Learnt,
   emit-below-below t,
   emit-below.Post,
   with-child-reads.Asked,
@@ -180,12 +181,12 @@ emit-below-returns-2 : (t : ℕ) → emit-below-lts.Need-returns-2 (
   part-at-reads.Learnt,
   emit-leaf-reads.Asked,
   emit-leaf-reads.Learnt,
-  count-at-reads.Asked,
-  count-at-reads.Learnt,
+  node-at-reads.Asked,
+  node-at-reads.Learnt,
   empty-reads.Asked,
   empty-reads.Learnt,
-  child-at-reads.Asked,
-  child-at-reads.Learnt,
+  child-reads.Asked,
+  child-reads.Learnt,
   emit-below-below t,
   emit-below.Post,
   with-child-reads.Asked,
@@ -195,19 +196,19 @@ emit-below-returns-2 : (t : ℕ) → emit-below-lts.Need-returns-2 (
 ) (emit-below-at t) emit-below.Post emit-below-Inv-loop emit-below-μ-loop
 emit-below-returns-2 t c = search at-leaf-emits
 
-emit-below-count-at-requires : (t : ℕ) → emit-below-lts.Need-count-at-requires (
+emit-below-node-at-requires : (t : ℕ) → emit-below-lts.Need-node-at-requires (
   copy-below-reads.Asked,
   copy-below-reads.Learnt,
   part-at-reads.Asked,
   part-at-reads.Learnt,
   emit-leaf-reads.Asked,
   emit-leaf-reads.Learnt,
-  count-at-reads.Asked,
-  count-at-reads.Learnt,
+  node-at-reads.Asked,
+  node-at-reads.Learnt,
   empty-reads.Asked,
   empty-reads.Learnt,
-  child-at-reads.Asked,
-  child-at-reads.Learnt,
+  child-reads.Asked,
+  child-reads.Learnt,
   emit-below-below t,
   emit-below.Post,
   with-child-reads.Asked,
@@ -215,7 +216,7 @@ emit-below-count-at-requires : (t : ℕ) → emit-below-lts.Need-count-at-requir
   put-left-reads.Asked,
   put-left-reads.Learnt,
 ) (emit-below-at t) emit-below.Post emit-below-Inv-loop emit-below-μ-loop
-emit-below-count-at-requires t c κs = search needs
+emit-below-node-at-requires t c κs = search needs
 
 emit-below-cast-n : (t : ℕ) → emit-below-lts.Need-cast-n (
   copy-below-reads.Asked,
@@ -224,12 +225,12 @@ emit-below-cast-n : (t : ℕ) → emit-below-lts.Need-cast-n (
   part-at-reads.Learnt,
   emit-leaf-reads.Asked,
   emit-leaf-reads.Learnt,
-  count-at-reads.Asked,
-  count-at-reads.Learnt,
+  node-at-reads.Asked,
+  node-at-reads.Learnt,
   empty-reads.Asked,
   empty-reads.Learnt,
-  child-at-reads.Asked,
-  child-at-reads.Learnt,
+  child-reads.Asked,
+  child-reads.Learnt,
   emit-below-below t,
   emit-below.Post,
   with-child-reads.Asked,
@@ -246,12 +247,12 @@ emit-below-empty-requires : (t : ℕ) → emit-below-lts.Need-empty-requires (
   part-at-reads.Learnt,
   emit-leaf-reads.Asked,
   emit-leaf-reads.Learnt,
-  count-at-reads.Asked,
-  count-at-reads.Learnt,
+  node-at-reads.Asked,
+  node-at-reads.Learnt,
   empty-reads.Asked,
   empty-reads.Learnt,
-  child-at-reads.Asked,
-  child-at-reads.Learnt,
+  child-reads.Asked,
+  child-reads.Learnt,
   emit-below-below t,
   emit-below.Post,
   with-child-reads.Asked,
@@ -268,12 +269,12 @@ emit-below-loop-holds : (t : ℕ) → emit-below-lts.Need-loop-holds (
   part-at-reads.Learnt,
   emit-leaf-reads.Asked,
   emit-leaf-reads.Learnt,
-  count-at-reads.Asked,
-  count-at-reads.Learnt,
+  node-at-reads.Asked,
+  node-at-reads.Learnt,
   empty-reads.Asked,
   empty-reads.Learnt,
-  child-at-reads.Asked,
-  child-at-reads.Learnt,
+  child-reads.Asked,
+  child-reads.Learnt,
   emit-below-below t,
   emit-below.Post,
   with-child-reads.Asked,
@@ -281,21 +282,21 @@ emit-below-loop-holds : (t : ℕ) → emit-below-lts.Need-loop-holds (
   put-left-reads.Asked,
   put-left-reads.Learnt,
 ) (emit-below-at t) emit-below.Post emit-below-Inv-loop emit-below-μ-loop
-emit-below-loop-holds t c = search emit-start
+emit-below-loop-holds t c = search (emit-start, walk-count)
 
-emit-below-child-at-requires : (t : ℕ) → emit-below-lts.Need-child-at-requires (
+emit-below-child-requires : (t : ℕ) → emit-below-lts.Need-child-requires (
   copy-below-reads.Asked,
   copy-below-reads.Learnt,
   part-at-reads.Asked,
   part-at-reads.Learnt,
   emit-leaf-reads.Asked,
   emit-leaf-reads.Learnt,
-  count-at-reads.Asked,
-  count-at-reads.Learnt,
+  node-at-reads.Asked,
+  node-at-reads.Learnt,
   empty-reads.Asked,
   empty-reads.Learnt,
-  child-at-reads.Asked,
-  child-at-reads.Learnt,
+  child-reads.Asked,
+  child-reads.Learnt,
   emit-below-below t,
   emit-below.Post,
   with-child-reads.Asked,
@@ -303,7 +304,7 @@ emit-below-child-at-requires : (t : ℕ) → emit-below-lts.Need-child-at-requir
   put-left-reads.Asked,
   put-left-reads.Learnt,
 ) (emit-below-at t) emit-below.Post emit-below-Inv-loop emit-below-μ-loop
-emit-below-child-at-requires t c κs = search needs
+emit-below-child-requires t c κs = search walk-nine
 
 emit-below-sub-emit-below : (t : ℕ) → emit-below-lts.Need-sub-emit-below (
   copy-below-reads.Asked,
@@ -312,12 +313,12 @@ emit-below-sub-emit-below : (t : ℕ) → emit-below-lts.Need-sub-emit-below (
   part-at-reads.Learnt,
   emit-leaf-reads.Asked,
   emit-leaf-reads.Learnt,
-  count-at-reads.Asked,
-  count-at-reads.Learnt,
+  node-at-reads.Asked,
+  node-at-reads.Learnt,
   empty-reads.Asked,
   empty-reads.Learnt,
-  child-at-reads.Asked,
-  child-at-reads.Learnt,
+  child-reads.Asked,
+  child-reads.Learnt,
   emit-below-below t,
   emit-below.Post,
   with-child-reads.Asked,
@@ -334,12 +335,12 @@ emit-below-emit-below-requires : (t : ℕ) → emit-below-lts.Need-emit-below-re
   part-at-reads.Learnt,
   emit-leaf-reads.Asked,
   emit-leaf-reads.Learnt,
-  count-at-reads.Asked,
-  count-at-reads.Learnt,
+  node-at-reads.Asked,
+  node-at-reads.Learnt,
   empty-reads.Asked,
   empty-reads.Learnt,
-  child-at-reads.Asked,
-  child-at-reads.Learnt,
+  child-reads.Asked,
+  child-reads.Learnt,
   emit-below-below t,
   emit-below.Post,
   with-child-reads.Asked,
@@ -347,7 +348,7 @@ emit-below-emit-below-requires : (t : ℕ) → emit-below-lts.Need-emit-below-re
   put-left-reads.Asked,
   put-left-reads.Learnt,
 ) (emit-below-at t) emit-below.Post emit-below-Inv-loop emit-below-μ-loop
-emit-below-emit-below-requires t c κs = (omega arith, (search child-walk, search child-room))
+emit-below-emit-below-requires t c κs = (omega arith, (search (child-walk, walk-child), search (child-room, walk-child)))
 
 emit-below-sub-with-child : (t : ℕ) → emit-below-lts.Need-sub-with-child (
   copy-below-reads.Asked,
@@ -356,12 +357,12 @@ emit-below-sub-with-child : (t : ℕ) → emit-below-lts.Need-sub-with-child (
   part-at-reads.Learnt,
   emit-leaf-reads.Asked,
   emit-leaf-reads.Learnt,
-  count-at-reads.Asked,
-  count-at-reads.Learnt,
+  node-at-reads.Asked,
+  node-at-reads.Learnt,
   empty-reads.Asked,
   empty-reads.Learnt,
-  child-at-reads.Asked,
-  child-at-reads.Learnt,
+  child-reads.Asked,
+  child-reads.Learnt,
   emit-below-below t,
   emit-below.Post,
   with-child-reads.Asked,
@@ -378,12 +379,12 @@ emit-below-with-child-requires : (t : ℕ) → emit-below-lts.Need-with-child-re
   part-at-reads.Learnt,
   emit-leaf-reads.Asked,
   emit-leaf-reads.Learnt,
-  count-at-reads.Asked,
-  count-at-reads.Learnt,
+  node-at-reads.Asked,
+  node-at-reads.Learnt,
   empty-reads.Asked,
   empty-reads.Learnt,
-  child-at-reads.Asked,
-  child-at-reads.Learnt,
+  child-reads.Asked,
+  child-reads.Learnt,
   emit-below-below t,
   emit-below.Post,
   with-child-reads.Asked,
@@ -400,12 +401,12 @@ emit-below-add-low : (t : ℕ) → emit-below-lts.Need-add-low (
   part-at-reads.Learnt,
   emit-leaf-reads.Asked,
   emit-leaf-reads.Learnt,
-  count-at-reads.Asked,
-  count-at-reads.Learnt,
+  node-at-reads.Asked,
+  node-at-reads.Learnt,
   empty-reads.Asked,
   empty-reads.Learnt,
-  child-at-reads.Asked,
-  child-at-reads.Learnt,
+  child-reads.Asked,
+  child-reads.Learnt,
   emit-below-below t,
   emit-below.Post,
   with-child-reads.Asked,
@@ -413,7 +414,7 @@ emit-below-add-low : (t : ℕ) → emit-below-lts.Need-add-low (
   put-left-reads.Asked,
   put-left-reads.Learnt,
 ) (emit-below-at t) emit-below.Post emit-below-Inv-loop emit-below-μ-loop
-emit-below-add-low t c = search deep-fits
+emit-below-add-low t c = search (deep-fits, walk-child)
 
 emit-below-add-i : (t : ℕ) → emit-below-lts.Need-add-i (
   copy-below-reads.Asked,
@@ -422,12 +423,12 @@ emit-below-add-i : (t : ℕ) → emit-below-lts.Need-add-i (
   part-at-reads.Learnt,
   emit-leaf-reads.Asked,
   emit-leaf-reads.Learnt,
-  count-at-reads.Asked,
-  count-at-reads.Learnt,
+  node-at-reads.Asked,
+  node-at-reads.Learnt,
   empty-reads.Asked,
   empty-reads.Learnt,
-  child-at-reads.Asked,
-  child-at-reads.Learnt,
+  child-reads.Asked,
+  child-reads.Learnt,
   emit-below-below t,
   emit-below.Post,
   with-child-reads.Asked,
@@ -444,12 +445,12 @@ emit-below-loop-less : (t : ℕ) → emit-below-lts.Need-loop-less (
   part-at-reads.Learnt,
   emit-leaf-reads.Asked,
   emit-leaf-reads.Learnt,
-  count-at-reads.Asked,
-  count-at-reads.Learnt,
+  node-at-reads.Asked,
+  node-at-reads.Learnt,
   empty-reads.Asked,
   empty-reads.Learnt,
-  child-at-reads.Asked,
-  child-at-reads.Learnt,
+  child-reads.Asked,
+  child-reads.Learnt,
   emit-below-below t,
   emit-below.Post,
   with-child-reads.Asked,
@@ -466,12 +467,12 @@ emit-below-loop-again : (t : ℕ) → emit-below-lts.Need-loop-again (
   part-at-reads.Learnt,
   emit-leaf-reads.Asked,
   emit-leaf-reads.Learnt,
-  count-at-reads.Asked,
-  count-at-reads.Learnt,
+  node-at-reads.Asked,
+  node-at-reads.Learnt,
   empty-reads.Asked,
   empty-reads.Learnt,
-  child-at-reads.Asked,
-  child-at-reads.Learnt,
+  child-reads.Asked,
+  child-reads.Learnt,
   emit-below-below t,
   emit-below.Post,
   with-child-reads.Asked,
@@ -479,7 +480,7 @@ emit-below-loop-again : (t : ℕ) → emit-below-lts.Need-loop-again (
   put-left-reads.Asked,
   put-left-reads.Learnt,
 ) (emit-below-at t) emit-below.Post emit-below-Inv-loop emit-below-μ-loop
-emit-below-loop-again t c = ⊎-elim (λ x. search emit-one) (λ x. search emit-nothing) (c .if3 .came)
+emit-below-loop-again t c = ⊎-elim (λ x. search (emit-one, walk-child)) (λ x. search (emit-nothing, walk-child)) (c .if3 .came)
 
 emit-below-same-length-3 : (t : ℕ) → emit-below-lts.Need-same-length-3 (
   copy-below-reads.Asked,
@@ -488,12 +489,12 @@ emit-below-same-length-3 : (t : ℕ) → emit-below-lts.Need-same-length-3 (
   part-at-reads.Learnt,
   emit-leaf-reads.Asked,
   emit-leaf-reads.Learnt,
-  count-at-reads.Asked,
-  count-at-reads.Learnt,
+  node-at-reads.Asked,
+  node-at-reads.Learnt,
   empty-reads.Asked,
   empty-reads.Learnt,
-  child-at-reads.Asked,
-  child-at-reads.Learnt,
+  child-reads.Asked,
+  child-reads.Learnt,
   emit-below-below t,
   emit-below.Post,
   with-child-reads.Asked,
@@ -510,12 +511,12 @@ emit-below-returns-3 : (t : ℕ) → emit-below-lts.Need-returns-3 (
   part-at-reads.Learnt,
   emit-leaf-reads.Asked,
   emit-leaf-reads.Learnt,
-  count-at-reads.Asked,
-  count-at-reads.Learnt,
+  node-at-reads.Asked,
+  node-at-reads.Learnt,
   empty-reads.Asked,
   empty-reads.Learnt,
-  child-at-reads.Asked,
-  child-at-reads.Learnt,
+  child-reads.Asked,
+  child-reads.Learnt,
   emit-below-below t,
   emit-below.Post,
   with-child-reads.Asked,
@@ -532,12 +533,12 @@ emit-below-part-at-requires-2 : (t : ℕ) → emit-below-lts.Need-part-at-requir
   part-at-reads.Learnt,
   emit-leaf-reads.Asked,
   emit-leaf-reads.Learnt,
-  count-at-reads.Asked,
-  count-at-reads.Learnt,
+  node-at-reads.Asked,
+  node-at-reads.Learnt,
   empty-reads.Asked,
   empty-reads.Learnt,
-  child-at-reads.Asked,
-  child-at-reads.Learnt,
+  child-reads.Asked,
+  child-reads.Learnt,
   emit-below-below t,
   emit-below.Post,
   with-child-reads.Asked,
@@ -554,12 +555,12 @@ emit-below-put-left-requires : (t : ℕ) → emit-below-lts.Need-put-left-requir
   part-at-reads.Learnt,
   emit-leaf-reads.Asked,
   emit-leaf-reads.Learnt,
-  count-at-reads.Asked,
-  count-at-reads.Learnt,
+  node-at-reads.Asked,
+  node-at-reads.Learnt,
   empty-reads.Asked,
   empty-reads.Learnt,
-  child-at-reads.Asked,
-  child-at-reads.Learnt,
+  child-reads.Asked,
+  child-reads.Learnt,
   emit-below-below t,
   emit-below.Post,
   with-child-reads.Asked,
@@ -576,12 +577,12 @@ emit-below-add-result : (t : ℕ) → emit-below-lts.Need-add-result (
   part-at-reads.Learnt,
   emit-leaf-reads.Asked,
   emit-leaf-reads.Learnt,
-  count-at-reads.Asked,
-  count-at-reads.Learnt,
+  node-at-reads.Asked,
+  node-at-reads.Learnt,
   empty-reads.Asked,
   empty-reads.Learnt,
-  child-at-reads.Asked,
-  child-at-reads.Learnt,
+  child-reads.Asked,
+  child-reads.Learnt,
   emit-below-below t,
   emit-below.Post,
   with-child-reads.Asked,
@@ -598,12 +599,12 @@ emit-below-same-length-4 : (t : ℕ) → emit-below-lts.Need-same-length-4 (
   part-at-reads.Learnt,
   emit-leaf-reads.Asked,
   emit-leaf-reads.Learnt,
-  count-at-reads.Asked,
-  count-at-reads.Learnt,
+  node-at-reads.Asked,
+  node-at-reads.Learnt,
   empty-reads.Asked,
   empty-reads.Learnt,
-  child-at-reads.Asked,
-  child-at-reads.Learnt,
+  child-reads.Asked,
+  child-reads.Learnt,
   emit-below-below t,
   emit-below.Post,
   with-child-reads.Asked,
@@ -620,12 +621,12 @@ emit-below-returns-4 : (t : ℕ) → emit-below-lts.Need-returns-4 (
   part-at-reads.Learnt,
   emit-leaf-reads.Asked,
   emit-leaf-reads.Learnt,
-  count-at-reads.Asked,
-  count-at-reads.Learnt,
+  node-at-reads.Asked,
+  node-at-reads.Learnt,
   empty-reads.Asked,
   empty-reads.Learnt,
-  child-at-reads.Asked,
-  child-at-reads.Learnt,
+  child-reads.Asked,
+  child-reads.Learnt,
   emit-below-below t,
   emit-below.Post,
   with-child-reads.Asked,
@@ -643,12 +644,12 @@ pub +emit-below-spec : {M : Type 1} → statement M
   part-at-reads.Learnt,
   emit-leaf-reads.Asked,
   emit-leaf-reads.Learnt,
-  count-at-reads.Asked,
-  count-at-reads.Learnt,
+  node-at-reads.Asked,
+  node-at-reads.Learnt,
   empty-reads.Asked,
   empty-reads.Learnt,
-  child-at-reads.Asked,
-  child-at-reads.Learnt,
+  child-reads.Asked,
+  child-reads.Learnt,
   emit-below-below t,
   emit-below.Post,
   with-child-reads.Asked,
@@ -667,11 +668,11 @@ pub +emit-below-spec : {M : Type 1} → statement M
     (emit-below-emit-leaf-requires t)
     (emit-below-same-length-2 t)
     (emit-below-returns-2 t)
-    (emit-below-count-at-requires t)
+    (emit-below-node-at-requires t)
     (emit-below-cast-n t)
     (emit-below-empty-requires t)
     (emit-below-loop-holds t)
-    (emit-below-child-at-requires t)
+    (emit-below-child-requires t)
     (emit-below-sub-emit-below t)
     (emit-below-emit-below-requires t)
     (emit-below-sub-with-child t)

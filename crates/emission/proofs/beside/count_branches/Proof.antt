@@ -2,23 +2,27 @@
 use borrow.Author.Needs.{needs}
 use Prim.Native.Nat.{_-_}
 use Rattle.emission.proofs.PathCount.{RangeLoop, range-start, range-end, range-walk, range-again, count-few}
+use Rattle.emission.proofs.RowLaws.{range-nine, range-child}
 use Rattle.emission.proofs.beside.count_branches.Statement.{statement}
 use Rattle.emission.proofs.beside.count_branches.Tie as tie
 
 abbrev Inv-loop : tie.InvT-loop
-Inv-loop m level k from to sides start nodes₀ i₀ nodes i = RangeLoop level m k from to sides nodes₀ i nodes
+Inv-loop m level k from to sides start node nodes₀ i₀ nodes i = RangeLoop level m k from to sides nodes₀ i nodes
 
 abbrev μ-loop : tie.MeasureT-loop
-μ-loop m level k from to sides start nodes₀ i₀ nodes i = to - i
+μ-loop m level k from to sides start node nodes₀ i₀ nodes i = to - i
+
+node-at-requires : tie.Need-node-at-requires Inv-loop μ-loop
+node-at-requires c κs = search needs
 
 loop-holds : tie.Need-loop-holds Inv-loop μ-loop
 loop-holds c = search range-start
 
-child-at-requires : tie.Need-child-at-requires Inv-loop μ-loop
-child-at-requires c κs = search needs
+child-requires : tie.Need-child-requires Inv-loop μ-loop
+child-requires c κs = search range-nine
 
 count-below-requires : tie.Need-count-below-requires Inv-loop μ-loop
-count-below-requires c κs = search range-walk
+count-below-requires c κs = search (range-walk, range-child)
 
 capped-sum-requires : tie.Need-capped-sum-requires Inv-loop μ-loop
 capped-sum-requires c κs = (search needs, search count-few)
@@ -30,7 +34,7 @@ loop-less : tie.Need-loop-less Inv-loop μ-loop
 loop-less c = search needs
 
 loop-again : tie.Need-loop-again Inv-loop μ-loop
-loop-again c = search range-again
+loop-again c = search (range-again, range-child)
 
 returns : tie.Need-returns Inv-loop μ-loop
 returns c = search range-end
@@ -41,8 +45,9 @@ count-branches-spec =
     (tie.spec
     Inv-loop
     μ-loop
+    node-at-requires
     loop-holds
-    child-at-requires
+    child-requires
     count-below-requires
     capped-sum-requires
     add-i

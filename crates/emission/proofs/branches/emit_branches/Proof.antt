@@ -1,24 +1,27 @@
 -- `branches::emit_branches` meets its contract; its loop is in RowLaws.
 use borrow.Author.Needs.{needs}
 use Prim.Native.Nat.{_-_}
-use Rattle.emission.proofs.RowLaws.{BranchLoop, emits-on, branch-start, branch-walk, branch-room, branch-again, branch-end}
+use Rattle.emission.proofs.RowLaws.{BranchLoop, emits-on, range-nine, range-child, branch-start, branch-walk, branch-room, branch-again, branch-end}
 use Rattle.emission.proofs.branches.emit_branches.Statement.{statement}
 use Rattle.emission.proofs.branches.emit_branches.Tie as tie
 
 abbrev Inv-loop : tie.InvT-loop
-Inv-loop m level k from to sides work₀ out₀ i₀ work out i = BranchLoop level m k from to sides work₀ out₀ i work out
+Inv-loop m level k from to sides work₀ node out₀ i₀ work out i = BranchLoop level m k from to sides work₀ out₀ i work out
 
 abbrev μ-loop : tie.MeasureT-loop
-μ-loop m level k from to sides work₀ out₀ i₀ work out i = to - i
+μ-loop m level k from to sides work₀ node out₀ i₀ work out i = to - i
+
+node-at-requires : tie.Need-node-at-requires Inv-loop μ-loop
+node-at-requires c κs = search needs
 
 loop-holds : tie.Need-loop-holds Inv-loop μ-loop
 loop-holds c = search branch-start
 
-child-at-requires : tie.Need-child-at-requires Inv-loop μ-loop
-child-at-requires c κs = search needs
+child-requires : tie.Need-child-requires Inv-loop μ-loop
+child-requires c κs = search range-nine
 
 emit-below-requires : tie.Need-emit-below-requires Inv-loop μ-loop
-emit-below-requires c κs = (search branch-walk, search branch-room)
+emit-below-requires c κs = (search (branch-walk, range-child), search (branch-room, range-child))
 
 with-top-requires : tie.Need-with-top-requires Inv-loop μ-loop
 with-top-requires c κs = (search emits-on, search needs)
@@ -30,7 +33,7 @@ loop-less : tie.Need-loop-less Inv-loop μ-loop
 loop-less c = search needs
 
 loop-again : tie.Need-loop-again Inv-loop μ-loop
-loop-again c = search branch-again
+loop-again c = search (branch-again, range-child)
 
 same-length : tie.Need-same-length Inv-loop μ-loop
 same-length c = search needs
@@ -44,8 +47,9 @@ emit-branches-spec =
     (tie.spec
     Inv-loop
     μ-loop
+    node-at-requires
     loop-holds
-    child-at-requires
+    child-requires
     emit-below-requires
     with-top-requires
     add-i

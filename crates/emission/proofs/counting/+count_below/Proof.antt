@@ -3,21 +3,22 @@ use native.Mathlib.Omega.{arith}
 use borrow.Author.Needs.{needs}
 use mathlib.Core.Logic.{⊎-elim}
 use Prim.Native.Nat.{ℕ, _<_, _-_}
-use borrow.Fn.Kinds.{In}
-use borrow.Fn.PlainCycle.{Measures, is, falls, and}
 use Rattle.index.proofs.WalkRows.{node-part}
 use Rattle.emission.proofs.DeepRows.{deep-fits}
 use Rattle.emission.proofs.CountLoop.{CountLoop, count-leaf, count-start, count-child, child-few, count-again, count-dropped, count-top, count-whole}
+use Rattle.index.proofs.WalkNode.{walk-count, walk-nine, walk-child}
+use borrow.Fn.Kinds.{In}
+use borrow.Fn.PlainCycle.{Measures, is, falls, and}
 use Rattle.emission.proofs.counting.count_below.Reads as count-below
 use Rattle.emission.proofs.counting.count_below.Kinds as count-below-kinds
 use Rattle.emission.proofs.counting.+count_below.Lts-count_below as count-below-lts
 use Rattle.emission.proofs.capped.capped_sum.Reads as capped-sum-reads
 use Rattle.emission.proofs.counting.count_leaf.Reads as count-leaf-reads
+use Rattle.layout.proofs.node.Node.child.Reads as child-reads
+use Rattle.layout.proofs.node_at.Reads as node-at-reads
+use Rattle.layout.proofs.part_at.Reads as part-at-reads
 use Rattle.emission.proofs.counting.+count_below.{statement}
 use Rattle.emission.proofs.counting.+count_below.Tie.{close}
-use Rattle.layout.proofs.child_at.Reads as child-at-reads
-use Rattle.layout.proofs.count_at.Reads as count-at-reads
-use Rattle.layout.proofs.part_at.Reads as part-at-reads
 
 abbrev μ-count-below : Measures 2 count-below-kinds.ps ℕ
 μ-count-below κs a = a .1 .0
@@ -31,20 +32,20 @@ count-below-below t =
     and 2 count-below-kinds.ps (falls 2 count-below-kinds.ps _<_ μ-count-below t) count-below.Pre
 
 abbrev count-below-Inv-loop : count-below-lts.InvT-loop
-count-below-Inv-loop m level lo k sides n nodes₀ low₀ i₀ nodes low i = CountLoop level m lo k sides n i low nodes
+count-below-Inv-loop m level lo k sides node n nodes₀ low₀ i₀ nodes low i = CountLoop level m lo k sides n i low nodes
 
 abbrev count-below-μ-loop : count-below-lts.MeasureT-loop
-count-below-μ-loop m level lo k sides n nodes₀ low₀ i₀ nodes low i = n - i
+count-below-μ-loop m level lo k sides node n nodes₀ low₀ i₀ nodes low i = n - i
 
 count-below-part-at-requires : (t : ℕ) → count-below-lts.Need-part-at-requires (
   part-at-reads.Asked,
   part-at-reads.Learnt,
   count-leaf-reads.Asked,
   count-leaf-reads.Learnt,
-  count-at-reads.Asked,
-  count-at-reads.Learnt,
-  child-at-reads.Asked,
-  child-at-reads.Learnt,
+  node-at-reads.Asked,
+  node-at-reads.Learnt,
+  child-reads.Asked,
+  child-reads.Learnt,
   count-below-below t,
   count-below.Post,
   capped-sum-reads.Asked,
@@ -57,10 +58,10 @@ count-below-count-leaf-requires : (t : ℕ) → count-below-lts.Need-count-leaf-
   part-at-reads.Learnt,
   count-leaf-reads.Asked,
   count-leaf-reads.Learnt,
-  count-at-reads.Asked,
-  count-at-reads.Learnt,
-  child-at-reads.Asked,
-  child-at-reads.Learnt,
+  node-at-reads.Asked,
+  node-at-reads.Learnt,
+  child-reads.Asked,
+  child-reads.Learnt,
   count-below-below t,
   count-below.Post,
   capped-sum-reads.Asked,
@@ -73,10 +74,10 @@ count-below-returns : (t : ℕ) → count-below-lts.Need-returns (
   part-at-reads.Learnt,
   count-leaf-reads.Asked,
   count-leaf-reads.Learnt,
-  count-at-reads.Asked,
-  count-at-reads.Learnt,
-  child-at-reads.Asked,
-  child-at-reads.Learnt,
+  node-at-reads.Asked,
+  node-at-reads.Learnt,
+  child-reads.Asked,
+  child-reads.Learnt,
   count-below-below t,
   count-below.Post,
   capped-sum-reads.Asked,
@@ -84,31 +85,31 @@ count-below-returns : (t : ℕ) → count-below-lts.Need-returns (
 ) (count-below-at t) count-below.Post count-below-Inv-loop count-below-μ-loop
 count-below-returns t c = search count-leaf
 
-count-below-count-at-requires : (t : ℕ) → count-below-lts.Need-count-at-requires (
+count-below-node-at-requires : (t : ℕ) → count-below-lts.Need-node-at-requires (
   part-at-reads.Asked,
   part-at-reads.Learnt,
   count-leaf-reads.Asked,
   count-leaf-reads.Learnt,
-  count-at-reads.Asked,
-  count-at-reads.Learnt,
-  child-at-reads.Asked,
-  child-at-reads.Learnt,
+  node-at-reads.Asked,
+  node-at-reads.Learnt,
+  child-reads.Asked,
+  child-reads.Learnt,
   count-below-below t,
   count-below.Post,
   capped-sum-reads.Asked,
   capped-sum-reads.Learnt,
 ) (count-below-at t) count-below.Post count-below-Inv-loop count-below-μ-loop
-count-below-count-at-requires t c κs = search needs
+count-below-node-at-requires t c κs = search needs
 
 count-below-cast-n : (t : ℕ) → count-below-lts.Need-cast-n (
   part-at-reads.Asked,
   part-at-reads.Learnt,
   count-leaf-reads.Asked,
   count-leaf-reads.Learnt,
-  count-at-reads.Asked,
-  count-at-reads.Learnt,
-  child-at-reads.Asked,
-  child-at-reads.Learnt,
+  node-at-reads.Asked,
+  node-at-reads.Learnt,
+  child-reads.Asked,
+  child-reads.Learnt,
   count-below-below t,
   count-below.Post,
   capped-sum-reads.Asked,
@@ -121,42 +122,42 @@ count-below-loop-holds : (t : ℕ) → count-below-lts.Need-loop-holds (
   part-at-reads.Learnt,
   count-leaf-reads.Asked,
   count-leaf-reads.Learnt,
-  count-at-reads.Asked,
-  count-at-reads.Learnt,
-  child-at-reads.Asked,
-  child-at-reads.Learnt,
+  node-at-reads.Asked,
+  node-at-reads.Learnt,
+  child-reads.Asked,
+  child-reads.Learnt,
   count-below-below t,
   count-below.Post,
   capped-sum-reads.Asked,
   capped-sum-reads.Learnt,
 ) (count-below-at t) count-below.Post count-below-Inv-loop count-below-μ-loop
-count-below-loop-holds t c = search count-start
+count-below-loop-holds t c = search (count-start, walk-count)
 
-count-below-child-at-requires : (t : ℕ) → count-below-lts.Need-child-at-requires (
+count-below-child-requires : (t : ℕ) → count-below-lts.Need-child-requires (
   part-at-reads.Asked,
   part-at-reads.Learnt,
   count-leaf-reads.Asked,
   count-leaf-reads.Learnt,
-  count-at-reads.Asked,
-  count-at-reads.Learnt,
-  child-at-reads.Asked,
-  child-at-reads.Learnt,
+  node-at-reads.Asked,
+  node-at-reads.Learnt,
+  child-reads.Asked,
+  child-reads.Learnt,
   count-below-below t,
   count-below.Post,
   capped-sum-reads.Asked,
   capped-sum-reads.Learnt,
 ) (count-below-at t) count-below.Post count-below-Inv-loop count-below-μ-loop
-count-below-child-at-requires t c κs = search needs
+count-below-child-requires t c κs = search walk-nine
 
 count-below-sub-count-below : (t : ℕ) → count-below-lts.Need-sub-count-below (
   part-at-reads.Asked,
   part-at-reads.Learnt,
   count-leaf-reads.Asked,
   count-leaf-reads.Learnt,
-  count-at-reads.Asked,
-  count-at-reads.Learnt,
-  child-at-reads.Asked,
-  child-at-reads.Learnt,
+  node-at-reads.Asked,
+  node-at-reads.Learnt,
+  child-reads.Asked,
+  child-reads.Learnt,
   count-below-below t,
   count-below.Post,
   capped-sum-reads.Asked,
@@ -169,26 +170,26 @@ count-below-count-below-requires : (t : ℕ) → count-below-lts.Need-count-belo
   part-at-reads.Learnt,
   count-leaf-reads.Asked,
   count-leaf-reads.Learnt,
-  count-at-reads.Asked,
-  count-at-reads.Learnt,
-  child-at-reads.Asked,
-  child-at-reads.Learnt,
+  node-at-reads.Asked,
+  node-at-reads.Learnt,
+  child-reads.Asked,
+  child-reads.Learnt,
   count-below-below t,
   count-below.Post,
   capped-sum-reads.Asked,
   capped-sum-reads.Learnt,
 ) (count-below-at t) count-below.Post count-below-Inv-loop count-below-μ-loop
-count-below-count-below-requires t c κs = (omega arith, search count-child)
+count-below-count-below-requires t c κs = (omega arith, search (count-child, walk-child))
 
 count-below-capped-sum-requires : (t : ℕ) → count-below-lts.Need-capped-sum-requires (
   part-at-reads.Asked,
   part-at-reads.Learnt,
   count-leaf-reads.Asked,
   count-leaf-reads.Learnt,
-  count-at-reads.Asked,
-  count-at-reads.Learnt,
-  child-at-reads.Asked,
-  child-at-reads.Learnt,
+  node-at-reads.Asked,
+  node-at-reads.Learnt,
+  child-reads.Asked,
+  child-reads.Learnt,
   count-below-below t,
   count-below.Post,
   capped-sum-reads.Asked,
@@ -201,26 +202,26 @@ count-below-add-low : (t : ℕ) → count-below-lts.Need-add-low (
   part-at-reads.Learnt,
   count-leaf-reads.Asked,
   count-leaf-reads.Learnt,
-  count-at-reads.Asked,
-  count-at-reads.Learnt,
-  child-at-reads.Asked,
-  child-at-reads.Learnt,
+  node-at-reads.Asked,
+  node-at-reads.Learnt,
+  child-reads.Asked,
+  child-reads.Learnt,
   count-below-below t,
   count-below.Post,
   capped-sum-reads.Asked,
   capped-sum-reads.Learnt,
 ) (count-below-at t) count-below.Post count-below-Inv-loop count-below-μ-loop
-count-below-add-low t c = search deep-fits
+count-below-add-low t c = search (deep-fits, walk-child)
 
 count-below-add-i : (t : ℕ) → count-below-lts.Need-add-i (
   part-at-reads.Asked,
   part-at-reads.Learnt,
   count-leaf-reads.Asked,
   count-leaf-reads.Learnt,
-  count-at-reads.Asked,
-  count-at-reads.Learnt,
-  child-at-reads.Asked,
-  child-at-reads.Learnt,
+  node-at-reads.Asked,
+  node-at-reads.Learnt,
+  child-reads.Asked,
+  child-reads.Learnt,
   count-below-below t,
   count-below.Post,
   capped-sum-reads.Asked,
@@ -233,10 +234,10 @@ count-below-loop-less : (t : ℕ) → count-below-lts.Need-loop-less (
   part-at-reads.Learnt,
   count-leaf-reads.Asked,
   count-leaf-reads.Learnt,
-  count-at-reads.Asked,
-  count-at-reads.Learnt,
-  child-at-reads.Asked,
-  child-at-reads.Learnt,
+  node-at-reads.Asked,
+  node-at-reads.Learnt,
+  child-reads.Asked,
+  child-reads.Learnt,
   count-below-below t,
   count-below.Post,
   capped-sum-reads.Asked,
@@ -249,26 +250,26 @@ count-below-loop-again : (t : ℕ) → count-below-lts.Need-loop-again (
   part-at-reads.Learnt,
   count-leaf-reads.Asked,
   count-leaf-reads.Learnt,
-  count-at-reads.Asked,
-  count-at-reads.Learnt,
-  child-at-reads.Asked,
-  child-at-reads.Learnt,
+  node-at-reads.Asked,
+  node-at-reads.Learnt,
+  child-reads.Asked,
+  child-reads.Learnt,
   count-below-below t,
   count-below.Post,
   capped-sum-reads.Asked,
   capped-sum-reads.Learnt,
 ) (count-below-at t) count-below.Post count-below-Inv-loop count-below-μ-loop
-count-below-loop-again t c = search count-again
+count-below-loop-again t c = search (count-again, walk-child)
 
 count-below-returns-2 : (t : ℕ) → count-below-lts.Need-returns-2 (
   part-at-reads.Asked,
   part-at-reads.Learnt,
   count-leaf-reads.Asked,
   count-leaf-reads.Learnt,
-  count-at-reads.Asked,
-  count-at-reads.Learnt,
-  child-at-reads.Asked,
-  child-at-reads.Learnt,
+  node-at-reads.Asked,
+  node-at-reads.Learnt,
+  child-reads.Asked,
+  child-reads.Learnt,
   count-below-below t,
   count-below.Post,
   capped-sum-reads.Asked,
@@ -281,10 +282,10 @@ count-below-capped-sum-requires-2 : (t : ℕ) → count-below-lts.Need-capped-su
   part-at-reads.Learnt,
   count-leaf-reads.Asked,
   count-leaf-reads.Learnt,
-  count-at-reads.Asked,
-  count-at-reads.Learnt,
-  child-at-reads.Asked,
-  child-at-reads.Learnt,
+  node-at-reads.Asked,
+  node-at-reads.Learnt,
+  child-reads.Asked,
+  child-reads.Learnt,
   count-below-below t,
   count-below.Post,
   capped-sum-reads.Asked,
@@ -297,10 +298,10 @@ count-below-returns-3 : (t : ℕ) → count-below-lts.Need-returns-3 (
   part-at-reads.Learnt,
   count-leaf-reads.Asked,
   count-leaf-reads.Learnt,
-  count-at-reads.Asked,
-  count-at-reads.Learnt,
-  child-at-reads.Asked,
-  child-at-reads.Learnt,
+  node-at-reads.Asked,
+  node-at-reads.Learnt,
+  child-reads.Asked,
+  child-reads.Learnt,
   count-below-below t,
   count-below.Post,
   capped-sum-reads.Asked,
@@ -314,10 +315,10 @@ pub +count-below-spec : {M : Type 1} → statement M
   part-at-reads.Learnt,
   count-leaf-reads.Asked,
   count-leaf-reads.Learnt,
-  count-at-reads.Asked,
-  count-at-reads.Learnt,
-  child-at-reads.Asked,
-  child-at-reads.Learnt,
+  node-at-reads.Asked,
+  node-at-reads.Learnt,
+  child-reads.Asked,
+  child-reads.Learnt,
   count-below-below t,
   count-below.Post,
   capped-sum-reads.Asked,
@@ -330,10 +331,10 @@ pub +count-below-spec : {M : Type 1} → statement M
     (count-below-part-at-requires t)
     (count-below-count-leaf-requires t)
     (count-below-returns t)
-    (count-below-count-at-requires t)
+    (count-below-node-at-requires t)
     (count-below-cast-n t)
     (count-below-loop-holds t)
-    (count-below-child-at-requires t)
+    (count-below-child-requires t)
     (count-below-sub-count-below t)
     (count-below-count-below-requires t)
     (count-below-capped-sum-requires t)

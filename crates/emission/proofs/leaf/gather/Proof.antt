@@ -2,18 +2,18 @@
 use borrow.Author.Needs.{needs}
 use Prim.Native.Nat.{_-_}
 use mathlib.Core.Logic.{⊎-elim}
-use Rattle.emission.proofs.LeafLoop.{GatherLoop, gather-start, gather-hit, gather-miss, gather-end, gather-few}
+use Rattle.emission.proofs.LeafLoop.{GatherLoop, gather-start, gather-small, gather-nine, gather-hit, gather-miss, gather-end, gather-few}
 use Rattle.emission.proofs.leaf.gather.Statement.{statement}
 use Rattle.emission.proofs.leaf.gather.Tie as tie
 
 abbrev Inv-loop : tie.InvT-loop
-Inv-loop p sides n left₀ i₀ left i = GatherLoop sides p n i left
+Inv-loop p sides leaf n left₀ i₀ left i = GatherLoop sides p n i left
 
 abbrev μ-loop : tie.MeasureT-loop
-μ-loop p sides n left₀ i₀ left i = n - i
+μ-loop p sides leaf n left₀ i₀ left i = n - i
 
-item-count-requires : tie.Need-item-count-requires Inv-loop μ-loop
-item-count-requires c κs = search needs
+load-requires : tie.Need-load-requires Inv-loop μ-loop
+load-requires c κs = search needs
 
 cast-n : tie.Need-cast-n Inv-loop μ-loop
 cast-n c = search needs
@@ -25,13 +25,13 @@ loop-holds : tie.Need-loop-holds Inv-loop μ-loop
 loop-holds c = search gather-start
 
 is-left-requires : tie.Need-is-left-requires Inv-loop μ-loop
-is-left-requires c κs = search needs
+is-left-requires c κs = search gather-small
 
-entry-cell-requires : tie.Need-entry-cell-requires Inv-loop μ-loop
-entry-cell-requires c κs = search needs
+cell-requires : tie.Need-cell-requires Inv-loop μ-loop
+cell-requires c κs = search gather-nine
 
-entry-tag-requires : tie.Need-entry-tag-requires Inv-loop μ-loop
-entry-tag-requires c κs = search needs
+tag-requires : tie.Need-tag-requires Inv-loop μ-loop
+tag-requires c κs = search gather-nine
 
 with-entry-requires : tie.Need-with-entry-requires Inv-loop μ-loop
 with-entry-requires c κs = search needs
@@ -54,13 +54,13 @@ gather-spec =
     (tie.spec
     Inv-loop
     μ-loop
-    item-count-requires
+    load-requires
     cast-n
     empty-requires
     loop-holds
     is-left-requires
-    entry-cell-requires
-    entry-tag-requires
+    cell-requires
+    tag-requires
     with-entry-requires
     add-i
     loop-less

@@ -1,5 +1,5 @@
 -- `whole::emit_split` meets its contract; its steps are in TreeLaws.
-use mathlib.Core.Path.{refl, sym}
+use mathlib.Core.Path.{refl}
 use native.Mathlib.Omega.{arith}
 use Rattle.emission.proofs.RowLaws.{emits-on}
 use Rattle.emission.proofs.TreeLaws.{none-next, none-few, root-left-room, root-left, root-right-room, root-right, root-top-room, root-done}

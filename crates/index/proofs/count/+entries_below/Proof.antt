@@ -4,13 +4,14 @@ use native.Mathlib.Omega.{arith}
 use borrow.Author.Needs.{needs}
 use Rattle.index.proofs.WalkLoop.{child-walkable, child-fits}
 use Rattle.index.proofs.CountWalk.{CountHeld, held-leaf, held-start, held-next, held-fits, held-end}
+use Rattle.index.proofs.WalkNode.{walk-count, walk-nine, walk-child}
 use borrow.Fn.Kinds.{In}
 use borrow.Fn.PlainCycle.{Measures, is, falls, and}
 use Rattle.index.proofs.count.entries_below.Reads as entries-below
 use Rattle.index.proofs.count.entries_below.Kinds as entries-below-kinds
 use Rattle.index.proofs.count.+entries_below.Lts-entries_below as entries-below-lts
-use Rattle.layout.proofs.child_at.Reads as child-at-reads
-use Rattle.layout.proofs.count_at.Reads as count-at-reads
+use Rattle.layout.proofs.node.Node.child.Reads as child-reads
+use Rattle.layout.proofs.node_at.Reads as node-at-reads
 use Rattle.index.proofs.count.+entries_below.{statement}
 use Rattle.index.proofs.count.+entries_below.Tie.{close}
 
@@ -30,136 +31,136 @@ entries-below-below t =
     entries-below.Pre
 
 abbrev entries-below-Inv-loop : entries-below-lts.InvT-loop
-entries-below-Inv-loop m level lo k items n sum₀ low₀ i₀ sum low i = CountHeld level m lo k n i low sum
+entries-below-Inv-loop m level lo k node n sum₀ low₀ i₀ sum low i = CountHeld level m lo k n i low sum
 
 abbrev entries-below-μ-loop : entries-below-lts.MeasureT-loop
-entries-below-μ-loop m level lo k items n sum₀ low₀ i₀ sum low i = n - i
+entries-below-μ-loop m level lo k node n sum₀ low₀ i₀ sum low i = n - i
 
-entries-below-count-at-requires : (t : ℕ) → entries-below-lts.Need-count-at-requires (
-  count-at-reads.Asked,
-  count-at-reads.Learnt,
-  child-at-reads.Asked,
-  child-at-reads.Learnt,
+entries-below-node-at-requires : (t : ℕ) → entries-below-lts.Need-node-at-requires (
+  node-at-reads.Asked,
+  node-at-reads.Learnt,
+  child-reads.Asked,
+  child-reads.Learnt,
   entries-below-below t,
   entries-below.Post,
 ) (entries-below-at t) entries-below.Post entries-below-Inv-loop entries-below-μ-loop
-entries-below-count-at-requires t c κs = search needs
+entries-below-node-at-requires t c κs = search needs
 
 entries-below-returns : (t : ℕ) → entries-below-lts.Need-returns (
-  count-at-reads.Asked,
-  count-at-reads.Learnt,
-  child-at-reads.Asked,
-  child-at-reads.Learnt,
+  node-at-reads.Asked,
+  node-at-reads.Learnt,
+  child-reads.Asked,
+  child-reads.Learnt,
   entries-below-below t,
   entries-below.Post,
 ) (entries-below-at t) entries-below.Post entries-below-Inv-loop entries-below-μ-loop
-entries-below-returns t c = search held-leaf
+entries-below-returns t c = search (held-leaf, walk-count)
 
 entries-below-cast-n : (t : ℕ) → entries-below-lts.Need-cast-n (
-  count-at-reads.Asked,
-  count-at-reads.Learnt,
-  child-at-reads.Asked,
-  child-at-reads.Learnt,
+  node-at-reads.Asked,
+  node-at-reads.Learnt,
+  child-reads.Asked,
+  child-reads.Learnt,
   entries-below-below t,
   entries-below.Post,
 ) (entries-below-at t) entries-below.Post entries-below-Inv-loop entries-below-μ-loop
 entries-below-cast-n t c = search needs
 
 entries-below-loop-holds : (t : ℕ) → entries-below-lts.Need-loop-holds (
-  count-at-reads.Asked,
-  count-at-reads.Learnt,
-  child-at-reads.Asked,
-  child-at-reads.Learnt,
+  node-at-reads.Asked,
+  node-at-reads.Learnt,
+  child-reads.Asked,
+  child-reads.Learnt,
   entries-below-below t,
   entries-below.Post,
 ) (entries-below-at t) entries-below.Post entries-below-Inv-loop entries-below-μ-loop
-entries-below-loop-holds t c = search held-start
+entries-below-loop-holds t c = search (held-start, walk-count)
 
-entries-below-child-at-requires : (t : ℕ) → entries-below-lts.Need-child-at-requires (
-  count-at-reads.Asked,
-  count-at-reads.Learnt,
-  child-at-reads.Asked,
-  child-at-reads.Learnt,
+entries-below-child-requires : (t : ℕ) → entries-below-lts.Need-child-requires (
+  node-at-reads.Asked,
+  node-at-reads.Learnt,
+  child-reads.Asked,
+  child-reads.Learnt,
   entries-below-below t,
   entries-below.Post,
 ) (entries-below-at t) entries-below.Post entries-below-Inv-loop entries-below-μ-loop
-entries-below-child-at-requires t c κs = search needs
+entries-below-child-requires t c κs = search walk-nine
 
 entries-below-sub-entries-below : (t : ℕ) → entries-below-lts.Need-sub-entries-below (
-  count-at-reads.Asked,
-  count-at-reads.Learnt,
-  child-at-reads.Asked,
-  child-at-reads.Learnt,
+  node-at-reads.Asked,
+  node-at-reads.Learnt,
+  child-reads.Asked,
+  child-reads.Learnt,
   entries-below-below t,
   entries-below.Post,
 ) (entries-below-at t) entries-below.Post entries-below-Inv-loop entries-below-μ-loop
 entries-below-sub-entries-below t c = search needs
 
 entries-below-entries-below-requires : (t : ℕ) → entries-below-lts.Need-entries-below-requires (
-  count-at-reads.Asked,
-  count-at-reads.Learnt,
-  child-at-reads.Asked,
-  child-at-reads.Learnt,
+  node-at-reads.Asked,
+  node-at-reads.Learnt,
+  child-reads.Asked,
+  child-reads.Learnt,
   entries-below-below t,
   entries-below.Post,
 ) (entries-below-at t) entries-below.Post entries-below-Inv-loop entries-below-μ-loop
-entries-below-entries-below-requires t c κs = let l = c .before in (omega arith, child-walkable _ _ _ _ _ _ _ _ _ _ _ (l .before .loop .inv .at) (l .loop-test .taken) _ (c .child-at .ensures))
+entries-below-entries-below-requires t c κs = (omega arith, search (child-walkable, walk-child))
 
 entries-below-add-sum : (t : ℕ) → entries-below-lts.Need-add-sum (
-  count-at-reads.Asked,
-  count-at-reads.Learnt,
-  child-at-reads.Asked,
-  child-at-reads.Learnt,
+  node-at-reads.Asked,
+  node-at-reads.Learnt,
+  child-reads.Asked,
+  child-reads.Learnt,
   entries-below-below t,
   entries-below.Post,
 ) (entries-below-at t) entries-below.Post entries-below-Inv-loop entries-below-μ-loop
-entries-below-add-sum t c = search held-fits
+entries-below-add-sum t c = search (held-fits, walk-child)
 
 entries-below-add-low : (t : ℕ) → entries-below-lts.Need-add-low (
-  count-at-reads.Asked,
-  count-at-reads.Learnt,
-  child-at-reads.Asked,
-  child-at-reads.Learnt,
+  node-at-reads.Asked,
+  node-at-reads.Learnt,
+  child-reads.Asked,
+  child-reads.Learnt,
   entries-below-below t,
   entries-below.Post,
 ) (entries-below-at t) entries-below.Post entries-below-Inv-loop entries-below-μ-loop
-entries-below-add-low t c = search child-fits
+entries-below-add-low t c = search (child-fits, walk-child)
 
 entries-below-add-i : (t : ℕ) → entries-below-lts.Need-add-i (
-  count-at-reads.Asked,
-  count-at-reads.Learnt,
-  child-at-reads.Asked,
-  child-at-reads.Learnt,
+  node-at-reads.Asked,
+  node-at-reads.Learnt,
+  child-reads.Asked,
+  child-reads.Learnt,
   entries-below-below t,
   entries-below.Post,
 ) (entries-below-at t) entries-below.Post entries-below-Inv-loop entries-below-μ-loop
 entries-below-add-i t c = search needs
 
 entries-below-loop-less : (t : ℕ) → entries-below-lts.Need-loop-less (
-  count-at-reads.Asked,
-  count-at-reads.Learnt,
-  child-at-reads.Asked,
-  child-at-reads.Learnt,
+  node-at-reads.Asked,
+  node-at-reads.Learnt,
+  child-reads.Asked,
+  child-reads.Learnt,
   entries-below-below t,
   entries-below.Post,
 ) (entries-below-at t) entries-below.Post entries-below-Inv-loop entries-below-μ-loop
 entries-below-loop-less t c = search needs
 
 entries-below-loop-again : (t : ℕ) → entries-below-lts.Need-loop-again (
-  count-at-reads.Asked,
-  count-at-reads.Learnt,
-  child-at-reads.Asked,
-  child-at-reads.Learnt,
+  node-at-reads.Asked,
+  node-at-reads.Learnt,
+  child-reads.Asked,
+  child-reads.Learnt,
   entries-below-below t,
   entries-below.Post,
 ) (entries-below-at t) entries-below.Post entries-below-Inv-loop entries-below-μ-loop
-entries-below-loop-again t c = search held-next
+entries-below-loop-again t c = search (held-next, walk-child)
 
 entries-below-returns-2 : (t : ℕ) → entries-below-lts.Need-returns-2 (
-  count-at-reads.Asked,
-  count-at-reads.Learnt,
-  child-at-reads.Asked,
-  child-at-reads.Learnt,
+  node-at-reads.Asked,
+  node-at-reads.Learnt,
+  child-reads.Asked,
+  child-reads.Learnt,
   entries-below-below t,
   entries-below.Post,
 ) (entries-below-at t) entries-below.Post entries-below-Inv-loop entries-below-μ-loop
@@ -167,10 +168,10 @@ entries-below-returns-2 t c = search held-end
 
 pub +entries-below-spec : {M : Type 1} → statement M
 +entries-below-spec = close μ-entries-below λ t. entries-below-lts.spec (
-  count-at-reads.Asked,
-  count-at-reads.Learnt,
-  child-at-reads.Asked,
-  child-at-reads.Learnt,
+  node-at-reads.Asked,
+  node-at-reads.Learnt,
+  child-reads.Asked,
+  child-reads.Learnt,
   entries-below-below t,
   entries-below.Post,
 )
@@ -178,11 +179,11 @@ pub +entries-below-spec : {M : Type 1} → statement M
     entries-below.Post
     entries-below-Inv-loop
     entries-below-μ-loop
-    (entries-below-count-at-requires t)
+    (entries-below-node-at-requires t)
     (entries-below-returns t)
     (entries-below-cast-n t)
     (entries-below-loop-holds t)
-    (entries-below-child-at-requires t)
+    (entries-below-child-requires t)
     (entries-below-sub-entries-below t)
     (entries-below-entries-below-requires t)
     (entries-below-add-sum t)

@@ -6,6 +6,7 @@ use borrow.Author.Needs.{needs}
 use Rattle.index.proofs.WalkRows.{node-part}
 use Rattle.index.proofs.WalkLoop.{child-walkable, child-polygon, child-fits}
 use Rattle.index.proofs.PointWalk.{PointLoop, point-leaf, point-start, point-miss, point-hit, point-room, point-end}
+use Rattle.index.proofs.WalkNode.{walk-count, walk-nine, walk-child}
 use borrow.Fn.Kinds.{In}
 use borrow.Fn.PlainCycle.{Measures, is, falls, and}
 use Rattle.index.proofs.point_query.point_below.Reads as point-below
@@ -14,8 +15,8 @@ use Rattle.index.proofs.point_query.+point_below.Lts-point_below as poi
 use Rattle.index.proofs.point_query.point_in_leaf.Reads as point-in-leaf-reads
 use Rattle.index.proofs.walk.Found.then.Reads as then-reads
 use Rattle.index.proofs.walk.polygon_has.Reads as polygon-has-reads
-use Rattle.layout.proofs.child_at.Reads as child-at-reads
-use Rattle.layout.proofs.count_at.Reads as count-at-reads
+use Rattle.layout.proofs.node.Node.child.Reads as child-reads
+use Rattle.layout.proofs.node_at.Reads as node-at-reads
 use Rattle.layout.proofs.part_at.Reads as part-at-reads
 use Rattle.index.proofs.point_query.+point_below.{statement}
 use Rattle.index.proofs.point_query.+point_below.Tie.{close}
@@ -32,20 +33,20 @@ point-below-below t =
     and 1 point-below-kinds.ps (falls 1 point-below-kinds.ps _<_ μ-point-below t) point-below.Pre
 
 abbrev point-below-Inv-loop : point-below-lts.InvT-loop
-point-below-Inv-loop m level lo k c n so-far₀ low₀ i₀ so-far low i = PointLoop c level m lo k n i low so-far
+point-below-Inv-loop m level lo k c node n so-far₀ low₀ i₀ so-far low i = PointLoop c level m lo k n i low so-far
 
 abbrev point-below-μ-loop : point-below-lts.MeasureT-loop
-point-below-μ-loop m level lo k c n so-far₀ low₀ i₀ so-far low i = n - i
+point-below-μ-loop m level lo k c node n so-far₀ low₀ i₀ so-far low i = n - i
 
 point-below-part-at-requires : (t : ℕ) → point-below-lts.Need-part-at-requires (
   part-at-reads.Asked,
   part-at-reads.Learnt,
   point-in-leaf-reads.Asked,
   point-in-leaf-reads.Learnt,
-  count-at-reads.Asked,
-  count-at-reads.Learnt,
-  child-at-reads.Asked,
-  child-at-reads.Learnt,
+  node-at-reads.Asked,
+  node-at-reads.Learnt,
+  child-reads.Asked,
+  child-reads.Learnt,
   polygon-has-reads.Asked,
   polygon-has-reads.Learnt,
   point-below-below t,
@@ -60,10 +61,10 @@ point-below-point-in-leaf-requires : (t : ℕ) → point-below-lts.Need-point-in
   part-at-reads.Learnt,
   point-in-leaf-reads.Asked,
   point-in-leaf-reads.Learnt,
-  count-at-reads.Asked,
-  count-at-reads.Learnt,
-  child-at-reads.Asked,
-  child-at-reads.Learnt,
+  node-at-reads.Asked,
+  node-at-reads.Learnt,
+  child-reads.Asked,
+  child-reads.Learnt,
   polygon-has-reads.Asked,
   polygon-has-reads.Learnt,
   point-below-below t,
@@ -78,10 +79,10 @@ point-below-returns : (t : ℕ) → point-below-lts.Need-returns (
   part-at-reads.Learnt,
   point-in-leaf-reads.Asked,
   point-in-leaf-reads.Learnt,
-  count-at-reads.Asked,
-  count-at-reads.Learnt,
-  child-at-reads.Asked,
-  child-at-reads.Learnt,
+  node-at-reads.Asked,
+  node-at-reads.Learnt,
+  child-reads.Asked,
+  child-reads.Learnt,
   polygon-has-reads.Asked,
   polygon-has-reads.Learnt,
   point-below-below t,
@@ -91,15 +92,15 @@ point-below-returns : (t : ℕ) → point-below-lts.Need-returns (
 ) (point-below-at t) point-below.Post point-below-Inv-loop point-below-μ-loop
 point-below-returns t c = search point-leaf
 
-point-below-count-at-requires : (t : ℕ) → point-below-lts.Need-count-at-requires (
+point-below-node-at-requires : (t : ℕ) → point-below-lts.Need-node-at-requires (
   part-at-reads.Asked,
   part-at-reads.Learnt,
   point-in-leaf-reads.Asked,
   point-in-leaf-reads.Learnt,
-  count-at-reads.Asked,
-  count-at-reads.Learnt,
-  child-at-reads.Asked,
-  child-at-reads.Learnt,
+  node-at-reads.Asked,
+  node-at-reads.Learnt,
+  child-reads.Asked,
+  child-reads.Learnt,
   polygon-has-reads.Asked,
   polygon-has-reads.Learnt,
   point-below-below t,
@@ -107,17 +108,17 @@ point-below-count-at-requires : (t : ℕ) → point-below-lts.Need-count-at-requ
   then-reads.Asked,
   then-reads.Learnt,
 ) (point-below-at t) point-below.Post point-below-Inv-loop point-below-μ-loop
-point-below-count-at-requires t c κs = search needs
+point-below-node-at-requires t c κs = search needs
 
 point-below-cast-n : (t : ℕ) → point-below-lts.Need-cast-n (
   part-at-reads.Asked,
   part-at-reads.Learnt,
   point-in-leaf-reads.Asked,
   point-in-leaf-reads.Learnt,
-  count-at-reads.Asked,
-  count-at-reads.Learnt,
-  child-at-reads.Asked,
-  child-at-reads.Learnt,
+  node-at-reads.Asked,
+  node-at-reads.Learnt,
+  child-reads.Asked,
+  child-reads.Learnt,
   polygon-has-reads.Asked,
   polygon-has-reads.Learnt,
   point-below-below t,
@@ -132,10 +133,10 @@ point-below-loop-holds : (t : ℕ) → point-below-lts.Need-loop-holds (
   part-at-reads.Learnt,
   point-in-leaf-reads.Asked,
   point-in-leaf-reads.Learnt,
-  count-at-reads.Asked,
-  count-at-reads.Learnt,
-  child-at-reads.Asked,
-  child-at-reads.Learnt,
+  node-at-reads.Asked,
+  node-at-reads.Learnt,
+  child-reads.Asked,
+  child-reads.Learnt,
   polygon-has-reads.Asked,
   polygon-has-reads.Learnt,
   point-below-below t,
@@ -143,17 +144,17 @@ point-below-loop-holds : (t : ℕ) → point-below-lts.Need-loop-holds (
   then-reads.Asked,
   then-reads.Learnt,
 ) (point-below-at t) point-below.Post point-below-Inv-loop point-below-μ-loop
-point-below-loop-holds t c = search point-start
+point-below-loop-holds t c = search (point-start, walk-count)
 
-point-below-child-at-requires : (t : ℕ) → point-below-lts.Need-child-at-requires (
+point-below-child-requires : (t : ℕ) → point-below-lts.Need-child-requires (
   part-at-reads.Asked,
   part-at-reads.Learnt,
   point-in-leaf-reads.Asked,
   point-in-leaf-reads.Learnt,
-  count-at-reads.Asked,
-  count-at-reads.Learnt,
-  child-at-reads.Asked,
-  child-at-reads.Learnt,
+  node-at-reads.Asked,
+  node-at-reads.Learnt,
+  child-reads.Asked,
+  child-reads.Learnt,
   polygon-has-reads.Asked,
   polygon-has-reads.Learnt,
   point-below-below t,
@@ -161,17 +162,17 @@ point-below-child-at-requires : (t : ℕ) → point-below-lts.Need-child-at-requ
   then-reads.Asked,
   then-reads.Learnt,
 ) (point-below-at t) point-below.Post point-below-Inv-loop point-below-μ-loop
-point-below-child-at-requires t c κs = search needs
+point-below-child-requires t c κs = search walk-nine
 
 point-below-polygon-has-requires : (t : ℕ) → point-below-lts.Need-polygon-has-requires (
   part-at-reads.Asked,
   part-at-reads.Learnt,
   point-in-leaf-reads.Asked,
   point-in-leaf-reads.Learnt,
-  count-at-reads.Asked,
-  count-at-reads.Learnt,
-  child-at-reads.Asked,
-  child-at-reads.Learnt,
+  node-at-reads.Asked,
+  node-at-reads.Learnt,
+  child-reads.Asked,
+  child-reads.Learnt,
   polygon-has-reads.Asked,
   polygon-has-reads.Learnt,
   point-below-below t,
@@ -179,17 +180,17 @@ point-below-polygon-has-requires : (t : ℕ) → point-below-lts.Need-polygon-ha
   then-reads.Asked,
   then-reads.Learnt,
 ) (point-below-at t) point-below.Post point-below-Inv-loop point-below-μ-loop
-point-below-polygon-has-requires t c κs = search child-polygon
+point-below-polygon-has-requires t c κs = search (child-polygon, walk-child)
 
 point-below-sub-point-below : (t : ℕ) → point-below-lts.Need-sub-point-below (
   part-at-reads.Asked,
   part-at-reads.Learnt,
   point-in-leaf-reads.Asked,
   point-in-leaf-reads.Learnt,
-  count-at-reads.Asked,
-  count-at-reads.Learnt,
-  child-at-reads.Asked,
-  child-at-reads.Learnt,
+  node-at-reads.Asked,
+  node-at-reads.Learnt,
+  child-reads.Asked,
+  child-reads.Learnt,
   polygon-has-reads.Asked,
   polygon-has-reads.Learnt,
   point-below-below t,
@@ -204,10 +205,10 @@ point-below-point-below-requires : (t : ℕ) → point-below-lts.Need-point-belo
   part-at-reads.Learnt,
   point-in-leaf-reads.Asked,
   point-in-leaf-reads.Learnt,
-  count-at-reads.Asked,
-  count-at-reads.Learnt,
-  child-at-reads.Asked,
-  child-at-reads.Learnt,
+  node-at-reads.Asked,
+  node-at-reads.Learnt,
+  child-reads.Asked,
+  child-reads.Learnt,
   polygon-has-reads.Asked,
   polygon-has-reads.Learnt,
   point-below-below t,
@@ -215,17 +216,17 @@ point-below-point-below-requires : (t : ℕ) → point-below-lts.Need-point-belo
   then-reads.Asked,
   then-reads.Learnt,
 ) (point-below-at t) point-below.Post point-below-Inv-loop point-below-μ-loop
-point-below-point-below-requires t c κs = (omega arith, search child-walkable)
+point-below-point-below-requires t c κs = (omega arith, search (child-walkable, walk-child))
 
 point-below-then-requires : (t : ℕ) → point-below-lts.Need-then-requires (
   part-at-reads.Asked,
   part-at-reads.Learnt,
   point-in-leaf-reads.Asked,
   point-in-leaf-reads.Learnt,
-  count-at-reads.Asked,
-  count-at-reads.Learnt,
-  child-at-reads.Asked,
-  child-at-reads.Learnt,
+  node-at-reads.Asked,
+  node-at-reads.Learnt,
+  child-reads.Asked,
+  child-reads.Learnt,
   polygon-has-reads.Asked,
   polygon-has-reads.Learnt,
   point-below-below t,
@@ -233,17 +234,17 @@ point-below-then-requires : (t : ℕ) → point-below-lts.Need-then-requires (
   then-reads.Asked,
   then-reads.Learnt,
 ) (point-below-at t) point-below.Post point-below-Inv-loop point-below-μ-loop
-point-below-then-requires t c κs = search point-room
+point-below-then-requires t c κs = search (point-room, walk-child)
 
 point-below-add-low : (t : ℕ) → point-below-lts.Need-add-low (
   part-at-reads.Asked,
   part-at-reads.Learnt,
   point-in-leaf-reads.Asked,
   point-in-leaf-reads.Learnt,
-  count-at-reads.Asked,
-  count-at-reads.Learnt,
-  child-at-reads.Asked,
-  child-at-reads.Learnt,
+  node-at-reads.Asked,
+  node-at-reads.Learnt,
+  child-reads.Asked,
+  child-reads.Learnt,
   polygon-has-reads.Asked,
   polygon-has-reads.Learnt,
   point-below-below t,
@@ -251,17 +252,17 @@ point-below-add-low : (t : ℕ) → point-below-lts.Need-add-low (
   then-reads.Asked,
   then-reads.Learnt,
 ) (point-below-at t) point-below.Post point-below-Inv-loop point-below-μ-loop
-point-below-add-low t c = search child-fits
+point-below-add-low t c = search (child-fits, walk-child)
 
 point-below-add-i : (t : ℕ) → point-below-lts.Need-add-i (
   part-at-reads.Asked,
   part-at-reads.Learnt,
   point-in-leaf-reads.Asked,
   point-in-leaf-reads.Learnt,
-  count-at-reads.Asked,
-  count-at-reads.Learnt,
-  child-at-reads.Asked,
-  child-at-reads.Learnt,
+  node-at-reads.Asked,
+  node-at-reads.Learnt,
+  child-reads.Asked,
+  child-reads.Learnt,
   polygon-has-reads.Asked,
   polygon-has-reads.Learnt,
   point-below-below t,
@@ -276,10 +277,10 @@ point-below-loop-less : (t : ℕ) → point-below-lts.Need-loop-less (
   part-at-reads.Learnt,
   point-in-leaf-reads.Asked,
   point-in-leaf-reads.Learnt,
-  count-at-reads.Asked,
-  count-at-reads.Learnt,
-  child-at-reads.Asked,
-  child-at-reads.Learnt,
+  node-at-reads.Asked,
+  node-at-reads.Learnt,
+  child-reads.Asked,
+  child-reads.Learnt,
   polygon-has-reads.Asked,
   polygon-has-reads.Learnt,
   point-below-below t,
@@ -294,10 +295,10 @@ point-below-loop-again : (t : ℕ) → point-below-lts.Need-loop-again (
   part-at-reads.Learnt,
   point-in-leaf-reads.Asked,
   point-in-leaf-reads.Learnt,
-  count-at-reads.Asked,
-  count-at-reads.Learnt,
-  child-at-reads.Asked,
-  child-at-reads.Learnt,
+  node-at-reads.Asked,
+  node-at-reads.Learnt,
+  child-reads.Asked,
+  child-reads.Learnt,
   polygon-has-reads.Asked,
   polygon-has-reads.Learnt,
   point-below-below t,
@@ -305,17 +306,17 @@ point-below-loop-again : (t : ℕ) → point-below-lts.Need-loop-again (
   then-reads.Asked,
   then-reads.Learnt,
 ) (point-below-at t) point-below.Post point-below-Inv-loop point-below-μ-loop
-point-below-loop-again t c = ⊎-elim (λ w. search point-hit) (λ w. search point-miss) (c .if2 .came)
+point-below-loop-again t c = ⊎-elim (λ w. search (point-hit, walk-child)) (λ w. search (point-miss, walk-child)) (c .if2 .came)
 
 point-below-returns-2 : (t : ℕ) → point-below-lts.Need-returns-2 (
   part-at-reads.Asked,
   part-at-reads.Learnt,
   point-in-leaf-reads.Asked,
   point-in-leaf-reads.Learnt,
-  count-at-reads.Asked,
-  count-at-reads.Learnt,
-  child-at-reads.Asked,
-  child-at-reads.Learnt,
+  node-at-reads.Asked,
+  node-at-reads.Learnt,
+  child-reads.Asked,
+  child-reads.Learnt,
   polygon-has-reads.Asked,
   polygon-has-reads.Learnt,
   point-below-below t,
@@ -331,10 +332,10 @@ pub +point-below-spec : {M : Type 1} → statement M
   part-at-reads.Learnt,
   point-in-leaf-reads.Asked,
   point-in-leaf-reads.Learnt,
-  count-at-reads.Asked,
-  count-at-reads.Learnt,
-  child-at-reads.Asked,
-  child-at-reads.Learnt,
+  node-at-reads.Asked,
+  node-at-reads.Learnt,
+  child-reads.Asked,
+  child-reads.Learnt,
   polygon-has-reads.Asked,
   polygon-has-reads.Learnt,
   point-below-below t,
@@ -349,10 +350,10 @@ pub +point-below-spec : {M : Type 1} → statement M
     (point-below-part-at-requires t)
     (point-below-point-in-leaf-requires t)
     (point-below-returns t)
-    (point-below-count-at-requires t)
+    (point-below-node-at-requires t)
     (point-below-cast-n t)
     (point-below-loop-holds t)
-    (point-below-child-at-requires t)
+    (point-below-child-requires t)
     (point-below-polygon-has-requires t)
     (point-below-sub-point-below t)
     (point-below-point-below-requires t)

@@ -1,10 +1,11 @@
+-- `point_query::is_of_cell` meets its contract.
 use Rattle.index.proofs.PointWalk.{other-x, same-x}
 use borrow.Author.Needs.{needs}
 use Rattle.index.proofs.point_query.is_of_cell.Statement.{statement}
 use Rattle.index.proofs.point_query.is_of_cell.Tie as tie
 
-entry-cell-requires : tie.Need-entry-cell-requires
-entry-cell-requires c κs = search needs
+cell-requires : tie.Need-cell-requires
+cell-requires c κs = search needs
 
 returns : tie.Need-returns
 returns c = search other-x
@@ -13,4 +14,4 @@ returns-2 : tie.Need-returns-2
 returns-2 c = search same-x
 
 pub is-of-cell-spec : {M : Type 1} → statement M
-is-of-cell-spec = tie.close (tie.spec entry-cell-requires returns returns-2)
+is-of-cell-spec = tie.close (tie.spec cell-requires returns returns-2)

@@ -1,32 +1,33 @@
+-- `point_query::point_in_leaf` meets its contract; its loop is in WalkLeaf.
 use borrow.Author.Needs.{needs}
 use Prim.Native.Nat.{_-_}
 use mathlib.Core.List.{[]}
 use Rattle.index.specs.Walks.{cellTest}
-use Rattle.index.proofs.WalkLeaf.{AtEntry, entry-start, entry-miss, entry-end}
-use Rattle.index.proofs.PointWalk.{leaf-held, leaf-not-held}
+use Rattle.index.proofs.PointWalk.{leaf-held, leaf-passed, leaf-not-held}
+use Rattle.index.proofs.WalkLeaf.{AtEntry, loaded-start, entry-small, entry-nine, entry-end}
 use Rattle.index.proofs.point_query.point_in_leaf.Statement.{statement}
 use Rattle.index.proofs.point_query.point_in_leaf.Tie as tie
 
 abbrev Inv-loop : tie.InvT-loop
-Inv-loop p c n i₀ i = AtEntry (cellTest c) p n i []
+Inv-loop p c leaf n i₀ i = AtEntry (cellTest c) p n i []
 
 abbrev μ-loop : tie.MeasureT-loop
-μ-loop p c n i₀ i = n - i
+μ-loop p c leaf n i₀ i = n - i
 
-item-count-requires : tie.Need-item-count-requires Inv-loop μ-loop
-item-count-requires c κs = search needs
+load-requires : tie.Need-load-requires Inv-loop μ-loop
+load-requires c κs = search needs
 
 cast-n : tie.Need-cast-n Inv-loop μ-loop
 cast-n c = search needs
 
 loop-holds : tie.Need-loop-holds Inv-loop μ-loop
-loop-holds c = search entry-start
+loop-holds c = search loaded-start
 
 is-of-cell-requires : tie.Need-is-of-cell-requires Inv-loop μ-loop
-is-of-cell-requires c κs = search needs
+is-of-cell-requires c κs = search entry-small
 
-entry-tag-requires : tie.Need-entry-tag-requires Inv-loop μ-loop
-entry-tag-requires c κs = search needs
+tag-requires : tie.Need-tag-requires Inv-loop μ-loop
+tag-requires c κs = search entry-nine
 
 returns : tie.Need-returns Inv-loop μ-loop
 returns c = search leaf-held
@@ -38,7 +39,7 @@ loop-less : tie.Need-loop-less Inv-loop μ-loop
 loop-less c = search needs
 
 loop-again : tie.Need-loop-again Inv-loop μ-loop
-loop-again c = search entry-miss
+loop-again c = search leaf-passed
 
 returns-2 : tie.Need-returns-2 Inv-loop μ-loop
 returns-2 c = search (leaf-not-held, entry-end)
@@ -49,11 +50,11 @@ point-in-leaf-spec =
     (tie.spec
     Inv-loop
     μ-loop
-    item-count-requires
+    load-requires
     cast-n
     loop-holds
     is-of-cell-requires
-    entry-tag-requires
+    tag-requires
     returns
     add-i
     loop-less

@@ -6,6 +6,7 @@ use borrow.Author.Needs.{needs}
 use Rattle.index.proofs.WalkRows.{node-part}
 use Rattle.index.proofs.WalkLoop.{child-walkable, child-polygon, child-fits}
 use Rattle.index.proofs.WindowWalk.{CountLoop, matched-leaf, counting-start, counting-miss, counting-hit, matches-fit, visits-fit, counting-end}
+use Rattle.index.proofs.WalkNode.{walk-count, walk-nine, walk-child}
 use borrow.Fn.Kinds.{In}
 use borrow.Fn.PlainCycle.{Measures, is, falls, and}
 use Rattle.index.proofs.window_query.count_below.Reads as count-below
@@ -13,8 +14,8 @@ use Rattle.index.proofs.window_query.count_below.Kinds as count-below-k
 use Rattle.index.proofs.window_query.+count_below.Lts-count_below as count-below-lts
 use Rattle.index.proofs.walk.polygon_meets.Reads as polygon-meets-reads
 use Rattle.index.proofs.window_query.count_leaf.Reads as count-leaf-reads
-use Rattle.layout.proofs.child_at.Reads as child-at-reads
-use Rattle.layout.proofs.count_at.Reads as count-at-reads
+use Rattle.layout.proofs.node.Node.child.Reads as child-reads
+use Rattle.layout.proofs.node_at.Reads as node-at-reads
 use Rattle.layout.proofs.part_at.Reads as part-at-reads
 use Rattle.index.proofs.window_query.+count_below.{statement}
 use Rattle.index.proofs.window_query.+count_below.Tie.{close}
@@ -31,20 +32,20 @@ count-below-below t =
     and 1 count-below-kinds.ps (falls 1 count-below-kinds.ps _<_ μ-count-below t) count-below.Pre
 
 abbrev count-below-Inv-loop : count-below-lts.InvT-loop
-count-below-Inv-loop m level lo k w n so-far₀ low₀ i₀ so-far low i = CountLoop w level m lo k n i low so-far
+count-below-Inv-loop m level lo k w node n so-far₀ low₀ i₀ so-far low i = CountLoop w level m lo k n i low so-far
 
 abbrev count-below-μ-loop : count-below-lts.MeasureT-loop
-count-below-μ-loop m level lo k w n so-far₀ low₀ i₀ so-far low i = n - i
+count-below-μ-loop m level lo k w node n so-far₀ low₀ i₀ so-far low i = n - i
 
 count-below-part-at-requires : (t : ℕ) → count-below-lts.Need-part-at-requires (
   part-at-reads.Asked,
   part-at-reads.Learnt,
   count-leaf-reads.Asked,
   count-leaf-reads.Learnt,
-  count-at-reads.Asked,
-  count-at-reads.Learnt,
-  child-at-reads.Asked,
-  child-at-reads.Learnt,
+  node-at-reads.Asked,
+  node-at-reads.Learnt,
+  child-reads.Asked,
+  child-reads.Learnt,
   polygon-meets-reads.Asked,
   polygon-meets-reads.Learnt,
   count-below-below t,
@@ -57,10 +58,10 @@ count-below-count-leaf-requires : (t : ℕ) → count-below-lts.Need-count-leaf-
   part-at-reads.Learnt,
   count-leaf-reads.Asked,
   count-leaf-reads.Learnt,
-  count-at-reads.Asked,
-  count-at-reads.Learnt,
-  child-at-reads.Asked,
-  child-at-reads.Learnt,
+  node-at-reads.Asked,
+  node-at-reads.Learnt,
+  child-reads.Asked,
+  child-reads.Learnt,
   polygon-meets-reads.Asked,
   polygon-meets-reads.Learnt,
   count-below-below t,
@@ -73,10 +74,10 @@ count-below-returns : (t : ℕ) → count-below-lts.Need-returns (
   part-at-reads.Learnt,
   count-leaf-reads.Asked,
   count-leaf-reads.Learnt,
-  count-at-reads.Asked,
-  count-at-reads.Learnt,
-  child-at-reads.Asked,
-  child-at-reads.Learnt,
+  node-at-reads.Asked,
+  node-at-reads.Learnt,
+  child-reads.Asked,
+  child-reads.Learnt,
   polygon-meets-reads.Asked,
   polygon-meets-reads.Learnt,
   count-below-below t,
@@ -84,31 +85,31 @@ count-below-returns : (t : ℕ) → count-below-lts.Need-returns (
 ) (count-below-at t) count-below.Post count-below-Inv-loop count-below-μ-loop
 count-below-returns t c = search matched-leaf
 
-count-below-count-at-requires : (t : ℕ) → count-below-lts.Need-count-at-requires (
+count-below-node-at-requires : (t : ℕ) → count-below-lts.Need-node-at-requires (
   part-at-reads.Asked,
   part-at-reads.Learnt,
   count-leaf-reads.Asked,
   count-leaf-reads.Learnt,
-  count-at-reads.Asked,
-  count-at-reads.Learnt,
-  child-at-reads.Asked,
-  child-at-reads.Learnt,
+  node-at-reads.Asked,
+  node-at-reads.Learnt,
+  child-reads.Asked,
+  child-reads.Learnt,
   polygon-meets-reads.Asked,
   polygon-meets-reads.Learnt,
   count-below-below t,
   count-below.Post,
 ) (count-below-at t) count-below.Post count-below-Inv-loop count-below-μ-loop
-count-below-count-at-requires t c κs = search needs
+count-below-node-at-requires t c κs = search needs
 
 count-below-cast-n : (t : ℕ) → count-below-lts.Need-cast-n (
   part-at-reads.Asked,
   part-at-reads.Learnt,
   count-leaf-reads.Asked,
   count-leaf-reads.Learnt,
-  count-at-reads.Asked,
-  count-at-reads.Learnt,
-  child-at-reads.Asked,
-  child-at-reads.Learnt,
+  node-at-reads.Asked,
+  node-at-reads.Learnt,
+  child-reads.Asked,
+  child-reads.Learnt,
   polygon-meets-reads.Asked,
   polygon-meets-reads.Learnt,
   count-below-below t,
@@ -121,58 +122,58 @@ count-below-loop-holds : (t : ℕ) → count-below-lts.Need-loop-holds (
   part-at-reads.Learnt,
   count-leaf-reads.Asked,
   count-leaf-reads.Learnt,
-  count-at-reads.Asked,
-  count-at-reads.Learnt,
-  child-at-reads.Asked,
-  child-at-reads.Learnt,
+  node-at-reads.Asked,
+  node-at-reads.Learnt,
+  child-reads.Asked,
+  child-reads.Learnt,
   polygon-meets-reads.Asked,
   polygon-meets-reads.Learnt,
   count-below-below t,
   count-below.Post,
 ) (count-below-at t) count-below.Post count-below-Inv-loop count-below-μ-loop
-count-below-loop-holds t c = search counting-start
+count-below-loop-holds t c = search (counting-start, walk-count)
 
-count-below-child-at-requires : (t : ℕ) → count-below-lts.Need-child-at-requires (
+count-below-child-requires : (t : ℕ) → count-below-lts.Need-child-requires (
   part-at-reads.Asked,
   part-at-reads.Learnt,
   count-leaf-reads.Asked,
   count-leaf-reads.Learnt,
-  count-at-reads.Asked,
-  count-at-reads.Learnt,
-  child-at-reads.Asked,
-  child-at-reads.Learnt,
+  node-at-reads.Asked,
+  node-at-reads.Learnt,
+  child-reads.Asked,
+  child-reads.Learnt,
   polygon-meets-reads.Asked,
   polygon-meets-reads.Learnt,
   count-below-below t,
   count-below.Post,
 ) (count-below-at t) count-below.Post count-below-Inv-loop count-below-μ-loop
-count-below-child-at-requires t c κs = search needs
+count-below-child-requires t c κs = search walk-nine
 
 count-below-polygon-meets-requires : (t : ℕ) → count-below-lts.Need-polygon-meets-requires (
   part-at-reads.Asked,
   part-at-reads.Learnt,
   count-leaf-reads.Asked,
   count-leaf-reads.Learnt,
-  count-at-reads.Asked,
-  count-at-reads.Learnt,
-  child-at-reads.Asked,
-  child-at-reads.Learnt,
+  node-at-reads.Asked,
+  node-at-reads.Learnt,
+  child-reads.Asked,
+  child-reads.Learnt,
   polygon-meets-reads.Asked,
   polygon-meets-reads.Learnt,
   count-below-below t,
   count-below.Post,
 ) (count-below-at t) count-below.Post count-below-Inv-loop count-below-μ-loop
-count-below-polygon-meets-requires t c κs = search child-polygon
+count-below-polygon-meets-requires t c κs = search (child-polygon, walk-child)
 
 count-below-sub-count-below : (t : ℕ) → count-below-lts.Need-sub-count-below (
   part-at-reads.Asked,
   part-at-reads.Learnt,
   count-leaf-reads.Asked,
   count-leaf-reads.Learnt,
-  count-at-reads.Asked,
-  count-at-reads.Learnt,
-  child-at-reads.Asked,
-  child-at-reads.Learnt,
+  node-at-reads.Asked,
+  node-at-reads.Learnt,
+  child-reads.Asked,
+  child-reads.Learnt,
   polygon-meets-reads.Asked,
   polygon-meets-reads.Learnt,
   count-below-below t,
@@ -185,74 +186,74 @@ count-below-count-below-requires : (t : ℕ) → count-below-lts.Need-count-belo
   part-at-reads.Learnt,
   count-leaf-reads.Asked,
   count-leaf-reads.Learnt,
-  count-at-reads.Asked,
-  count-at-reads.Learnt,
-  child-at-reads.Asked,
-  child-at-reads.Learnt,
+  node-at-reads.Asked,
+  node-at-reads.Learnt,
+  child-reads.Asked,
+  child-reads.Learnt,
   polygon-meets-reads.Asked,
   polygon-meets-reads.Learnt,
   count-below-below t,
   count-below.Post,
 ) (count-below-at t) count-below.Post count-below-Inv-loop count-below-μ-loop
-count-below-count-below-requires t c κs = (omega arith, search child-walkable)
+count-below-count-below-requires t c κs = (omega arith, search (child-walkable, walk-child))
 
 count-below-add-so-far : (t : ℕ) → count-below-lts.Need-add-so-far (
   part-at-reads.Asked,
   part-at-reads.Learnt,
   count-leaf-reads.Asked,
   count-leaf-reads.Learnt,
-  count-at-reads.Asked,
-  count-at-reads.Learnt,
-  child-at-reads.Asked,
-  child-at-reads.Learnt,
+  node-at-reads.Asked,
+  node-at-reads.Learnt,
+  child-reads.Asked,
+  child-reads.Learnt,
   polygon-meets-reads.Asked,
   polygon-meets-reads.Learnt,
   count-below-below t,
   count-below.Post,
 ) (count-below-at t) count-below.Post count-below-Inv-loop count-below-μ-loop
-count-below-add-so-far t c = search matches-fit
+count-below-add-so-far t c = search (matches-fit, walk-child)
 
 count-below-add-so-far-2 : (t : ℕ) → count-below-lts.Need-add-so-far-2 (
   part-at-reads.Asked,
   part-at-reads.Learnt,
   count-leaf-reads.Asked,
   count-leaf-reads.Learnt,
-  count-at-reads.Asked,
-  count-at-reads.Learnt,
-  child-at-reads.Asked,
-  child-at-reads.Learnt,
+  node-at-reads.Asked,
+  node-at-reads.Learnt,
+  child-reads.Asked,
+  child-reads.Learnt,
   polygon-meets-reads.Asked,
   polygon-meets-reads.Learnt,
   count-below-below t,
   count-below.Post,
 ) (count-below-at t) count-below.Post count-below-Inv-loop count-below-μ-loop
-count-below-add-so-far-2 t c = search visits-fit
+count-below-add-so-far-2 t c = search (visits-fit, walk-child)
 
 count-below-add-low : (t : ℕ) → count-below-lts.Need-add-low (
   part-at-reads.Asked,
   part-at-reads.Learnt,
   count-leaf-reads.Asked,
   count-leaf-reads.Learnt,
-  count-at-reads.Asked,
-  count-at-reads.Learnt,
-  child-at-reads.Asked,
-  child-at-reads.Learnt,
+  node-at-reads.Asked,
+  node-at-reads.Learnt,
+  child-reads.Asked,
+  child-reads.Learnt,
   polygon-meets-reads.Asked,
   polygon-meets-reads.Learnt,
   count-below-below t,
   count-below.Post,
 ) (count-below-at t) count-below.Post count-below-Inv-loop count-below-μ-loop
-count-below-add-low t c = search child-fits
+count-below-add-low t c = search (child-fits, walk-child)
 
 count-below-add-i : (t : ℕ) → count-below-lts.Need-add-i (
   part-at-reads.Asked,
   part-at-reads.Learnt,
   count-leaf-reads.Asked,
   count-leaf-reads.Learnt,
-  count-at-reads.Asked,
-  count-at-reads.Learnt,
-  child-at-reads.Asked,
-  child-at-reads.Learnt,
+  node-at-reads.Asked,
+  node-at-reads.Learnt,
+  child-reads.Asked,
+  child-reads.Learnt,
   polygon-meets-reads.Asked,
   polygon-meets-reads.Learnt,
   count-below-below t,
@@ -265,10 +266,10 @@ count-below-loop-less : (t : ℕ) → count-below-lts.Need-loop-less (
   part-at-reads.Learnt,
   count-leaf-reads.Asked,
   count-leaf-reads.Learnt,
-  count-at-reads.Asked,
-  count-at-reads.Learnt,
-  child-at-reads.Asked,
-  child-at-reads.Learnt,
+  node-at-reads.Asked,
+  node-at-reads.Learnt,
+  child-reads.Asked,
+  child-reads.Learnt,
   polygon-meets-reads.Asked,
   polygon-meets-reads.Learnt,
   count-below-below t,
@@ -281,26 +282,26 @@ count-below-loop-again : (t : ℕ) → count-below-lts.Need-loop-again (
   part-at-reads.Learnt,
   count-leaf-reads.Asked,
   count-leaf-reads.Learnt,
-  count-at-reads.Asked,
-  count-at-reads.Learnt,
-  child-at-reads.Asked,
-  child-at-reads.Learnt,
+  node-at-reads.Asked,
+  node-at-reads.Learnt,
+  child-reads.Asked,
+  child-reads.Learnt,
   polygon-meets-reads.Asked,
   polygon-meets-reads.Learnt,
   count-below-below t,
   count-below.Post,
 ) (count-below-at t) count-below.Post count-below-Inv-loop count-below-μ-loop
-count-below-loop-again t c = ⊎-elim (λ x. search counting-hit) (λ x. search counting-miss) (c .if2 .came)
+count-below-loop-again t c = ⊎-elim (λ x. search (counting-hit, walk-child)) (λ x. search (counting-miss, walk-child)) (c .if2 .came)
 
 count-below-returns-2 : (t : ℕ) → count-below-lts.Need-returns-2 (
   part-at-reads.Asked,
   part-at-reads.Learnt,
   count-leaf-reads.Asked,
   count-leaf-reads.Learnt,
-  count-at-reads.Asked,
-  count-at-reads.Learnt,
-  child-at-reads.Asked,
-  child-at-reads.Learnt,
+  node-at-reads.Asked,
+  node-at-reads.Learnt,
+  child-reads.Asked,
+  child-reads.Learnt,
   polygon-meets-reads.Asked,
   polygon-meets-reads.Learnt,
   count-below-below t,
@@ -314,10 +315,10 @@ pub +count-below-spec : {M : Type 1} → statement M
   part-at-reads.Learnt,
   count-leaf-reads.Asked,
   count-leaf-reads.Learnt,
-  count-at-reads.Asked,
-  count-at-reads.Learnt,
-  child-at-reads.Asked,
-  child-at-reads.Learnt,
+  node-at-reads.Asked,
+  node-at-reads.Learnt,
+  child-reads.Asked,
+  child-reads.Learnt,
   polygon-meets-reads.Asked,
   polygon-meets-reads.Learnt,
   count-below-below t,
@@ -330,10 +331,10 @@ pub +count-below-spec : {M : Type 1} → statement M
     (count-below-part-at-requires t)
     (count-below-count-leaf-requires t)
     (count-below-returns t)
-    (count-below-count-at-requires t)
+    (count-below-node-at-requires t)
     (count-below-cast-n t)
     (count-below-loop-holds t)
-    (count-below-child-at-requires t)
+    (count-below-child-requires t)
     (count-below-polygon-meets-requires t)
     (count-below-sub-count-below t)
     (count-below-count-below-requires t)

@@ -5,6 +5,7 @@ use native.Mathlib.Omega.{arith}
 use borrow.Author.Needs.{needs}
 use Rattle.index.proofs.WalkLoop.{child-polygon, child-fits}
 use Rattle.index.proofs.WindowWrite.{WriteLoop, written-leaf-room, written-leaf, writing-start, writing-room, writing-miss, writing-hit, writing-end}
+use Rattle.index.proofs.WalkNode.{walk-count, walk-nine, walk-child}
 use borrow.Fn.Kinds.{In}
 use borrow.Fn.PlainCycle.{Measures, is, falls, and}
 use Rattle.index.proofs.window_query.write_below.Reads as write-below
@@ -12,8 +13,8 @@ use Rattle.index.proofs.window_query.write_below.Kinds as write-below-k
 use Rattle.index.proofs.window_query.+write_below.Lts-write_below as write-below-lts
 use Rattle.index.proofs.walk.polygon_meets.Reads as polygon-meets-reads
 use Rattle.index.proofs.window_query.write_leaf.Reads as write-leaf-reads
-use Rattle.layout.proofs.child_at.Reads as child-at-reads
-use Rattle.layout.proofs.count_at.Reads as count-at-reads
+use Rattle.layout.proofs.node.Node.child.Reads as child-reads
+use Rattle.layout.proofs.node_at.Reads as node-at-reads
 use Rattle.layout.proofs.part_at.Reads as part-at-reads
 use Rattle.index.proofs.window_query.+write_below.{statement}
 use Rattle.index.proofs.window_query.+write_below.Tie.{close}
@@ -30,20 +31,20 @@ write-below-below t =
     and 2 write-below-kinds.ps (falls 2 write-below-kinds.ps _<_ μ-write-below t) write-below.Pre
 
 abbrev write-below-Inv-loop : write-below-lts.InvT-loop
-write-below-Inv-loop m level lo k w list₀ at n next₀ low₀ i₀ list next low i = WriteLoop w level m lo k n list₀ at i low list next
+write-below-Inv-loop m level lo k w list₀ at node n next₀ low₀ i₀ list next low i = WriteLoop w level m lo k n list₀ at i low list next
 
 abbrev write-below-μ-loop : write-below-lts.MeasureT-loop
-write-below-μ-loop m level lo k w list₀ at n next₀ low₀ i₀ list next low i = n - i
+write-below-μ-loop m level lo k w list₀ at node n next₀ low₀ i₀ list next low i = n - i
 
 write-below-part-at-requires : (t : ℕ) → write-below-lts.Need-part-at-requires (
   part-at-reads.Asked,
   part-at-reads.Learnt,
   write-leaf-reads.Asked,
   write-leaf-reads.Learnt,
-  count-at-reads.Asked,
-  count-at-reads.Learnt,
-  child-at-reads.Asked,
-  child-at-reads.Learnt,
+  node-at-reads.Asked,
+  node-at-reads.Learnt,
+  child-reads.Asked,
+  child-reads.Learnt,
   polygon-meets-reads.Asked,
   polygon-meets-reads.Learnt,
   write-below-below t,
@@ -56,10 +57,10 @@ write-below-write-leaf-requires : (t : ℕ) → write-below-lts.Need-write-leaf-
   part-at-reads.Learnt,
   write-leaf-reads.Asked,
   write-leaf-reads.Learnt,
-  count-at-reads.Asked,
-  count-at-reads.Learnt,
-  child-at-reads.Asked,
-  child-at-reads.Learnt,
+  node-at-reads.Asked,
+  node-at-reads.Learnt,
+  child-reads.Asked,
+  child-reads.Learnt,
   polygon-meets-reads.Asked,
   polygon-meets-reads.Learnt,
   write-below-below t,
@@ -72,10 +73,10 @@ write-below-same-length : (t : ℕ) → write-below-lts.Need-same-length (
   part-at-reads.Learnt,
   write-leaf-reads.Asked,
   write-leaf-reads.Learnt,
-  count-at-reads.Asked,
-  count-at-reads.Learnt,
-  child-at-reads.Asked,
-  child-at-reads.Learnt,
+  node-at-reads.Asked,
+  node-at-reads.Learnt,
+  child-reads.Asked,
+  child-reads.Learnt,
   polygon-meets-reads.Asked,
   polygon-meets-reads.Learnt,
   write-below-below t,
@@ -88,10 +89,10 @@ write-below-returns : (t : ℕ) → write-below-lts.Need-returns (
   part-at-reads.Learnt,
   write-leaf-reads.Asked,
   write-leaf-reads.Learnt,
-  count-at-reads.Asked,
-  count-at-reads.Learnt,
-  child-at-reads.Asked,
-  child-at-reads.Learnt,
+  node-at-reads.Asked,
+  node-at-reads.Learnt,
+  child-reads.Asked,
+  child-reads.Learnt,
   polygon-meets-reads.Asked,
   polygon-meets-reads.Learnt,
   write-below-below t,
@@ -99,31 +100,31 @@ write-below-returns : (t : ℕ) → write-below-lts.Need-returns (
 ) (write-below-at t) write-below.Post write-below-Inv-loop write-below-μ-loop
 write-below-returns t c = search written-leaf
 
-write-below-count-at-requires : (t : ℕ) → write-below-lts.Need-count-at-requires (
+write-below-node-at-requires : (t : ℕ) → write-below-lts.Need-node-at-requires (
   part-at-reads.Asked,
   part-at-reads.Learnt,
   write-leaf-reads.Asked,
   write-leaf-reads.Learnt,
-  count-at-reads.Asked,
-  count-at-reads.Learnt,
-  child-at-reads.Asked,
-  child-at-reads.Learnt,
+  node-at-reads.Asked,
+  node-at-reads.Learnt,
+  child-reads.Asked,
+  child-reads.Learnt,
   polygon-meets-reads.Asked,
   polygon-meets-reads.Learnt,
   write-below-below t,
   write-below.Post,
 ) (write-below-at t) write-below.Post write-below-Inv-loop write-below-μ-loop
-write-below-count-at-requires t c κs = search needs
+write-below-node-at-requires t c κs = search needs
 
 write-below-cast-n : (t : ℕ) → write-below-lts.Need-cast-n (
   part-at-reads.Asked,
   part-at-reads.Learnt,
   write-leaf-reads.Asked,
   write-leaf-reads.Learnt,
-  count-at-reads.Asked,
-  count-at-reads.Learnt,
-  child-at-reads.Asked,
-  child-at-reads.Learnt,
+  node-at-reads.Asked,
+  node-at-reads.Learnt,
+  child-reads.Asked,
+  child-reads.Learnt,
   polygon-meets-reads.Asked,
   polygon-meets-reads.Learnt,
   write-below-below t,
@@ -136,58 +137,58 @@ write-below-loop-holds : (t : ℕ) → write-below-lts.Need-loop-holds (
   part-at-reads.Learnt,
   write-leaf-reads.Asked,
   write-leaf-reads.Learnt,
-  count-at-reads.Asked,
-  count-at-reads.Learnt,
-  child-at-reads.Asked,
-  child-at-reads.Learnt,
+  node-at-reads.Asked,
+  node-at-reads.Learnt,
+  child-reads.Asked,
+  child-reads.Learnt,
   polygon-meets-reads.Asked,
   polygon-meets-reads.Learnt,
   write-below-below t,
   write-below.Post,
 ) (write-below-at t) write-below.Post write-below-Inv-loop write-below-μ-loop
-write-below-loop-holds t c = search writing-start
+write-below-loop-holds t c = search (writing-start, walk-count)
 
-write-below-child-at-requires : (t : ℕ) → write-below-lts.Need-child-at-requires (
+write-below-child-requires : (t : ℕ) → write-below-lts.Need-child-requires (
   part-at-reads.Asked,
   part-at-reads.Learnt,
   write-leaf-reads.Asked,
   write-leaf-reads.Learnt,
-  count-at-reads.Asked,
-  count-at-reads.Learnt,
-  child-at-reads.Asked,
-  child-at-reads.Learnt,
+  node-at-reads.Asked,
+  node-at-reads.Learnt,
+  child-reads.Asked,
+  child-reads.Learnt,
   polygon-meets-reads.Asked,
   polygon-meets-reads.Learnt,
   write-below-below t,
   write-below.Post,
 ) (write-below-at t) write-below.Post write-below-Inv-loop write-below-μ-loop
-write-below-child-at-requires t c κs = search needs
+write-below-child-requires t c κs = search walk-nine
 
 write-below-polygon-meets-requires : (t : ℕ) → write-below-lts.Need-polygon-meets-requires (
   part-at-reads.Asked,
   part-at-reads.Learnt,
   write-leaf-reads.Asked,
   write-leaf-reads.Learnt,
-  count-at-reads.Asked,
-  count-at-reads.Learnt,
-  child-at-reads.Asked,
-  child-at-reads.Learnt,
+  node-at-reads.Asked,
+  node-at-reads.Learnt,
+  child-reads.Asked,
+  child-reads.Learnt,
   polygon-meets-reads.Asked,
   polygon-meets-reads.Learnt,
   write-below-below t,
   write-below.Post,
 ) (write-below-at t) write-below.Post write-below-Inv-loop write-below-μ-loop
-write-below-polygon-meets-requires t c κs = search child-polygon
+write-below-polygon-meets-requires t c κs = search (child-polygon, walk-child)
 
 write-below-sub-write-below : (t : ℕ) → write-below-lts.Need-sub-write-below (
   part-at-reads.Asked,
   part-at-reads.Learnt,
   write-leaf-reads.Asked,
   write-leaf-reads.Learnt,
-  count-at-reads.Asked,
-  count-at-reads.Learnt,
-  child-at-reads.Asked,
-  child-at-reads.Learnt,
+  node-at-reads.Asked,
+  node-at-reads.Learnt,
+  child-reads.Asked,
+  child-reads.Learnt,
   polygon-meets-reads.Asked,
   polygon-meets-reads.Learnt,
   write-below-below t,
@@ -200,42 +201,42 @@ write-below-write-below-requires : (t : ℕ) → write-below-lts.Need-write-belo
   part-at-reads.Learnt,
   write-leaf-reads.Asked,
   write-leaf-reads.Learnt,
-  count-at-reads.Asked,
-  count-at-reads.Learnt,
-  child-at-reads.Asked,
-  child-at-reads.Learnt,
+  node-at-reads.Asked,
+  node-at-reads.Learnt,
+  child-reads.Asked,
+  child-reads.Learnt,
   polygon-meets-reads.Asked,
   polygon-meets-reads.Learnt,
   write-below-below t,
   write-below.Post,
 ) (write-below-at t) write-below.Post write-below-Inv-loop write-below-μ-loop
-write-below-write-below-requires t c κs = (omega arith, search writing-room)
+write-below-write-below-requires t c κs = (omega arith, search (writing-room, walk-child))
 
 write-below-add-low : (t : ℕ) → write-below-lts.Need-add-low (
   part-at-reads.Asked,
   part-at-reads.Learnt,
   write-leaf-reads.Asked,
   write-leaf-reads.Learnt,
-  count-at-reads.Asked,
-  count-at-reads.Learnt,
-  child-at-reads.Asked,
-  child-at-reads.Learnt,
+  node-at-reads.Asked,
+  node-at-reads.Learnt,
+  child-reads.Asked,
+  child-reads.Learnt,
   polygon-meets-reads.Asked,
   polygon-meets-reads.Learnt,
   write-below-below t,
   write-below.Post,
 ) (write-below-at t) write-below.Post write-below-Inv-loop write-below-μ-loop
-write-below-add-low t c = search child-fits
+write-below-add-low t c = search (child-fits, walk-child)
 
 write-below-add-i : (t : ℕ) → write-below-lts.Need-add-i (
   part-at-reads.Asked,
   part-at-reads.Learnt,
   write-leaf-reads.Asked,
   write-leaf-reads.Learnt,
-  count-at-reads.Asked,
-  count-at-reads.Learnt,
-  child-at-reads.Asked,
-  child-at-reads.Learnt,
+  node-at-reads.Asked,
+  node-at-reads.Learnt,
+  child-reads.Asked,
+  child-reads.Learnt,
   polygon-meets-reads.Asked,
   polygon-meets-reads.Learnt,
   write-below-below t,
@@ -248,10 +249,10 @@ write-below-loop-less : (t : ℕ) → write-below-lts.Need-loop-less (
   part-at-reads.Learnt,
   write-leaf-reads.Asked,
   write-leaf-reads.Learnt,
-  count-at-reads.Asked,
-  count-at-reads.Learnt,
-  child-at-reads.Asked,
-  child-at-reads.Learnt,
+  node-at-reads.Asked,
+  node-at-reads.Learnt,
+  child-reads.Asked,
+  child-reads.Learnt,
   polygon-meets-reads.Asked,
   polygon-meets-reads.Learnt,
   write-below-below t,
@@ -264,26 +265,26 @@ write-below-loop-again : (t : ℕ) → write-below-lts.Need-loop-again (
   part-at-reads.Learnt,
   write-leaf-reads.Asked,
   write-leaf-reads.Learnt,
-  count-at-reads.Asked,
-  count-at-reads.Learnt,
-  child-at-reads.Asked,
-  child-at-reads.Learnt,
+  node-at-reads.Asked,
+  node-at-reads.Learnt,
+  child-reads.Asked,
+  child-reads.Learnt,
   polygon-meets-reads.Asked,
   polygon-meets-reads.Learnt,
   write-below-below t,
   write-below.Post,
 ) (write-below-at t) write-below.Post write-below-Inv-loop write-below-μ-loop
-write-below-loop-again t c = ⊎-elim (λ x. search writing-hit) (λ x. search writing-miss) (c .if2 .came)
+write-below-loop-again t c = ⊎-elim (λ x. search (writing-hit, walk-child)) (λ x. search (writing-miss, walk-child)) (c .if2 .came)
 
 write-below-same-length-2 : (t : ℕ) → write-below-lts.Need-same-length-2 (
   part-at-reads.Asked,
   part-at-reads.Learnt,
   write-leaf-reads.Asked,
   write-leaf-reads.Learnt,
-  count-at-reads.Asked,
-  count-at-reads.Learnt,
-  child-at-reads.Asked,
-  child-at-reads.Learnt,
+  node-at-reads.Asked,
+  node-at-reads.Learnt,
+  child-reads.Asked,
+  child-reads.Learnt,
   polygon-meets-reads.Asked,
   polygon-meets-reads.Learnt,
   write-below-below t,
@@ -296,10 +297,10 @@ write-below-returns-2 : (t : ℕ) → write-below-lts.Need-returns-2 (
   part-at-reads.Learnt,
   write-leaf-reads.Asked,
   write-leaf-reads.Learnt,
-  count-at-reads.Asked,
-  count-at-reads.Learnt,
-  child-at-reads.Asked,
-  child-at-reads.Learnt,
+  node-at-reads.Asked,
+  node-at-reads.Learnt,
+  child-reads.Asked,
+  child-reads.Learnt,
   polygon-meets-reads.Asked,
   polygon-meets-reads.Learnt,
   write-below-below t,
@@ -313,10 +314,10 @@ pub +write-below-spec : {M : Type 1} → statement M
   part-at-reads.Learnt,
   write-leaf-reads.Asked,
   write-leaf-reads.Learnt,
-  count-at-reads.Asked,
-  count-at-reads.Learnt,
-  child-at-reads.Asked,
-  child-at-reads.Learnt,
+  node-at-reads.Asked,
+  node-at-reads.Learnt,
+  child-reads.Asked,
+  child-reads.Learnt,
   polygon-meets-reads.Asked,
   polygon-meets-reads.Learnt,
   write-below-below t,
@@ -330,10 +331,10 @@ pub +write-below-spec : {M : Type 1} → statement M
     (write-below-write-leaf-requires t)
     (write-below-same-length t)
     (write-below-returns t)
-    (write-below-count-at-requires t)
+    (write-below-node-at-requires t)
     (write-below-cast-n t)
     (write-below-loop-holds t)
-    (write-below-child-at-requires t)
+    (write-below-child-requires t)
     (write-below-polygon-meets-requires t)
     (write-below-sub-write-below t)
     (write-below-write-below-requires t)

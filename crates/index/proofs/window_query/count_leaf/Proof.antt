@@ -1,18 +1,19 @@
+-- `window_query::count_leaf` meets its contract; its loop is in WindowWalk.
 use borrow.Author.Needs.{needs}
 use Prim.Native.Nat.{_-_}
 use mathlib.Core.Logic.{⊎-elim}
-use Rattle.index.proofs.WindowWalk.{CountLeaf, count-start, count-miss, count-hit, count-end}
+use Rattle.index.proofs.WindowWalk.{CountLeaf, count-start, count-small, count-hit, count-miss, count-end}
 use Rattle.index.proofs.window_query.count_leaf.Statement.{statement}
 use Rattle.index.proofs.window_query.count_leaf.Tie as tie
 
 abbrev Inv-loop : tie.InvT-loop
-Inv-loop p w n matches₀ i₀ matches i = CountLeaf w p n i matches
+Inv-loop p w leaf n matches₀ i₀ matches i = CountLeaf w p n i matches
 
 abbrev μ-loop : tie.MeasureT-loop
-μ-loop p w n matches₀ i₀ matches i = n - i
+μ-loop p w leaf n matches₀ i₀ matches i = n - i
 
-item-count-requires : tie.Need-item-count-requires Inv-loop μ-loop
-item-count-requires c κs = search needs
+load-requires : tie.Need-load-requires Inv-loop μ-loop
+load-requires c κs = search needs
 
 cast-n : tie.Need-cast-n Inv-loop μ-loop
 cast-n c = search needs
@@ -21,7 +22,7 @@ loop-holds : tie.Need-loop-holds Inv-loop μ-loop
 loop-holds c = search count-start
 
 is-inside-requires : tie.Need-is-inside-requires Inv-loop μ-loop
-is-inside-requires c κs = search needs
+is-inside-requires c κs = search count-small
 
 add-matches : tie.Need-add-matches Inv-loop μ-loop
 add-matches c = search needs
@@ -44,7 +45,7 @@ count-leaf-spec =
     (tie.spec
     Inv-loop
     μ-loop
-    item-count-requires
+    load-requires
     cast-n
     loop-holds
     is-inside-requires

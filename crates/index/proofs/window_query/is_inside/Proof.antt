@@ -1,10 +1,11 @@
+-- `window_query::is_inside` meets its contract.
 use Rattle.index.proofs.WindowWalk.{inside-is}
 use borrow.Author.Needs.{needs}
 use Rattle.index.proofs.window_query.is_inside.Statement.{statement}
 use Rattle.index.proofs.window_query.is_inside.Tie as tie
 
-entry-cell-requires : tie.Need-entry-cell-requires
-entry-cell-requires c κs = search needs
+cell-requires : tie.Need-cell-requires
+cell-requires c κs = search needs
 
 has-cell-requires : tie.Need-has-cell-requires
 has-cell-requires c κs = search needs
@@ -13,4 +14,4 @@ returns : tie.Need-returns
 returns c = search inside-is
 
 pub is-inside-spec : {M : Type 1} → statement M
-is-inside-spec = tie.close (tie.spec entry-cell-requires has-cell-requires returns)
+is-inside-spec = tie.close (tie.spec cell-requires has-cell-requires returns)

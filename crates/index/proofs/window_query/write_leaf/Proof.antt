@@ -1,18 +1,19 @@
+-- `window_query::write_leaf` meets its contract; its loop is in WindowWrite.
 use borrow.Author.Needs.{needs}
 use Prim.Native.Nat.{_-_}
 use mathlib.Core.Logic.{⊎-elim}
-use Rattle.index.proofs.WindowWrite.{WriteLeaf, write-start, write-room, write-miss, write-hit, write-end}
+use Rattle.index.proofs.WindowWrite.{WriteLeaf, write-start, write-small, write-nine, write-room, write-hit, write-miss, write-end}
 use Rattle.index.proofs.window_query.write_leaf.Statement.{statement}
 use Rattle.index.proofs.window_query.write_leaf.Tie as tie
 
 abbrev Inv-loop : tie.InvT-loop
-Inv-loop p w list₀ at n next₀ i₀ list next i = WriteLeaf w p n list₀ at i list next
+Inv-loop p w list₀ at leaf n next₀ i₀ list next i = WriteLeaf w p n list₀ at i list next
 
 abbrev μ-loop : tie.MeasureT-loop
-μ-loop p w list₀ at n next₀ i₀ list next i = n - i
+μ-loop p w list₀ at leaf n next₀ i₀ list next i = n - i
 
-item-count-requires : tie.Need-item-count-requires Inv-loop μ-loop
-item-count-requires c κs = search needs
+load-requires : tie.Need-load-requires Inv-loop μ-loop
+load-requires c κs = search needs
 
 cast-n : tie.Need-cast-n Inv-loop μ-loop
 cast-n c = search needs
@@ -21,10 +22,16 @@ loop-holds : tie.Need-loop-holds Inv-loop μ-loop
 loop-holds c = search write-start
 
 is-inside-requires : tie.Need-is-inside-requires Inv-loop μ-loop
-is-inside-requires c κs = search needs
+is-inside-requires c κs = search write-small
 
-copy-entry-requires : tie.Need-copy-entry-requires Inv-loop μ-loop
-copy-entry-requires c κs = (search needs, search needs, search write-room)
+cell-requires : tie.Need-cell-requires Inv-loop μ-loop
+cell-requires c κs = search write-nine
+
+tag-requires : tie.Need-tag-requires Inv-loop μ-loop
+tag-requires c κs = search write-nine
+
+put-entry-requires : tie.Need-put-entry-requires Inv-loop μ-loop
+put-entry-requires c κs = search write-room
 
 add-next : tie.Need-add-next Inv-loop μ-loop
 add-next c = search needs
@@ -50,11 +57,13 @@ write-leaf-spec =
     (tie.spec
     Inv-loop
     μ-loop
-    item-count-requires
+    load-requires
     cast-n
     loop-holds
     is-inside-requires
-    copy-entry-requires
+    cell-requires
+    tag-requires
+    put-entry-requires
     add-next
     add-i
     loop-less

@@ -4,7 +4,6 @@ use native.Mathlib.Omega.{arith}
 use borrow.Author.Needs.{needs}
 use lib.ListN.{length-set}
 use Rattle.layout.specs.Items.{putEntry}
-use Rattle.layout.proofs.ItemLaws.{entry-put}
 use Rattle.layout.proofs.items.put_entry.Statement.{statement}
 use Rattle.layout.proofs.items.put_entry.Tie as tie
 
@@ -40,7 +39,7 @@ same-length c = search needs
 
 returns : tie.Need-returns
 unfolding putEntry
-returns c = (refl, search entry-put)
+returns c = refl
 
 pub put-entry-spec : {M : Type 1} → statement M
 put-entry-spec =

@@ -2,18 +2,21 @@
 use Prim.Native.Nat.{_-_}
 use borrow.Author.Needs.{needs}
 use Rattle.layout.specs.Nodes.{countAt}
-use Rattle.removal.proofs.PlaceLoops.{SeekChild, seek-child-start, seek-polygon, seek-fits, seek-child-few, seek-child-again, seek-child-found}
+use Rattle.removal.proofs.PlaceLoops.{SeekChild, seek-child-start, seek-polygon, seek-fits, seek-child-nine, seek-child-again, seek-child-found}
 use Rattle.removal.proofs.place.child_place.Statement.{statement}
 use Rattle.removal.proofs.place.child_place.Tie as tie
 
 abbrev Inv-loop : tie.InvT-loop
-Inv-loop m lo k c at₀ low₀ part₀ at low part = SeekChild m lo k c at low part
+Inv-loop m lo k c node at₀ low₀ part₀ at low part = SeekChild m lo k c at low part
 
 abbrev μ-loop : tie.MeasureT-loop
-μ-loop m lo k c at₀ low₀ part₀ at low part = countAt m k - at
+μ-loop m lo k c node at₀ low₀ part₀ at low part = countAt m k - at
 
-child-at-requires : tie.Need-child-at-requires Inv-loop μ-loop
-child-at-requires c κs = search needs
+node-at-requires : tie.Need-node-at-requires Inv-loop μ-loop
+node-at-requires c κs = search needs
+
+child-requires : tie.Need-child-requires Inv-loop μ-loop
+child-requires c κs = search needs
 
 loop-holds : tie.Need-loop-holds Inv-loop μ-loop
 loop-holds c = search seek-child-start
@@ -27,8 +30,8 @@ add-at c = search needs
 add-low : tie.Need-add-low Inv-loop μ-loop
 add-low c = search seek-fits
 
-child-at-requires-2 : tie.Need-child-at-requires-2 Inv-loop μ-loop
-child-at-requires-2 c κs = (search needs, search seek-child-few)
+child-requires-2 : tie.Need-child-requires-2 Inv-loop μ-loop
+child-requires-2 c κs = search seek-child-nine
 
 loop-less : tie.Need-loop-less Inv-loop μ-loop
 loop-less c = search needs
@@ -45,12 +48,13 @@ child-place-spec =
     (tie.spec
     Inv-loop
     μ-loop
-    child-at-requires
+    node-at-requires
+    child-requires
     loop-holds
     polygon-has-requires
     add-at
     add-low
-    child-at-requires-2
+    child-requires-2
     loop-less
     loop-again
     returns)

@@ -7,10 +7,13 @@ use Rattle.removal.proofs.place.entry_place.Statement.{statement}
 use Rattle.removal.proofs.place.entry_place.Tie as tie
 
 abbrev Inv-loop : tie.InvT-loop
-Inv-loop p c i₀ i = SeekEntry p c i
+Inv-loop p c leaf i₀ i = SeekEntry p c i
 
 abbrev μ-loop : tie.MeasureT-loop
-μ-loop p c i₀ i = itemCount p - i
+μ-loop p c leaf i₀ i = itemCount p - i
+
+load-requires : tie.Need-load-requires Inv-loop μ-loop
+load-requires c κs = search needs
 
 loop-holds : tie.Need-loop-holds Inv-loop μ-loop
 loop-holds c = search seek-start
@@ -33,4 +36,13 @@ returns c = search seek-found
 pub entry-place-spec : {M : Type 1} → statement M
 entry-place-spec =
     tie.close
-    (tie.spec Inv-loop μ-loop loop-holds is-of-cell-requires add-i loop-less loop-again returns)
+    (tie.spec
+    Inv-loop
+    μ-loop
+    load-requires
+    loop-holds
+    is-of-cell-requires
+    add-i
+    loop-less
+    loop-again
+    returns)

@@ -2,29 +2,30 @@
 use Prim.Native.Nat.{_-_}
 use borrow.Author.Needs.{needs}
 use Rattle.split_line.proofs.SumLaws.{AtSum, sum-start, sum-small, sum-again, sum-last, sum-end}
+use Rattle.layout.proofs.LoadedLaws.{loaded-count, part-nine, part-cell}
 use Rattle.split_line.proofs.leaf.leaf_sums.Statement.{statement}
 use Rattle.split_line.proofs.leaf.leaf_sums.Tie as tie
 
 abbrev Inv-loop : tie.InvT-loop
-Inv-loop p c n sums₀ i₀ sums i = AtSum p c n i sums
+Inv-loop p c leaf n sums₀ i₀ sums i = AtSum p c n i sums
 
 abbrev μ-loop : tie.MeasureT-loop
-μ-loop p c n sums₀ i₀ sums i = n - i
+μ-loop p c leaf n sums₀ i₀ sums i = n - i
 
-item-count-requires : tie.Need-item-count-requires Inv-loop μ-loop
-item-count-requires c κs = search needs
+load-requires : tie.Need-load-requires Inv-loop μ-loop
+load-requires c κs = search needs
 
 cast-n : tie.Need-cast-n Inv-loop μ-loop
 cast-n c = search needs
 
 loop-holds : tie.Need-loop-holds Inv-loop μ-loop
-loop-holds c = search sum-start
+loop-holds c = search (sum-start, loaded-count)
 
-entry-cell-requires : tie.Need-entry-cell-requires Inv-loop μ-loop
-entry-cell-requires c κs = search needs
+cell-requires : tie.Need-cell-requires Inv-loop μ-loop
+cell-requires c κs = search part-nine
 
 add-requires : tie.Need-add-requires Inv-loop μ-loop
-add-requires c κs = search sum-small
+add-requires c κs = search (sum-small, part-cell)
 
 add-i : tie.Need-add-i Inv-loop μ-loop
 add-i c = search needs
@@ -33,7 +34,7 @@ loop-less : tie.Need-loop-less Inv-loop μ-loop
 loop-less c = search needs
 
 loop-again : tie.Need-loop-again Inv-loop μ-loop
-loop-again c = search sum-again
+loop-again c = search (sum-again, part-cell)
 
 add-requires-2 : tie.Need-add-requires-2 Inv-loop μ-loop
 add-requires-2 c κs = search sum-last
@@ -47,10 +48,10 @@ leaf-sums-spec =
     (tie.spec
     Inv-loop
     μ-loop
-    item-count-requires
+    load-requires
     cast-n
     loop-holds
-    entry-cell-requires
+    cell-requires
     add-requires
     add-i
     loop-less

@@ -2,35 +2,36 @@
 use Prim.Native.Nat.{_-_}
 use borrow.Author.Needs.{needs}
 use Rattle.split_line.proofs.GroupLoop.{AtBranch, branch-start, branch-here, branch-fits, branch-again, branch-end}
+use Rattle.index.proofs.WalkNode.{walk-count, walk-nine, walk-child}
 use Rattle.split_line.proofs.node.put_bounds.Statement.{statement}
 use Rattle.split_line.proofs.node.put_bounds.Tie as tie
 
 abbrev Inv-loop : tie.InvT-loop
-Inv-loop m level lo k place below c list₀ n next₀ low₀ i₀ list next low i = AtBranch (level - 1) m level lo k place below c n i low list next
+Inv-loop m level lo k place below c list₀ node n next₀ low₀ i₀ list next low i = AtBranch (level - 1) m level lo k place below c n i low list next
 
 abbrev μ-loop : tie.MeasureT-loop
-μ-loop m level lo k place below c list₀ n next₀ low₀ i₀ list next low i = n - i
+μ-loop m level lo k place below c list₀ node n next₀ low₀ i₀ list next low i = n - i
 
-count-at-requires : tie.Need-count-at-requires Inv-loop μ-loop
-count-at-requires c κs = search needs
+node-at-requires : tie.Need-node-at-requires Inv-loop μ-loop
+node-at-requires c κs = search needs
 
 loop-holds : tie.Need-loop-holds Inv-loop μ-loop
-loop-holds c = search branch-start
+loop-holds c = search (branch-start, walk-count)
 
-cast-child-at : tie.Need-cast-child-at Inv-loop μ-loop
-cast-child-at c = search needs
+cast-child : tie.Need-cast-child Inv-loop μ-loop
+cast-child c = search needs
 
-child-at-requires : tie.Need-child-at-requires Inv-loop μ-loop
-child-at-requires c κs = search needs
+child-requires : tie.Need-child-requires Inv-loop μ-loop
+child-requires c κs = search walk-nine
 
 sub-put-branch : tie.Need-sub-put-branch Inv-loop μ-loop
 sub-put-branch c = search needs
 
 put-branch-requires : tie.Need-put-branch-requires Inv-loop μ-loop
-put-branch-requires c κs = search branch-here
+put-branch-requires c κs = search (branch-here, walk-child)
 
 add-low : tie.Need-add-low Inv-loop μ-loop
-add-low c = search branch-fits
+add-low c = search (branch-fits, walk-child)
 
 add-i : tie.Need-add-i Inv-loop μ-loop
 add-i c = search needs
@@ -39,7 +40,7 @@ loop-less : tie.Need-loop-less Inv-loop μ-loop
 loop-less c = search needs
 
 loop-again : tie.Need-loop-again Inv-loop μ-loop
-loop-again c = search branch-again
+loop-again c = search (branch-again, walk-child)
 
 same-length : tie.Need-same-length Inv-loop μ-loop
 same-length c = search needs
@@ -53,10 +54,10 @@ put-bounds-spec =
     (tie.spec
     Inv-loop
     μ-loop
-    count-at-requires
+    node-at-requires
     loop-holds
-    cast-child-at
-    child-at-requires
+    cast-child
+    child-requires
     sub-put-branch
     put-branch-requires
     add-low

@@ -4,13 +4,14 @@ use native.Mathlib.Omega.{arith}
 use borrow.Author.Needs.{needs}
 use Rattle.index.proofs.WalkLoop.{child-fits}
 use Rattle.split_line.proofs.ReachWalk.{ReachLoop, reach-leaf, reach-of-leaf, reach-start, reach-child, reach-again, reach-end}
+use Rattle.index.proofs.WalkNode.{walk-count, walk-nine, walk-child}
 use borrow.Fn.Kinds.{In}
 use borrow.Fn.PlainCycle.{Measures, is, falls, and}
 use Rattle.split_line.proofs.reach.reach_under.Reads as reach-under
 use Rattle.split_line.proofs.reach.reach_under.Kinds as reach-under-kinds
 use Rattle.split_line.proofs.reach.+reach_under.Lts-reach_under as reach-under-lts
-use Rattle.layout.proofs.child_at.Reads as child-at-reads
-use Rattle.layout.proofs.count_at.Reads as count-at-reads
+use Rattle.layout.proofs.node.Node.child.Reads as child-reads
+use Rattle.layout.proofs.node_at.Reads as node-at-reads
 use Rattle.layout.proofs.part_at.Reads as part-at-reads
 use Rattle.split_line.proofs.reach.Reach.empty.Reads as empty-reads
 use Rattle.split_line.proofs.reach.Reach.join.Reads as join-reads
@@ -30,22 +31,22 @@ reach-under-below t =
     and 2 reach-under-kinds.ps (falls 2 reach-under-kinds.ps _<_ μ-reach-under t) reach-under.Pre
 
 abbrev reach-under-Inv-loop : reach-under-lts.InvT-loop
-reach-under-Inv-loop m level lo k sides n reach₀ low₀ i₀ reach low i = ReachLoop sides level m lo k n i low reach
+reach-under-Inv-loop m level lo k sides node n reach₀ low₀ i₀ reach low i = ReachLoop sides level m lo k n i low reach
 
 abbrev reach-under-μ-loop : reach-under-lts.MeasureT-loop
-reach-under-μ-loop m level lo k sides n reach₀ low₀ i₀ reach low i = n - i
+reach-under-μ-loop m level lo k sides node n reach₀ low₀ i₀ reach low i = n - i
 
 reach-under-part-at-requires : (t : ℕ) → reach-under-lts.Need-part-at-requires (
   part-at-reads.Asked,
   part-at-reads.Learnt,
   reach-in-leaf-reads.Asked,
   reach-in-leaf-reads.Learnt,
-  count-at-reads.Asked,
-  count-at-reads.Learnt,
+  node-at-reads.Asked,
+  node-at-reads.Learnt,
   empty-reads.Asked,
   empty-reads.Learnt,
-  child-at-reads.Asked,
-  child-at-reads.Learnt,
+  child-reads.Asked,
+  child-reads.Learnt,
   reach-under-below t,
   reach-under.Post,
   join-reads.Asked,
@@ -58,12 +59,12 @@ reach-under-reach-in-leaf-requires : (t : ℕ) → reach-under-lts.Need-reach-in
   part-at-reads.Learnt,
   reach-in-leaf-reads.Asked,
   reach-in-leaf-reads.Learnt,
-  count-at-reads.Asked,
-  count-at-reads.Learnt,
+  node-at-reads.Asked,
+  node-at-reads.Learnt,
   empty-reads.Asked,
   empty-reads.Learnt,
-  child-at-reads.Asked,
-  child-at-reads.Learnt,
+  child-reads.Asked,
+  child-reads.Learnt,
   reach-under-below t,
   reach-under.Post,
   join-reads.Asked,
@@ -76,12 +77,12 @@ reach-under-returns : (t : ℕ) → reach-under-lts.Need-returns (
   part-at-reads.Learnt,
   reach-in-leaf-reads.Asked,
   reach-in-leaf-reads.Learnt,
-  count-at-reads.Asked,
-  count-at-reads.Learnt,
+  node-at-reads.Asked,
+  node-at-reads.Learnt,
   empty-reads.Asked,
   empty-reads.Learnt,
-  child-at-reads.Asked,
-  child-at-reads.Learnt,
+  child-reads.Asked,
+  child-reads.Learnt,
   reach-under-below t,
   reach-under.Post,
   join-reads.Asked,
@@ -89,35 +90,35 @@ reach-under-returns : (t : ℕ) → reach-under-lts.Need-returns (
 ) (reach-under-at t) reach-under.Post reach-under-Inv-loop reach-under-μ-loop
 reach-under-returns t c = search reach-of-leaf
 
-reach-under-count-at-requires : (t : ℕ) → reach-under-lts.Need-count-at-requires (
+reach-under-node-at-requires : (t : ℕ) → reach-under-lts.Need-node-at-requires (
   part-at-reads.Asked,
   part-at-reads.Learnt,
   reach-in-leaf-reads.Asked,
   reach-in-leaf-reads.Learnt,
-  count-at-reads.Asked,
-  count-at-reads.Learnt,
+  node-at-reads.Asked,
+  node-at-reads.Learnt,
   empty-reads.Asked,
   empty-reads.Learnt,
-  child-at-reads.Asked,
-  child-at-reads.Learnt,
+  child-reads.Asked,
+  child-reads.Learnt,
   reach-under-below t,
   reach-under.Post,
   join-reads.Asked,
   join-reads.Learnt,
 ) (reach-under-at t) reach-under.Post reach-under-Inv-loop reach-under-μ-loop
-reach-under-count-at-requires t c κs = search needs
+reach-under-node-at-requires t c κs = search needs
 
 reach-under-cast-n : (t : ℕ) → reach-under-lts.Need-cast-n (
   part-at-reads.Asked,
   part-at-reads.Learnt,
   reach-in-leaf-reads.Asked,
   reach-in-leaf-reads.Learnt,
-  count-at-reads.Asked,
-  count-at-reads.Learnt,
+  node-at-reads.Asked,
+  node-at-reads.Learnt,
   empty-reads.Asked,
   empty-reads.Learnt,
-  child-at-reads.Asked,
-  child-at-reads.Learnt,
+  child-reads.Asked,
+  child-reads.Learnt,
   reach-under-below t,
   reach-under.Post,
   join-reads.Asked,
@@ -130,12 +131,12 @@ reach-under-empty-requires : (t : ℕ) → reach-under-lts.Need-empty-requires (
   part-at-reads.Learnt,
   reach-in-leaf-reads.Asked,
   reach-in-leaf-reads.Learnt,
-  count-at-reads.Asked,
-  count-at-reads.Learnt,
+  node-at-reads.Asked,
+  node-at-reads.Learnt,
   empty-reads.Asked,
   empty-reads.Learnt,
-  child-at-reads.Asked,
-  child-at-reads.Learnt,
+  child-reads.Asked,
+  child-reads.Learnt,
   reach-under-below t,
   reach-under.Post,
   join-reads.Asked,
@@ -148,48 +149,48 @@ reach-under-loop-holds : (t : ℕ) → reach-under-lts.Need-loop-holds (
   part-at-reads.Learnt,
   reach-in-leaf-reads.Asked,
   reach-in-leaf-reads.Learnt,
-  count-at-reads.Asked,
-  count-at-reads.Learnt,
+  node-at-reads.Asked,
+  node-at-reads.Learnt,
   empty-reads.Asked,
   empty-reads.Learnt,
-  child-at-reads.Asked,
-  child-at-reads.Learnt,
+  child-reads.Asked,
+  child-reads.Learnt,
   reach-under-below t,
   reach-under.Post,
   join-reads.Asked,
   join-reads.Learnt,
 ) (reach-under-at t) reach-under.Post reach-under-Inv-loop reach-under-μ-loop
-reach-under-loop-holds t c = search reach-start
+reach-under-loop-holds t c = search (reach-start, walk-count)
 
-reach-under-child-at-requires : (t : ℕ) → reach-under-lts.Need-child-at-requires (
+reach-under-child-requires : (t : ℕ) → reach-under-lts.Need-child-requires (
   part-at-reads.Asked,
   part-at-reads.Learnt,
   reach-in-leaf-reads.Asked,
   reach-in-leaf-reads.Learnt,
-  count-at-reads.Asked,
-  count-at-reads.Learnt,
+  node-at-reads.Asked,
+  node-at-reads.Learnt,
   empty-reads.Asked,
   empty-reads.Learnt,
-  child-at-reads.Asked,
-  child-at-reads.Learnt,
+  child-reads.Asked,
+  child-reads.Learnt,
   reach-under-below t,
   reach-under.Post,
   join-reads.Asked,
   join-reads.Learnt,
 ) (reach-under-at t) reach-under.Post reach-under-Inv-loop reach-under-μ-loop
-reach-under-child-at-requires t c κs = search needs
+reach-under-child-requires t c κs = search walk-nine
 
 reach-under-sub-reach-under : (t : ℕ) → reach-under-lts.Need-sub-reach-under (
   part-at-reads.Asked,
   part-at-reads.Learnt,
   reach-in-leaf-reads.Asked,
   reach-in-leaf-reads.Learnt,
-  count-at-reads.Asked,
-  count-at-reads.Learnt,
+  node-at-reads.Asked,
+  node-at-reads.Learnt,
   empty-reads.Asked,
   empty-reads.Learnt,
-  child-at-reads.Asked,
-  child-at-reads.Learnt,
+  child-reads.Asked,
+  child-reads.Learnt,
   reach-under-below t,
   reach-under.Post,
   join-reads.Asked,
@@ -202,30 +203,30 @@ reach-under-reach-under-requires : (t : ℕ) → reach-under-lts.Need-reach-unde
   part-at-reads.Learnt,
   reach-in-leaf-reads.Asked,
   reach-in-leaf-reads.Learnt,
-  count-at-reads.Asked,
-  count-at-reads.Learnt,
+  node-at-reads.Asked,
+  node-at-reads.Learnt,
   empty-reads.Asked,
   empty-reads.Learnt,
-  child-at-reads.Asked,
-  child-at-reads.Learnt,
+  child-reads.Asked,
+  child-reads.Learnt,
   reach-under-below t,
   reach-under.Post,
   join-reads.Asked,
   join-reads.Learnt,
 ) (reach-under-at t) reach-under.Post reach-under-Inv-loop reach-under-μ-loop
-reach-under-reach-under-requires t c κs = (omega arith, search reach-child)
+reach-under-reach-under-requires t c κs = (omega arith, search (reach-child, walk-child))
 
 reach-under-join-requires : (t : ℕ) → reach-under-lts.Need-join-requires (
   part-at-reads.Asked,
   part-at-reads.Learnt,
   reach-in-leaf-reads.Asked,
   reach-in-leaf-reads.Learnt,
-  count-at-reads.Asked,
-  count-at-reads.Learnt,
+  node-at-reads.Asked,
+  node-at-reads.Learnt,
   empty-reads.Asked,
   empty-reads.Learnt,
-  child-at-reads.Asked,
-  child-at-reads.Learnt,
+  child-reads.Asked,
+  child-reads.Learnt,
   reach-under-below t,
   reach-under.Post,
   join-reads.Asked,
@@ -238,30 +239,30 @@ reach-under-add-low : (t : ℕ) → reach-under-lts.Need-add-low (
   part-at-reads.Learnt,
   reach-in-leaf-reads.Asked,
   reach-in-leaf-reads.Learnt,
-  count-at-reads.Asked,
-  count-at-reads.Learnt,
+  node-at-reads.Asked,
+  node-at-reads.Learnt,
   empty-reads.Asked,
   empty-reads.Learnt,
-  child-at-reads.Asked,
-  child-at-reads.Learnt,
+  child-reads.Asked,
+  child-reads.Learnt,
   reach-under-below t,
   reach-under.Post,
   join-reads.Asked,
   join-reads.Learnt,
 ) (reach-under-at t) reach-under.Post reach-under-Inv-loop reach-under-μ-loop
-reach-under-add-low t c = search child-fits
+reach-under-add-low t c = search (child-fits, walk-child)
 
 reach-under-add-i : (t : ℕ) → reach-under-lts.Need-add-i (
   part-at-reads.Asked,
   part-at-reads.Learnt,
   reach-in-leaf-reads.Asked,
   reach-in-leaf-reads.Learnt,
-  count-at-reads.Asked,
-  count-at-reads.Learnt,
+  node-at-reads.Asked,
+  node-at-reads.Learnt,
   empty-reads.Asked,
   empty-reads.Learnt,
-  child-at-reads.Asked,
-  child-at-reads.Learnt,
+  child-reads.Asked,
+  child-reads.Learnt,
   reach-under-below t,
   reach-under.Post,
   join-reads.Asked,
@@ -274,12 +275,12 @@ reach-under-loop-less : (t : ℕ) → reach-under-lts.Need-loop-less (
   part-at-reads.Learnt,
   reach-in-leaf-reads.Asked,
   reach-in-leaf-reads.Learnt,
-  count-at-reads.Asked,
-  count-at-reads.Learnt,
+  node-at-reads.Asked,
+  node-at-reads.Learnt,
   empty-reads.Asked,
   empty-reads.Learnt,
-  child-at-reads.Asked,
-  child-at-reads.Learnt,
+  child-reads.Asked,
+  child-reads.Learnt,
   reach-under-below t,
   reach-under.Post,
   join-reads.Asked,
@@ -292,30 +293,30 @@ reach-under-loop-again : (t : ℕ) → reach-under-lts.Need-loop-again (
   part-at-reads.Learnt,
   reach-in-leaf-reads.Asked,
   reach-in-leaf-reads.Learnt,
-  count-at-reads.Asked,
-  count-at-reads.Learnt,
+  node-at-reads.Asked,
+  node-at-reads.Learnt,
   empty-reads.Asked,
   empty-reads.Learnt,
-  child-at-reads.Asked,
-  child-at-reads.Learnt,
+  child-reads.Asked,
+  child-reads.Learnt,
   reach-under-below t,
   reach-under.Post,
   join-reads.Asked,
   join-reads.Learnt,
 ) (reach-under-at t) reach-under.Post reach-under-Inv-loop reach-under-μ-loop
-reach-under-loop-again t c = search reach-again
+reach-under-loop-again t c = search (reach-again, walk-child)
 
 reach-under-returns-2 : (t : ℕ) → reach-under-lts.Need-returns-2 (
   part-at-reads.Asked,
   part-at-reads.Learnt,
   reach-in-leaf-reads.Asked,
   reach-in-leaf-reads.Learnt,
-  count-at-reads.Asked,
-  count-at-reads.Learnt,
+  node-at-reads.Asked,
+  node-at-reads.Learnt,
   empty-reads.Asked,
   empty-reads.Learnt,
-  child-at-reads.Asked,
-  child-at-reads.Learnt,
+  child-reads.Asked,
+  child-reads.Learnt,
   reach-under-below t,
   reach-under.Post,
   join-reads.Asked,
@@ -329,12 +330,12 @@ pub +reach-under-spec : {M : Type 1} → statement M
   part-at-reads.Learnt,
   reach-in-leaf-reads.Asked,
   reach-in-leaf-reads.Learnt,
-  count-at-reads.Asked,
-  count-at-reads.Learnt,
+  node-at-reads.Asked,
+  node-at-reads.Learnt,
   empty-reads.Asked,
   empty-reads.Learnt,
-  child-at-reads.Asked,
-  child-at-reads.Learnt,
+  child-reads.Asked,
+  child-reads.Learnt,
   reach-under-below t,
   reach-under.Post,
   join-reads.Asked,
@@ -347,11 +348,11 @@ pub +reach-under-spec : {M : Type 1} → statement M
     (reach-under-part-at-requires t)
     (reach-under-reach-in-leaf-requires t)
     (reach-under-returns t)
-    (reach-under-count-at-requires t)
+    (reach-under-node-at-requires t)
     (reach-under-cast-n t)
     (reach-under-empty-requires t)
     (reach-under-loop-holds t)
-    (reach-under-child-at-requires t)
+    (reach-under-child-requires t)
     (reach-under-sub-reach-under t)
     (reach-under-reach-under-requires t)
     (reach-under-join-requires t)

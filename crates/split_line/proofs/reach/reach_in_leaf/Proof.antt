@@ -3,17 +3,18 @@ use Prim.Native.Nat.{_-_}
 use mathlib.Core.Logic.{⊎-elim}
 use borrow.Author.Needs.{needs}
 use Rattle.split_line.proofs.ReachWalk.{ReachLeaf, leaf-start, leaf-miss, leaf-grid, leaf-hit, leaf-end}
+use Rattle.layout.proofs.LoadedLaws.{loaded-count, part-nine, part-cell}
 use Rattle.split_line.proofs.reach.reach_in_leaf.Statement.{statement}
 use Rattle.split_line.proofs.reach.reach_in_leaf.Tie as tie
 
 abbrev Inv-loop : tie.InvT-loop
-Inv-loop p sides n reach₀ i₀ reach i = ReachLeaf sides p n i reach
+Inv-loop p sides leaf n reach₀ i₀ reach i = ReachLeaf sides p n i reach
 
 abbrev μ-loop : tie.MeasureT-loop
-μ-loop p sides n reach₀ i₀ reach i = n - i
+μ-loop p sides leaf n reach₀ i₀ reach i = n - i
 
-item-count-requires : tie.Need-item-count-requires Inv-loop μ-loop
-item-count-requires c κs = search needs
+load-requires : tie.Need-load-requires Inv-loop μ-loop
+load-requires c κs = search needs
 
 cast-n : tie.Need-cast-n Inv-loop μ-loop
 cast-n c = search needs
@@ -22,16 +23,16 @@ empty-requires : tie.Need-empty-requires Inv-loop μ-loop
 empty-requires c κs = search needs
 
 loop-holds : tie.Need-loop-holds Inv-loop μ-loop
-loop-holds c = search leaf-start
+loop-holds c = search (leaf-start, loaded-count)
 
-entry-cell-requires : tie.Need-entry-cell-requires Inv-loop μ-loop
-entry-cell-requires c κs = search needs
+cell-requires : tie.Need-cell-requires Inv-loop μ-loop
+cell-requires c κs = search part-nine
 
 on-all-requires : tie.Need-on-all-requires Inv-loop μ-loop
 on-all-requires c κs = search needs
 
 add-requires : tie.Need-add-requires Inv-loop μ-loop
-add-requires c κs = search leaf-grid
+add-requires c κs = search (leaf-grid, part-cell)
 
 add-i : tie.Need-add-i Inv-loop μ-loop
 add-i c = search needs
@@ -40,7 +41,7 @@ loop-less : tie.Need-loop-less Inv-loop μ-loop
 loop-less c = search needs
 
 loop-again : tie.Need-loop-again Inv-loop μ-loop
-loop-again c = ⊎-elim (λ x. search leaf-hit) (λ x. search leaf-miss) (c .if1 .came)
+loop-again c = ⊎-elim (λ x. search (leaf-hit, part-cell)) (λ x. search (leaf-miss, part-cell)) (c .if1 .came)
 
 returns : tie.Need-returns Inv-loop μ-loop
 returns c = search leaf-end
@@ -51,11 +52,11 @@ reach-in-leaf-spec =
     (tie.spec
     Inv-loop
     μ-loop
-    item-count-requires
+    load-requires
     cast-n
     empty-requires
     loop-holds
-    entry-cell-requires
+    cell-requires
     on-all-requires
     add-requires
     add-i

@@ -2,23 +2,27 @@
 use Prim.Native.Nat.{_-_}
 use borrow.Author.Needs.{needs}
 use Rattle.step2.proofs.SiblingLoop.{CuttingBy, cut-start, cut-child, cut-again, cut-over, cut-end}
+use Rattle.step2.proofs.ChildParts.{branch-nine, branch-child}
 use Rattle.step2.proofs.siblings.cut_by_children.Statement.{statement}
 use Rattle.step2.proofs.siblings.cut_by_children.Tie as tie
 
 abbrev Inv-loop : tie.InvT-loop
-Inv-loop m k from to list₀ n spare₀ left₀ i₀ list spare left i = CuttingBy m k from to list₀ n spare₀ list spare left i
+Inv-loop m k from to list₀ n spare₀ node left₀ i₀ list spare left i = CuttingBy m k from to list₀ n spare₀ list spare left i
 
 abbrev μ-loop : tie.MeasureT-loop
-μ-loop m k from to list₀ n spare₀ left₀ i₀ list spare left i = to - i
+μ-loop m k from to list₀ n spare₀ node left₀ i₀ list spare left i = to - i
+
+node-at-requires : tie.Need-node-at-requires Inv-loop μ-loop
+node-at-requires c κs = search needs
 
 loop-holds : tie.Need-loop-holds Inv-loop μ-loop
 loop-holds c = search cut-start
 
-child-at-requires : tie.Need-child-at-requires Inv-loop μ-loop
-child-at-requires c κs = search needs
+child-requires : tie.Need-child-requires Inv-loop μ-loop
+child-requires c κs = search branch-nine
 
 polygon-at-requires : tie.Need-polygon-at-requires Inv-loop μ-loop
-polygon-at-requires c κs = search cut-child
+polygon-at-requires c κs = search (cut-child, branch-child)
 
 cut-polygon-requires : tie.Need-cut-polygon-requires Inv-loop μ-loop
 cut-polygon-requires c κs = search needs
@@ -36,7 +40,7 @@ same-length-2 : tie.Need-same-length-2 Inv-loop μ-loop
 same-length-2 c = search needs
 
 returns : tie.Need-returns Inv-loop μ-loop
-returns c = (search cut-over, search needs)
+returns c = (search (cut-over, branch-child), search needs)
 
 add-i : tie.Need-add-i Inv-loop μ-loop
 add-i c = search needs
@@ -45,7 +49,7 @@ loop-less : tie.Need-loop-less Inv-loop μ-loop
 loop-less c = search needs
 
 loop-again : tie.Need-loop-again Inv-loop μ-loop
-loop-again c = search cut-again
+loop-again c = search (cut-again, branch-child)
 
 same-length-3 : tie.Need-same-length-3 Inv-loop μ-loop
 same-length-3 c = search needs
@@ -62,8 +66,9 @@ cut-by-children-spec =
     (tie.spec
     Inv-loop
     μ-loop
+    node-at-requires
     loop-holds
-    child-at-requires
+    child-requires
     polygon-at-requires
     cut-polygon-requires
     enum-known-c
