@@ -15,10 +15,11 @@ use Rattle.plane.specs.Plane.{planeSpace}
 use Rattle.memory.specs.Layout.{part, polygonIn, childrenIn}
 use Rattle.memory.specs.Fanout.{fanout}
 use Rattle.layout.specs.declared.node.Node.{Node}
-use Rattle.layout.specs.Loaded.{nodeOf, withChild}
+use Rattle.layout.specs.Loaded.{nodeOf, nodeIn, childOf, withChild}
 use Rattle.layout.specs.Nodes.{countAt, childAt}
 use Rattle.layout.specs.Parts.{PartRoom}
 use Rattle.index.specs.Walks.{Walkable}
+use Rattle.index.proofs.WalkNode.{walk-count, walk-child}
 use Rattle.sides.specs.Sides.{sidesOf}
 use Rattle.emission.specs.Emits.{Emits, Room, deepAt}
 use Rattle.emission.proofs.EmitLaws.{nodesOf, Row, row-start, row-nothing, row-one}
@@ -153,6 +154,14 @@ module _ (level : ℕ) (m : List ℕ) (lo k : ℕ) (ss w₀ : List ℕ) (next₀
               next-small = moved-small;
               same-length = e .same-length ∙ a .same-length;
             }
+
+    -- the room for the child, by the node as it was loaded
+    pub entered-room : (old : Node) → old ≡ nodeIn (part m k) → i < size → (j : ℕ) → j ≡ childOf old i → Room (level - 1) w next (deepAt (level - 1) m low j ss)
+    entered-room old q h j e =
+        let v = a .at .walk in
+        let c = walk-count (suc (level - 1)) m lo k v old q in
+        let d = a .at .size-is in
+        child-room h j (walk-child (suc (level - 1)) m lo k v old q i j (omega arith) e)
 
     -- behind the last child
     module _ (h : size ≤ i) where

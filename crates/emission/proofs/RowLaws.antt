@@ -40,10 +40,14 @@ pub record BranchAt (n : ℕ) (m : List ℕ) (k i j : ℕ) : Type 0 where
   pub walk : Walkable n m 0 j
   pub next : drop i (rowAt n m k) ≡ branch ∷ drop (i + 1) (rowAt n m k)
 
+-- the branches of a node that reads
+pub row-of : (n : ℕ) (m : List ℕ) (k : ℕ) (b : Item (planeSpace fanout) (suc (suc n))) → readNode fanout (suc n) m 0 k ≡ some b → rowAt n m k ≡ b .child
+unfolding rowAt rowOr
+row-of n m k b e = rw (node-parts fanout n m 0 k b e .row)
+
 module _ (n : ℕ) (m : List ℕ) (k : ℕ) (v : Walkable (suc n) m 0 k) where
   row-is : rowAt n m k ≡ v .node .child
-  unfolding rowAt rowOr
-  row-is = rw (node-parts fanout n m 0 k (v .node) (v .reads) .row)
+  row-is = row-of n m k (v .node) (v .reads)
 
   -- a node has as many branches as its part says
   pub row-count : length (rowAt n m k) ≡ countAt m k

@@ -9,6 +9,7 @@ ghost use Rattle.emission.specs.Leaves.{leafUnder};
 use crate::leaf::gather;
 use crate::node::put_left;
 use layout::Node;
+use layout::child;
 use layout::copy_node;
 use layout::copy_part;
 use layout::node_at;
@@ -31,7 +32,7 @@ pub fn copy_below(m: &[u32], level: u32, lo: u32, k: u32, work: &mut [u32], next
     let mut low = lo;
     let mut i = 0;
     while i < n {
-        let j = node.child(i);
+        let j = child(&node.items, i);
         free = copy_below(m, level - 1, low, j, work, free);
         copy = copy.with_child(free - 1);
         low = j + 1;
@@ -80,7 +81,7 @@ pub fn emit_below(
     let mut low = lo;
     let mut i = 0;
     while i < n {
-        let j = node.child(i);
+        let j = child(&node.items, i);
         let after = emit_below(m, level - 1, low, j, sides, work, free);
         if after != free {
             left = left.with_child(after - 1);

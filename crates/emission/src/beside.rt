@@ -9,6 +9,7 @@ use crate::capped::capped_sum;
 use crate::counting::count_below;
 use crate::path::PATH_LEVEL;
 use crate::path::PATH_PLACE;
+use layout::child;
 use layout::count_at;
 use layout::node_at;
 
@@ -30,7 +31,7 @@ fn count_branches(
     let mut nodes = start;
     let mut i = from;
     while i < to {
-        let j = node.child(i);
+        let j = child(&node.items, i);
         let below = count_below(m, level, 0, j, sides);
         nodes = capped_sum(nodes, below);
         i += 1;

@@ -6,6 +6,7 @@ ghost use Rattle.emission.specs.Emits.{Room};
 ghost use Rattle.emission.specs.Rows.{Grows, rangeUnder};
 use crate::below::emit_below;
 use crate::tops::Tops;
+use layout::child;
 use layout::node_at;
 
 // Writes what is left under the sides of the branches of the node at part k, from one place up to another; level is that of the branches.
@@ -26,7 +27,7 @@ pub fn emit_branches(
     let mut out = tops;
     let mut i = from;
     while i < to {
-        let j = node.child(i);
+        let j = child(&node.items, i);
         let next = out.next;
         let after = emit_below(m, level, 0, j, sides, work, next);
         out = out.with_top(after);

@@ -7,6 +7,7 @@ ghost use Rattle.emission.specs.Emits.{counted, deepAt};
 ghost use Rattle.emission.specs.Leaves.{leafUnder};
 use crate::capped::capped_sum;
 use crate::leaf::any_left;
+use layout::child;
 use layout::node_at;
 use layout::part_at;
 
@@ -38,7 +39,7 @@ pub fn count_below(m: &[u32], level: u32, lo: u32, k: u32, sides: &[u32]) -> u32
     let mut low = lo;
     let mut i = 0;
     while i < n {
-        let j = node.child(i);
+        let j = child(&node.items, i);
         let below = count_below(m, level - 1, low, j, sides);
         nodes = capped_sum(nodes, below);
         low = j + 1;

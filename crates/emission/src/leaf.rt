@@ -2,18 +2,21 @@
 ghost use mathlib.Core.Path.{_≡_};
 ghost use Prim.Native.Nat.{_≤_, _<_};
 ghost use Rattle.tree.specs.Lists.{notEmpty};
-ghost use Rattle.layout.specs.Loaded.{leafOf, entryOf};
+ghost use Rattle.layout.specs.Loaded.{leafOf, entryAmong};
 ghost use Rattle.layout.specs.Nodes.{NodePart};
 ghost use Rattle.emission.specs.Leaves.{onTest, leafLeft};
+use layout::Items;
 use layout::Node;
+use layout::cell;
+use layout::tag;
 use sides::on_all;
 
-// Whether the i-th entry of a leaf is on every side.
-fn is_left(leaf: Node, i: usize, sides: &[u32]) -> bool
+// Whether the i-th entry of a leaf is on every side, by the leaf's items.
+fn is_left(items: &Items, i: usize, sides: &[u32]) -> bool
     requires { ⌜ i < 8 ⌝ }
-    ensures { λ b. ⌜ b ≡ onTest (now (sides .entry)) (entryOf leaf i) ⌝ }
+    ensures { λ b. ⌜ b ≡ onTest (now (sides .entry)) (entryAmong (now (items .entry)) i) ⌝ }
 {
-    on_all(sides, leaf.cell(i))
+    on_all(sides, cell(items, i))
 }
 
 // Whether an entry of a leaf's part is on every side.
@@ -25,7 +28,7 @@ pub fn any_left(p: &[u32], sides: &[u32]) -> bool
     let n = leaf.count as usize;
     let mut i = 0;
     while i < n {
-        if is_left(leaf, i, sides) {
+        if is_left(&leaf.items, i, sides) {
             return true;
         }
         i += 1;
@@ -44,8 +47,8 @@ pub fn gather(p: &[u32], sides: &[u32]) -> Node
     let mut left = Node::empty();
     let mut i = 0;
     while i < n {
-        if is_left(leaf, i, sides) {
-            left = left.with_entry(leaf.cell(i), leaf.tag(i));
+        if is_left(&leaf.items, i, sides) {
+            left = left.with_entry(cell(&leaf.items, i), tag(&leaf.items, i));
         }
         i += 1;
     }

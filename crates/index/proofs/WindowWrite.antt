@@ -11,11 +11,12 @@ use Rattle.plane.specs.Lines.{CellEntry}
 use Rattle.memory.specs.Layout.{part, entryIn, polygonIn}
 use Rattle.layout.specs.Items.{putEntry}
 use Rattle.layout.specs.declared.node.Node.{Node}
-use Rattle.layout.specs.Loaded.{nodeIn, entryOf}
+use Rattle.layout.specs.Loaded.{nodeIn, childOf, entryOf}
 use Rattle.layout.specs.Nodes.{childAt, countAt}
 use Rattle.index.specs.Walks.{meetsTest, insideTest, leafEntries, Walkable, putEntries, Listed, LeafRoom, WalkRoom, matchesBelow}
 use Rattle.index.proofs.WalkLeaf.{AtEntry, entry-miss, entry-hit, entry-end, loaded-start, entry-small, entry-nine, entry-put, entry-test}
 use Rattle.index.proofs.WalkRows.{leaf-entries, node-part}
+use Rattle.index.proofs.WalkNode.{walk-count, walk-child}
 use Rattle.index.proofs.WalkLoop.{AtChild, child-start, child-miss, child-hit, end-entries, child-walkable}
 
 pub length-put : (l : List ℕ) (at : ℕ) (e : CellEntry) → length (putEntry l at e) ≡ length l
@@ -172,3 +173,11 @@ module _ (w : Rect) (level : ℕ) (m : List ℕ) (lo k n : ℕ) (l₀ : List ℕ
         room = x .room;
         so-far = more l₀ at₀ (x .es) l next _ l″ next′ (x .so-far) q;
       })
+
+    -- the same, by the node as it was loaded
+    pub entered-room : (node : Node) → node ≡ nodeIn (part m k) → i < n → (j : ℕ) → j ≡ childOf node i
+        → (b : Bool) → b ≡ meetsTest w (polygonIn (part m j)) → b ≡ true → WalkRoom (level - 1) m low j w l next
+    entered-room node q h j g b e f =
+        let c = walk-count level m lo k (x .at .walkable) node q in
+        let d = x .at .count in
+        writing-room h j (walk-child level m lo k (x .at .walkable) node q i j (omega arith) g) b e f

@@ -3,6 +3,7 @@ ghost use mathlib.Core.Path.{_≡_};
 ghost use lib.ListN.{length};
 ghost use Rattle.index.specs.Count.{entriesAt};
 ghost use Rattle.index.specs.Walks.{Walkable};
+use layout::child;
 use layout::node_at;
 
 // Counts the entries below the node at part k, whose subtree has the parts from lo on.
@@ -19,7 +20,7 @@ pub fn entries_below(m: &[u32], level: u32, lo: u32, k: u32) -> u32
     let mut low = lo;
     let mut i = 0;
     while i < n {
-        let j = node.child(i);
+        let j = child(&node.items, i);
         sum += entries_below(m, level - 1, low, j);
         low = j + 1;
         i += 1;

@@ -3,7 +3,7 @@ ghost use mathlib.Core.Path.{_≡_};
 ghost use Prim.Native.Nat.{_<_};
 ghost use Rattle.memory.specs.Reading.{reading};
 ghost use Rattle.memory.specs.Fanout.{fanout};
-ghost use Rattle.layout.specs.Loaded.{entryOf};
+ghost use Rattle.layout.specs.Loaded.{entryAmong};
 ghost use Rattle.layout.specs.Nodes.{NodePart};
 ghost use Rattle.index.specs.Answers.{pointRead, pointAnswer};
 ghost use Rattle.index.specs.Open.{TreeIn, OpenedAs};
@@ -14,17 +14,21 @@ use crate::opening::open;
 use crate::walk::Found;
 use crate::walk::polygon_has;
 use geometry::Cell;
+use layout::Items;
 use layout::Node;
+use layout::cell;
+use layout::child;
 use layout::node_at;
 use layout::part_at;
 use layout::right_length;
+use layout::tag;
 
-// Whether the i-th entry of a leaf is of the cell.
-pub fn is_of_cell(leaf: Node, i: usize, c: Cell) -> bool
+// Whether the i-th entry of a leaf is of the cell, by the leaf's items.
+pub fn is_of_cell(items: &Items, i: usize, c: Cell) -> bool
     requires { ⌜ i < 8 ⌝ }
-    ensures { λ b. ⌜ b ≡ cellTest c (entryOf leaf i) ⌝ }
+    ensures { λ b. ⌜ b ≡ cellTest c (entryAmong (now (items .entry)) i) ⌝ }
 {
-    let held = leaf.cell(i);
+    let held = cell(items, i);
     if held.x != c.x {
         return false;
     }
@@ -40,10 +44,10 @@ fn point_in_leaf(p: &[u32], c: Cell) -> Found
     let n = leaf.count as usize;
     let mut i = 0;
     while i < n {
-        if is_of_cell(leaf, i, c) {
+        if is_of_cell(&leaf.items, i, c) {
             return Found {
                 held: true,
-                tag: leaf.tag(i),
+                tag: tag(&leaf.items, i),
                 visits: 1,
             };
         }
@@ -75,7 +79,7 @@ pub fn point_below(m: &[u32], level: u32, lo: u32, k: u32, c: Cell) -> Found
     let mut low = lo;
     let mut i = 0;
     while i < n {
-        let j = node.child(i);
+        let j = child(&node.items, i);
         if polygon_has(m, j, c) {
             let below = point_below(m, level - 1, low, j, c);
             so_far = so_far.then(below);

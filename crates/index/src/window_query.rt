@@ -3,7 +3,7 @@
 ghost use mathlib.Core.Path.{_≡_};
 ghost use Prim.Native.Nat.{_+_, _*_, _<_};
 ghost use lib.ListN.{length};
-ghost use Rattle.layout.specs.Loaded.{entryOf};
+ghost use Rattle.layout.specs.Loaded.{entryAmong};
 ghost use Rattle.layout.specs.Nodes.{NodePart};
 ghost use Rattle.index.specs.Open.{TreeIn, OpenedAs};
 ghost use Rattle.index.specs.Walks.{meetsTest, insideTest, visitsBelow, matchesBelow, leafEntries, Walkable, matched, Listed, LeafRoom, WalkRoom, WindowDone, WindowCall};
@@ -12,11 +12,15 @@ use crate::opening::Opened;
 use crate::opening::open;
 use crate::walk::polygon_meets;
 use geometry::Rect;
+use layout::Items;
 use layout::Node;
+use layout::cell;
+use layout::child;
 use layout::node_at;
 use layout::part_at;
 use layout::put_entry;
 use layout::right_length;
+use layout::tag;
 
 // How many entries match a window, and the nodes visited.
 pub struct Matched {
@@ -24,12 +28,12 @@ pub struct Matched {
     pub visits: u32,
 }
 
-// Whether the cell of the i-th entry of a leaf is in the window.
-fn is_inside(leaf: Node, i: usize, w: Rect) -> bool
+// Whether the cell of the i-th entry of a leaf is in the window, by the leaf's items.
+fn is_inside(items: &Items, i: usize, w: Rect) -> bool
     requires { ⌜ i < 8 ⌝ }
-    ensures { λ b. ⌜ b ≡ insideTest w (entryOf leaf i) ⌝ }
+    ensures { λ b. ⌜ b ≡ insideTest w (entryAmong (now (items .entry)) i) ⌝ }
 {
-    w.has_cell(leaf.cell(i))
+    w.has_cell(cell(items, i))
 }
 
 // How many entries of a leaf's part are in the window.
@@ -42,7 +46,7 @@ fn count_leaf(p: &[u32], w: Rect) -> u32
     let mut matches: u32 = 0;
     let mut i = 0;
     while i < n {
-        if is_inside(leaf, i, w) {
+        if is_inside(&leaf.items, i, w) {
             matches += 1;
         }
         i += 1;
@@ -69,7 +73,7 @@ pub fn count_below(m: &[u32], level: u32, lo: u32, k: u32, w: Rect) -> Matched
     let mut low = lo;
     let mut i = 0;
     while i < n {
-        let j = node.child(i);
+        let j = child(&node.items, i);
         if polygon_meets(m, j, w) {
             let below = count_below(m, level - 1, low, j, w);
             so_far.matches += below.matches;
@@ -92,8 +96,8 @@ fn write_leaf(p: &[u32], w: Rect, list: &mut [u32], at: usize) -> usize
     let mut next = at;
     let mut i = 0;
     while i < n {
-        if is_inside(leaf, i, w) {
-            put_entry(list, next, leaf.cell(i), leaf.tag(i));
+        if is_inside(&leaf.items, i, w) {
+            put_entry(list, next, cell(&leaf.items, i), tag(&leaf.items, i));
             next += 1;
         }
         i += 1;
@@ -124,7 +128,7 @@ pub fn write_below(
     let mut low = lo;
     let mut i = 0;
     while i < n {
-        let j = node.child(i);
+        let j = child(&node.items, i);
         if polygon_meets(m, j, w) {
             next = write_below(m, level - 1, low, j, w, list, next);
         }

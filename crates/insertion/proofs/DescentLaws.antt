@@ -34,7 +34,8 @@ use Rattle.layout.proofs.NodeLaws.{child-in}
 use Rattle.index.proofs.WalkRows.{walkable}
 use Rattle.index.proofs.WalkLoop.{children-count}
 use Rattle.step2.specs.Choose.{Routing, ChosenBranch, ChosenAt, NoneChosen}
-use Rattle.emission.specs.Path.{partOn, placeOn, lineOn, polygonOn, rowOr, rowAt, wayAt, PathNode, PathFrom}
+use Rattle.emission.specs.Path.{partOn, placeOn, lineOn, polygonOn, rowAt, wayAt, PathNode, PathFrom}
+use Rattle.emission.proofs.RowLaws.{row-of}
 use Rattle.insertion.specs.Descent.{childOr, itemsAt, LevelPut, Descending, Kept, Reached, Stopped, Descended}
 
 abbrev laws : Laws (planeSpace fanout)
@@ -47,11 +48,6 @@ steps = plane-steps fanout (omega arith)
 pub items-are : (n : ℕ) (m : List ℕ) (k : ℕ) (b : Item (planeSpace fanout) (suc n)) → readNode fanout n m 0 k ≡ some b → itemsAt n m k ≡ b .child
 unfolding itemsAt childOr
 items-are n m k b e = rw e
-
--- the branches of a routing node that reads
-pub row-is : (n : ℕ) (m : List ℕ) (k : ℕ) (b : Item (planeSpace fanout) (suc (suc n))) → readNode fanout (suc n) m 0 k ≡ some b → rowAt n m k ≡ b .child
-unfolding rowAt rowOr
-row-is n m k b e = rw (node-parts fanout n m 0 k b e .row)
 
 -- a number of the path above a place up to which two paths agree
 same-at : (a b : List ℕ) (i j : ℕ) → drop i a ≡ drop i b → i ≤ j → getD a j 0 ≡ getD b j 0
@@ -237,7 +233,7 @@ module _ (n : ℕ) (path m : List ℕ) (c : Cell) (d : Descending (suc n) path m
           ∙ ap (λ (l : List (Item (planeSpace fanout) n)). descend (planeSpace fanout) n (polygonOn path₃ n) l (entryOf c t)) (sym (ap (itemsAt n m) (kept .part) ∙ items-same)) ∙ h
 
       row-same : rowAt n m (partOn path₃ (suc n)) ≡ b .child
-      row-same = ap (rowAt n m) part-same ∙ row-is n m k b (d .walk .reads)
+      row-same = ap (rowAt n m) part-same ∙ row-of n m k b (d .walk .reads)
 
       turned : (t : ℕ) → descend (planeSpace fanout) n (rectsOf q) (x .old .child) (entryOf c t) ≡ some (wayAt n path₃ m (entryOf c t))
           → descend (planeSpace fanout) (suc n) (polygonOn path (suc n)) (itemsAt (suc n) m k) (entryOf c t) ≡ some (wayAt (suc n) path₃ m (entryOf c t))

@@ -35,7 +35,8 @@ use Rattle.layout.specs.Nodes.{countAt}
 use Rattle.index.specs.Count as count
 use Rattle.index.specs.Count.{entriesAt}
 use Rattle.insertion.proofs.NodePlan.{node-line-is, node-line-fits}
-use Rattle.insertion.proofs.PathLaws.{path-below, node-at}
+use Rattle.emission.proofs.PathLaws.{path-node}
+use Rattle.insertion.proofs.PathLaws.{path-below}
 use Rattle.insertion.proofs.PlanLoop.{level-length}
 
 -- A leaf that gets a ninth entry.
@@ -44,7 +45,7 @@ module _ (level : ℕ) (path m : List ℕ) (c : Cell) (f : Full 0 level path m c
   k = partOn path 0
 
   walk : Walkable 0 m 0 k
-  walk = node-at path m 0 (path-below path m level 0 (f .path-is .from) (omega arith)) .walk
+  walk = path-node path m 0 (path-below path m level 0 (f .path-is .from) (omega arith)) .walk
 
   entries-are : (t : ℕ) → wayAt 0 path m (entryOf c t) ≡ entriesOf (part m k) ++ (entryOf c t ∷ [])
   unfolding wayAt
@@ -80,7 +81,7 @@ module _ (n level : ℕ) (path m : List ℕ) (c : Cell) (f : Full (suc n) level 
   from = path-below path m level (suc n) (f .path-is .from) (f .below)
 
   here : Walkable (suc n) m 0 at
-  here = node-at path m (suc n) from .walk
+  here = path-node path m (suc n) from .walk
 
   held-grid : OnGrid (flatMap (held (planeSpace fanout) (suc n)) (here .node .child))
   unfolding GoodWay
@@ -116,7 +117,7 @@ module _ (n level : ℕ) (path m : List ℕ) (c : Cell) (f : Full (suc n) level 
     walk = here;
     routing = omega arith;
     place-in = place-in;
-    line = node-at path m n below-from .line;
+    line = path-node path m n below-from .line;
     grid = under-grid;
     cell = f .path-is .grid;
   }

@@ -8,7 +8,8 @@ use Rattle.geometry.specs.declared.rect.Cell.{Cell}
 use Rattle.layout.specs.Nodes.{PartIn}
 use Rattle.emission.specs.Path.{partOn, PathNode}
 use Rattle.insertion.specs.Planning.{Full}
-use Rattle.insertion.proofs.PathLaws.{path-below, node-at}
+use Rattle.emission.proofs.PathLaws.{path-node}
+use Rattle.insertion.proofs.PathLaws.{path-below}
 
 module _ (n : ℕ) (path m : List ℕ) (p : PathNode n path m) where
   pub part-in : 68 * n < length path
@@ -25,7 +26,7 @@ module _ (n : ℕ) (path m : List ℕ) (p : PathNode n path m) where
 
 module _ (n level : ℕ) (path m : List ℕ) (c : Cell) (f : Full n level path m c) where
   pub full-node : PathNode n path m
-  full-node = node-at path m n (path-below path m level n (f .path-is .from) (f .below))
+  full-node = path-node path m n (path-below path m level n (f .path-is .from) (f .below))
 
   pub below-in : (n ≡ 0 → ⊥) → 68 * (n - 1) + 2 < length path
   below-in h = let r = full-node .room in omega arith

@@ -34,8 +34,9 @@ use Rattle.memory.specs.Fanout.{fanout}
 use Rattle.index.specs.Walks.{Walkable}
 use Rattle.split_line.specs.Groups.{halvesOf, groupsAt, LineFits}
 use Rattle.emission.specs.Path.{partOn, placeOn, lineOn, polygonOn, rowAt, wayAt}
+use Rattle.emission.proofs.RowLaws.{row-of}
 use Rattle.insertion.specs.Descent.{itemsAt}
-use Rattle.insertion.proofs.DescentLaws.{items-are, row-is}
+use Rattle.insertion.proofs.DescentLaws.{items-are}
 use Rattle.tree.proofs.GoodWays.{GoodWay}
 use Rattle.tree.proofs.Ways.{Descent, descent, way-entries}
 use Rattle.tree.proofs.SplitGroups.{split-groups, few-row, row-entries, line-row, bag-keep, bag-length, bag-all, alike-mid, alike-all, map-append}
@@ -84,7 +85,7 @@ module _ (n : ℕ) (path m : List ℕ) (e : CellEntry) (v : Walkable (suc n) m 0
   d = descent (planeSpace fanout) n (polygonOn path (suc n)) (itemsAt (suc n) m k) e w way
 
   bs-is : rowAt n m k ≡ bs
-  bs-is = row-is n m k (v .node) (v .reads)
+  bs-is = row-of n m k (v .node) (v .reads)
 
   items-is : itemsAt (suc n) m k ≡ bs
   items-is = items-are (suc n) m k (v .node) (v .reads)

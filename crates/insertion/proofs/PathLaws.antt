@@ -116,8 +116,3 @@ module _ (path : List ℕ) (n x : ℕ) where
 -- the part of a path below a level
 pub path-below : (path m : List ℕ) (j i : ℕ) → PathFrom j path m → i ≤ j → PathFrom i path m
 path-below path m j i f h = below-from path 0 0 m j i f h
-
-pub node-at : (path m : List ℕ) (j : ℕ) → PathFrom j path m → PathNode j path m
-unfolding PathFrom
-node-at path m zero f = f
-node-at path m (suc j) f = f .0

@@ -24,11 +24,12 @@ use Rattle.insertion.specs.Planning.{GoodPath, Plannable, PlannedAt, Pla
 use Rattle.tree.proofs.SplitGroups.{split-one, split-two, few-row}
 use Rattle.layout.specs.Nodes.{countAt}
 use Rattle.insertion.proofs.NodePlan.{way-fits, row-length-is}
-use Rattle.insertion.proofs.PathLaws.{part-kept, line-kept, line-put, way-kept, polygon-kept, path-few, good-kept, path-below, node-at}
+use Rattle.emission.proofs.PathLaws.{path-node}
+use Rattle.insertion.proofs.PathLaws.{part-kept, line-kept, line-put, way-kept, polygon-kept, path-few, good-kept, path-below}
 
 module _ (level : ℕ) (path m : List ℕ) (c : Cell) (g : GoodPath level path m c) where
   walk-at : (n : ℕ) → n ≤ level → Walkable n m 0 (partOn path n)
-  walk-at n h = node-at path m n (path-below path m level n (g .from) h) .walk
+  walk-at n h = path-node path m n (path-below path m level n (g .from) h) .walk
 
   abbrev rowAt-length : ℕ → ℕ → ℕ
   rowAt-length n t = length (row (planeSpace fanout) n (wayAt n path m (entryOf c t)))
@@ -101,7 +102,7 @@ plan-start level path m c g = record {
 module _ (level : ℕ) (path₀ m : List ℕ) (c : Cell) (n : ℕ) (path : List ℕ) (a : Planning level path₀ m c n path) where
   -- the node at level n on the path
   pub plan-node : n ≤ level → PathNode n path m
-  plan-node h = node-at path m n (path-below path m level n (a .path-is .from) h)
+  plan-node h = path-node path m n (path-below path m level n (a .path-is .from) h)
 
   pub plan-full : (size : ℕ) → size ≡ countAt m (partOn path n) → n ≤ level → 8 ≤ size → Full n level path m c
   plan-full size e h f =

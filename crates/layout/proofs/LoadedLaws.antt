@@ -17,7 +17,7 @@ use Rattle.layout.specs.declared.node.Node.{Node}
 use Rattle.layout.specs.Nodes.{NodePart, childIn, countAt, childAt}
 use Rattle.layout.specs.Items.{putEntry}
 use Rattle.layout.specs.Gap.{MovedDown}
-use Rattle.layout.specs.Loaded.{nodeOf, leafOf, routingOf, nodeIn, childOf, entryOf, withEntry, withChild, ItemOut}
+use Rattle.layout.specs.Loaded.{nodeOf, leafOf, routingOf, nodeIn, childAmong, entryAmong, childOf, entryOf, withEntry, withChild, ItemOut}
 
 -- a node without items is a leaf without entries, and a routing node without children
 pub no-entries : nodeOf 0 [] ≡ leafOf []
@@ -64,17 +64,17 @@ load-is p l h e =
 pub node-of : (m : List ℕ) (k : ℕ) (p : List ℕ) (n : Node) → p ≡ part m k → n ≡ nodeIn p → n ≡ nodeIn (part m k)
 node-of m k p n e f = f ∙ ap nodeIn e
 
-pub child-here : (n : Node) (i : ℕ) → getD (n .items) i 0 ≡ childOf n i
-unfolding childOf
-child-here n i = refl
+pub child-here : (l : List ℕ) (i : ℕ) → getD l i 0 ≡ childAmong l i
+unfolding childAmong
+child-here l i = refl
 
-pub cell-here : (n : Node) (i : ℕ) → record { x = getD (n .items) (3 * i) 0; y = getD (n .items) (3 * i + 1) 0 } ≡ entryOf n i .cell
-unfolding entryOf
-cell-here n i = refl
+pub cell-here : (l : List ℕ) (i : ℕ) → record { x = getD l (3 * i) 0; y = getD l (3 * i + 1) 0 } ≡ entryAmong l i .cell
+unfolding entryAmong
+cell-here l i = refl
 
-pub tag-here : (n : Node) (i : ℕ) → getD (n .items) (3 * i + 2) 0 ≡ entryOf n i .tag
-unfolding entryOf
-tag-here n i = refl
+pub tag-here : (l : List ℕ) (i : ℕ) → getD l (3 * i + 2) 0 ≡ entryAmong l i .tag
+unfolding entryAmong
+tag-here l i = refl
 
 pub entry-is : (n : Node) (e : CellEntry) (l : List ℕ) → l ≡ putEntry (n .items) (n .count) e → record { count = n .count + 1; items = l } ≡ withEntry n e
 unfolding withEntry
@@ -98,11 +98,11 @@ module _ (p : List ℕ) (n : Node) (q : n ≡ nodeIn p) where
   loaded-item x h = rw q (getD-take 27 (drop 66 p) x 0 h ∙ getD-drop 66 p x 0)
 
   pub loaded-child : (i j : ℕ) → i < 8 → j ≡ childOf n i → j ≡ childIn p i
-  unfolding childOf
+  unfolding childAmong
   loaded-child i j h e = e ∙ loaded-item i (omega arith)
 
   pub loaded-entry : (i : ℕ) → i < 8 → entryOf n i ≡ entryIn p i
-  unfolding entryOf entryIn
+  unfolding entryAmong entryIn
   loaded-entry i h =
       let e : 66 + (3 * i + 1) ≡ 66 + 3 * i + 1 = omega arith in
       let f : 66 + (3 * i + 2) ≡ 66 + 3 * i + 2 = omega arith in

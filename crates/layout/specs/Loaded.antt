@@ -26,15 +26,19 @@ routingOf ks = nodeOf (length ks) ks
 unfoldable pub nodeIn : List ℕ → Node
 nodeIn p = record { count = itemCount p; items = take 27 (drop 66 p) }
 
--- the i-th child of a routing node, and the i-th entry of a leaf
-unfoldable pub childOf : Node → ℕ → ℕ
-childOf n i = getD (n .items) i 0
+-- the i-th child of a routing node and the i-th entry of a leaf, by the numbers of the items
+unfoldable pub childAmong : List ℕ → ℕ → ℕ
+childAmong l i = getD l i 0
 
-unfoldable pub entryOf : Node → ℕ → CellEntry
-entryOf n i = record {
-  cell = record { x = getD (n .items) (3 * i) 0; y = getD (n .items) (3 * i + 1) 0 };
-  tag = getD (n .items) (3 * i + 2) 0;
-}
+unfoldable pub entryAmong : List ℕ → ℕ → CellEntry
+entryAmong l i = record { cell = record { x = getD l (3 * i) 0; y = getD l (3 * i + 1) 0 }; tag = getD l (3 * i + 2) 0 }
+
+-- the same by the node
+abbrev pub childOf : Node → ℕ → ℕ
+childOf n i = childAmong (n .items) i
+
+abbrev pub entryOf : Node → ℕ → CellEntry
+entryOf n i = entryAmong (n .items) i
 
 -- a part with the count and the items of a node; its polygon stays
 unfoldable pub withNode : List ℕ → Node → List ℕ

@@ -3,7 +3,7 @@ ghost use mathlib.Core.List.{[]};
 ghost use mathlib.Core.Path.{_≡_};
 ghost use Prim.Native.Nat.{_≤_, _<_};
 ghost use Rattle.memory.specs.Layout.{part};
-ghost use Rattle.layout.specs.Loaded.{nodeOf, nodeIn, childOf, entryOf, withEntry, withChild, ItemOut};
+ghost use Rattle.layout.specs.Loaded.{nodeOf, nodeIn, childAmong, entryAmong, withEntry, withChild, ItemOut};
 ghost use Rattle.layout.specs.Nodes.{IsPart, PartIn};
 use crate::gap::move_down;
 use crate::items::put_entry;
@@ -16,12 +16,15 @@ use crate::reading::part_at;
 use geometry::Cell;
 use geometry::copy;
 
-// How many entries or branches a node has, and their numbers as a part has them, zeros behind them. There is room for nine
-// entries, which a leaf has before it is split. A node's polygon is the one its branch gives (document 01): it is not
-// part of the value, and is read where it stands.
+// The numbers of a node's entries or branches, as a part has them, zeros behind them. There is room for nine entries, which a
+// leaf has before it is split.
+pub type Items = [u32; ITEM_NUMBERS];
+
+// How many entries or branches a node has, and their numbers. A node's polygon is the one its branch gives (document 01): it
+// is not part of the value, and is read where it stands.
 pub struct Node {
     pub count: u32,
-    pub items: [u32; 27],
+    pub items: Items,
 }
 
 impl Node {
@@ -46,34 +49,6 @@ impl Node {
             count: p[ITEM_COUNT],
             items,
         }
-    }
-
-    // The part number of a routing node's i-th child.
-    pub fn child(self, i: usize) -> u32
-        requires { ⌜ i < 9 ⌝ }
-        ensures { λ k. ⌜ k ≡ childOf self i ⌝ }
-    {
-        self.items[i]
-    }
-
-    // The cell of a leaf's i-th entry.
-    pub fn cell(self, i: usize) -> Cell
-        requires { ⌜ i < 9 ⌝ }
-        ensures { λ c. ⌜ c ≡ entryOf self i .cell ⌝ }
-    {
-        let at = ENTRY * i;
-        Cell {
-            x: self.items[at],
-            y: self.items[at + 1],
-        }
-    }
-
-    // Its tag.
-    pub fn tag(self, i: usize) -> u32
-        requires { ⌜ i < 9 ⌝ }
-        ensures { λ t. ⌜ t ≡ entryOf self i .tag ⌝ }
-    {
-        self.items[ENTRY * i + 2]
     }
 
     // A leaf with one more entry, behind the others.
@@ -139,4 +114,32 @@ pub fn node_at(m: &[u32], k: u32) -> Node
     ensures { λ n. ⌜ n ≡ nodeIn (part (now (m .entry)) k) ⌝ }
 {
     Node::load(part_at(m, k))
+}
+
+// The part number of the i-th child of a routing node, by its items. They are lent, so that the node is not copied.
+pub fn child(items: &Items, i: usize) -> u32
+    requires { ⌜ i < 9 ⌝ }
+    ensures { λ k. ⌜ k ≡ childAmong (now (items .entry)) i ⌝ }
+{
+    items[i]
+}
+
+// The cell of the i-th entry of a leaf, by its items.
+pub fn cell(items: &Items, i: usize) -> Cell
+    requires { ⌜ i < 9 ⌝ }
+    ensures { λ c. ⌜ c ≡ entryAmong (now (items .entry)) i .cell ⌝ }
+{
+    let at = ENTRY * i;
+    Cell {
+        x: items[at],
+        y: items[at + 1],
+    }
+}
+
+// Its tag.
+pub fn tag(items: &Items, i: usize) -> u32
+    requires { ⌜ i < 9 ⌝ }
+    ensures { λ t. ⌜ t ≡ entryAmong (now (items .entry)) i .tag ⌝ }
+{
+    items[ENTRY * i + 2]
 }

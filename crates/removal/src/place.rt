@@ -4,6 +4,7 @@ use geometry::Cell;
 use index::is_of_cell;
 use index::polygon_has;
 use layout::Node;
+use layout::child;
 use layout::node_at;
 
 // A child of a routing node: its place among the branches, the lower end of its subtree and its part.
@@ -20,7 +21,7 @@ pub fn entry_place(p: &[u32], c: Cell) -> usize
 {
     let leaf = Node::load(p);
     let mut i = 0;
-    while !is_of_cell(leaf, i, c) {
+    while !is_of_cell(&leaf.items, i, c) {
         i += 1;
     }
     i
@@ -35,11 +36,11 @@ pub fn child_place(m: &[u32], lo: u32, k: u32, c: Cell) -> Child
     let node = node_at(m, k);
     let mut at = 0;
     let mut low = lo;
-    let mut part = node.child(0);
+    let mut part = child(&node.items, 0);
     while !polygon_has(m, part, c) {
         at += 1;
         low = part + 1;
-        part = node.child(at);
+        part = child(&node.items, at);
     }
     Child { at, low, part }
 }

@@ -3,6 +3,7 @@ ghost use mathlib.Core.Path.{_≡_};
 ghost use Rattle.split_line.specs.FullLeaf.{entriesOf, LeafHere, LeafLineIs, sumsOf, addedSums, SmallSums};
 use geometry::Cell;
 use layout::Node;
+use layout::cell;
 use layout::item_count;
 
 // The sums of coordinates and of their squares.
@@ -45,7 +46,7 @@ fn leaf_sums(p: &[u32], c: Cell) -> Sums
     };
     let mut i = 0;
     while i < n {
-        sums = sums.add(leaf.cell(i));
+        sums = sums.add(cell(&leaf.items, i));
         i += 1;
     }
     sums.add(c)

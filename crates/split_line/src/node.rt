@@ -14,6 +14,7 @@ use crate::reach::reach_under;
 use geometry::Cell;
 use geometry::Rect;
 use geometry::put_rect;
+use layout::child;
 use layout::node_at;
 use sides::is_on;
 use sides::left_side;
@@ -90,7 +91,7 @@ fn put_bounds(
     let mut low = lo;
     let mut i: u32 = 0;
     while i < n {
-        let j = node.child(i as usize);
+        let j = child(&node.items, i as usize);
         next = put_branch(m, level - 1, low, j, i == place, below, c, list, next);
         low = j + 1;
         i += 1;

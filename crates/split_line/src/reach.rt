@@ -8,6 +8,8 @@ ghost use Rattle.split_line.specs.Reached.{reachOf, reachAdd, reachJoin,
 use geometry::Cell;
 use geometry::Rect;
 use layout::Node;
+use layout::cell;
+use layout::child;
 use layout::node_at;
 use layout::part_at;
 use sides::on_all;
@@ -86,7 +88,7 @@ fn reach_in_leaf(p: &[u32], sides: &[u32]) -> Reach
     let mut reach = Reach::empty();
     let mut i = 0;
     while i < n {
-        let c = leaf.cell(i);
+        let c = cell(&leaf.items, i);
         if on_all(sides, c) {
             reach = reach.add(c);
         }
@@ -109,7 +111,7 @@ pub fn reach_under(m: &[u32], level: u32, lo: u32, k: u32, sides: &[u32]) -> Rea
     let mut low = lo;
     let mut i = 0;
     while i < n {
-        let j = node.child(i);
+        let j = child(&node.items, i);
         reach = reach.join(reach_under(m, level - 1, low, j, sides));
         low = j + 1;
         i += 1;

@@ -8,6 +8,7 @@ ghost use Rattle.step2.specs.Branches.{polygonsIn, Branches, firstPlace}
 use geometry::Cell;
 use geometry::Polygon;
 use index::polygon_has;
+use layout::child;
 use layout::node_at;
 use layout::part_at;
 use layout::rect_count;
@@ -32,7 +33,7 @@ pub fn first_with(m: &[u32], k: u32, c: Cell) -> usize
     let n = node.count as usize;
     let mut i = 0;
     while i < n {
-        let j = node.child(i);
+        let j = child(&node.items, i);
         if polygon_has(m, j, c) {
             return i;
         }

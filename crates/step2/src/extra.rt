@@ -12,6 +12,7 @@ ghost use Rattle.step2.specs.Extra.{noneYet, nearestIn, nearestFrom};
 use geometry::Cell;
 use geometry::Rect;
 use geometry::rect_at;
+use layout::child;
 use layout::node_at;
 use layout::part_at;
 use layout::rect_count;
@@ -79,7 +80,7 @@ pub fn find_nearest(m: &[u32], k: u32, c: Cell) -> Nearest
     };
     let mut i = 0;
     while i < n {
-        let j = node.child(i);
+        let j = child(&node.items, i);
         best = nearest_at(m, j, i, c, best);
         i += 1;
     }

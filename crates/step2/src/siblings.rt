@@ -10,6 +10,7 @@ ghost use Rattle.step2.specs.Pieces.{rectsAll, siblings};
 use crate::branch::polygon_at;
 use geometry::Count;
 use geometry::cut_polygon;
+use layout::child;
 use layout::count_at;
 use layout::node_at;
 
@@ -32,7 +33,7 @@ fn cut_by_children(
     let mut left = n;
     let mut i = from;
     while i < to {
-        let j = node.child(i);
+        let j = child(&node.items, i);
         let p = polygon_at(m, j);
         let c = cut_polygon(list, left, p, spare);
         let Count::Rects(rects) = c else {

@@ -12,7 +12,7 @@ use Rattle.emission.proofs.below.copy_below.Kinds as copy-below-kinds
 use Rattle.emission.proofs.below.+copy_below.Lts-copy_below as copy-below-lts
 use Rattle.layout.proofs.copy_node.Reads as copy-node-reads
 use Rattle.layout.proofs.copy_part.Reads as copy-part-reads
-use Rattle.layout.proofs.node.Node.child.Reads as child-reads
+use Rattle.layout.proofs.child.Reads as child-reads
 use Rattle.layout.proofs.node.Node.empty.Reads as empty-reads
 use Rattle.layout.proofs.node.Node.with_child.Reads as with-child-reads
 use Rattle.layout.proofs.node_at.Reads as node-at-reads

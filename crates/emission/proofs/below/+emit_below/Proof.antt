@@ -5,7 +5,7 @@ use mathlib.Core.Logic.{⊎-elim}
 use Prim.Native.Nat.{ℕ, _<_, _-_}
 use Rattle.index.proofs.WalkRows.{node-part}
 use Rattle.emission.proofs.DeepRows.{deep-fits}
-use Rattle.emission.proofs.EmitLoop.{EmitLoop, emit-start, child-walk, child-room, count-small}
+use Rattle.emission.proofs.EmitLoop.{EmitLoop, emit-start, child-walk, entered-room, count-small}
 use Rattle.emission.proofs.EmitBelow.{plain-room, plain-emits, at-leaf-room, at-leaf-emits, emit-one, emit-nothing, emit-moved, node-gone, node-own-room, node-emits}
 use Rattle.index.proofs.WalkNode.{walk-count, walk-nine, walk-child}
 use borrow.Fn.Kinds.{In}
@@ -16,7 +16,7 @@ use Rattle.emission.proofs.below.+emit_below.Lts-emit_below as emit-bel
 use Rattle.emission.proofs.below.copy_below.Reads as copy-below-reads
 use Rattle.emission.proofs.below.emit_leaf.Reads as emit-leaf-reads
 use Rattle.emission.proofs.node.put_left.Reads as put-left-reads
-use Rattle.layout.proofs.node.Node.child.Reads as child-reads
+use Rattle.layout.proofs.child.Reads as child-reads
 use Rattle.layout.proofs.node.Node.empty.Reads as empty-reads
 use Rattle.layout.proofs.node.Node.with_child.Reads as with-child-reads
 use Rattle.layout.proofs.node_at.Reads as node-at-reads
@@ -348,7 +348,7 @@ emit-below-emit-below-requires : (t : ℕ) → emit-below-lts.Need-emit-below-re
   put-left-reads.Asked,
   put-left-reads.Learnt,
 ) (emit-below-at t) emit-below.Post emit-below-Inv-loop emit-below-μ-loop
-emit-below-emit-below-requires t c κs = (omega arith, (search (child-walk, walk-child), search (child-room, walk-child)))
+emit-below-emit-below-requires t c κs = (omega arith, (search (child-walk, walk-child), search entered-room))
 
 emit-below-sub-with-child : (t : ℕ) → emit-below-lts.Need-sub-with-child (
   copy-below-reads.Asked,

@@ -14,7 +14,7 @@ use Rattle.emission.proofs.counting.count_below.Kinds as count-below-ki
 use Rattle.emission.proofs.counting.+count_below.Lts-count_below as count-below-lts
 use Rattle.emission.proofs.capped.capped_sum.Reads as capped-sum-reads
 use Rattle.emission.proofs.counting.count_leaf.Reads as count-leaf-reads
-use Rattle.layout.proofs.node.Node.child.Reads as child-reads
+use Rattle.layout.proofs.child.Reads as child-reads
 use Rattle.layout.proofs.node_at.Reads as node-at-reads
 use Rattle.layout.proofs.part_at.Reads as part-at-reads
 use Rattle.emission.proofs.counting.+count_below.{statement}

@@ -10,7 +10,7 @@ use borrow.Fn.PlainCycle.{Measures, is, falls, and}
 use Rattle.index.proofs.count.entries_below.Reads as entries-below
 use Rattle.index.proofs.count.entries_below.Kinds as entries-below-kinds
 use Rattle.index.proofs.count.+entries_below.Lts-entries_below as entries-below-lts
-use Rattle.layout.proofs.node.Node.child.Reads as child-reads
+use Rattle.layout.proofs.child.Reads as child-reads
 use Rattle.layout.proofs.node_at.Reads as node-at-reads
 use Rattle.index.proofs.count.+entries_below.{statement}
 use Rattle.index.proofs.count.+entries_below.Tie.{close}

@@ -15,7 +15,7 @@ use Rattle.index.proofs.point_query.+point_below.Lts-point_below as poi
 use Rattle.index.proofs.point_query.point_in_leaf.Reads as point-in-leaf-reads
 use Rattle.index.proofs.walk.Found.then.Reads as then-reads
 use Rattle.index.proofs.walk.polygon_has.Reads as polygon-has-reads
-use Rattle.layout.proofs.node.Node.child.Reads as child-reads
+use Rattle.layout.proofs.child.Reads as child-reads
 use Rattle.layout.proofs.node_at.Reads as node-at-reads
 use Rattle.layout.proofs.part_at.Reads as part-at-reads
 use Rattle.index.proofs.point_query.+point_below.{statement}

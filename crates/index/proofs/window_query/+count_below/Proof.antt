@@ -14,7 +14,7 @@ use Rattle.index.proofs.window_query.count_below.Kinds as count-below-k
 use Rattle.index.proofs.window_query.+count_below.Lts-count_below as count-below-lts
 use Rattle.index.proofs.walk.polygon_meets.Reads as polygon-meets-reads
 use Rattle.index.proofs.window_query.count_leaf.Reads as count-leaf-reads
-use Rattle.layout.proofs.node.Node.child.Reads as child-reads
+use Rattle.layout.proofs.child.Reads as child-reads
 use Rattle.layout.proofs.node_at.Reads as node-at-reads
 use Rattle.layout.proofs.part_at.Reads as part-at-reads
 use Rattle.index.proofs.window_query.+count_below.{statement}

@@ -4,7 +4,7 @@ use mathlib.Core.Logic.{⊎-elim}
 use native.Mathlib.Omega.{arith}
 use borrow.Author.Needs.{needs}
 use Rattle.index.proofs.WalkLoop.{child-polygon, child-fits}
-use Rattle.index.proofs.WindowWrite.{WriteLoop, written-leaf-room, written-leaf, writing-start, writing-room, writing-miss, writing-hit, writing-end}
+use Rattle.index.proofs.WindowWrite.{WriteLoop, written-leaf-room, written-leaf, writing-start, entered-room, writing-miss, writing-hit, writing-end}
 use Rattle.index.proofs.WalkNode.{walk-count, walk-nine, walk-child}
 use borrow.Fn.Kinds.{In}
 use borrow.Fn.PlainCycle.{Measures, is, falls, and}
@@ -13,7 +13,7 @@ use Rattle.index.proofs.window_query.write_below.Kinds as write-below-k
 use Rattle.index.proofs.window_query.+write_below.Lts-write_below as write-below-lts
 use Rattle.index.proofs.walk.polygon_meets.Reads as polygon-meets-reads
 use Rattle.index.proofs.window_query.write_leaf.Reads as write-leaf-reads
-use Rattle.layout.proofs.node.Node.child.Reads as child-reads
+use Rattle.layout.proofs.child.Reads as child-reads
 use Rattle.layout.proofs.node_at.Reads as node-at-reads
 use Rattle.layout.proofs.part_at.Reads as part-at-reads
 use Rattle.index.proofs.window_query.+write_below.{statement}
@@ -210,7 +210,7 @@ write-below-write-below-requires : (t : ℕ) → write-below-lts.Need-write-belo
   write-below-below t,
   write-below.Post,
 ) (write-below-at t) write-below.Post write-below-Inv-loop write-below-μ-loop
-write-below-write-below-requires t c κs = (omega arith, search (writing-room, walk-child))
+write-below-write-below-requires t c κs = (omega arith, search entered-room)
 
 write-below-add-low : (t : ℕ) → write-below-lts.Need-add-low (
   part-at-reads.Asked,

@@ -10,7 +10,7 @@ use borrow.Fn.PlainCycle.{Measures, is, falls, and}
 use Rattle.split_line.proofs.reach.reach_under.Reads as reach-under
 use Rattle.split_line.proofs.reach.reach_under.Kinds as reach-under-kinds
 use Rattle.split_line.proofs.reach.+reach_under.Lts-reach_under as reach-under-lts
-use Rattle.layout.proofs.node.Node.child.Reads as child-reads
+use Rattle.layout.proofs.child.Reads as child-reads
 use Rattle.layout.proofs.node_at.Reads as node-at-reads
 use Rattle.layout.proofs.part_at.Reads as part-at-reads
 use Rattle.split_line.proofs.reach.Reach.empty.Reads as empty-reads

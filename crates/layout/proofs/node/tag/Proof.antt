@@ -1,8 +1,8 @@
--- `Node::tag` meets its contract.
+-- `node::tag` meets its contract.
 use borrow.Author.Needs.{needs}
 use Rattle.layout.proofs.LoadedLaws.{tag-here}
-use Rattle.layout.proofs.node.Node.tag.Statement.{statement}
-use Rattle.layout.proofs.node.Node.tag.Tie as tie
+use Rattle.layout.proofs.node.tag.Statement.{statement}
+use Rattle.layout.proofs.node.tag.Tie as tie
 
 mul-result : tie.Need-mul-result
 mul-result c = search needs

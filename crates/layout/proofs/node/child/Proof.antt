@@ -1,8 +1,8 @@
--- `Node::child` meets its contract.
+-- `node::child` meets its contract.
 use borrow.Author.Needs.{needs}
 use Rattle.layout.proofs.LoadedLaws.{child-here}
-use Rattle.layout.proofs.node.Node.child.Statement.{statement}
-use Rattle.layout.proofs.node.Node.child.Tie as tie
+use Rattle.layout.proofs.node.child.Statement.{statement}
+use Rattle.layout.proofs.node.child.Tie as tie
 
 mul-result : tie.Need-mul-result
 mul-result c = search needs
