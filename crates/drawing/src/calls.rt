@@ -10,11 +10,15 @@ ghost use Rattle.drawing.specs.Answers.{Drawn, RefinedInto, extraOf};
 ghost use Rattle.drawing.specs.Calls.{grownTo, validWithRect, validWithCell, validWithPolygon, validAlone, validExtra, commonDrawn, growDrawn, cutDrawn, cutPolygonDrawn, refineDrawn, extraDrawn};
 use crate::answer::Answer;
 use crate::answer::Extra;
+use crate::arguments::RESULT_NUMBERS;
 use crate::arguments::is_list;
 use geometry::Cell;
 use geometry::Count;
+use geometry::MOST_OF_POLYGON;
+use geometry::MOST_PIECES;
 use geometry::Polygon;
 use geometry::Rect;
+use geometry::WORK_NUMBERS;
 use geometry::common_parts;
 use geometry::copy;
 use geometry::cut_list;
@@ -27,16 +31,16 @@ use geometry::refine_list;
 pub fn common(list: &[u32], r: Rect, out: &mut [u32]) -> Answer
     ensures { λ a. ⌜ Drawn (validWithRect (now (list .entry)) r (now (out .entry))) (commonDrawn (now (list .entry)) r) (now (out .entry)) a (now (out .exit)) ⌝ }
 {
-    if out.len() != 1024 {
+    if out.len() != RESULT_NUMBERS {
         return Answer::Invalid;
     }
-    if !is_list(list, 256) {
+    if !is_list(list, MOST_PIECES) {
         return Answer::Invalid;
     }
     if !r.is_valid() {
         return Answer::Invalid;
     }
-    let mut work = [0u32; 1088];
+    let mut work = [0u32; WORK_NUMBERS];
     let c = common_parts(list, list.len() / 4, Polygon::of(r), &mut work);
     let Count::Rects(m) = c else {
         // not reached: there are no more parts than rectangles
@@ -63,10 +67,10 @@ fn put_grown(list: &[u32], n: usize, c: Cell, out: &mut [u32])
 pub fn grow(list: &[u32], c: Cell, out: &mut [u32]) -> Answer
     ensures { λ a. ⌜ Drawn (validWithCell (now (list .entry)) c (now (out .entry))) (growDrawn (now (list .entry)) c) (now (out .entry)) a (now (out .exit)) ⌝ }
 {
-    if out.len() != 1024 {
+    if out.len() != RESULT_NUMBERS {
         return Answer::Invalid;
     }
-    if !is_list(list, 256) {
+    if !is_list(list, MOST_PIECES) {
         return Answer::Invalid;
     }
     if !c.on_grid() {
@@ -94,16 +98,16 @@ pub fn extra_area(r: Rect, c: Cell) -> Extra
 pub fn cut(list: &[u32], s: Rect, out: &mut [u32]) -> Answer
     ensures { λ a. ⌜ Drawn (validWithRect (now (list .entry)) s (now (out .entry))) (cutDrawn (now (list .entry)) s) (now (out .entry)) a (now (out .exit)) ⌝ }
 {
-    if out.len() != 1024 {
+    if out.len() != RESULT_NUMBERS {
         return Answer::Invalid;
     }
-    if !is_list(list, 256) {
+    if !is_list(list, MOST_PIECES) {
         return Answer::Invalid;
     }
     if !s.is_valid() {
         return Answer::Invalid;
     }
-    let mut work = [0u32; 1088];
+    let mut work = [0u32; WORK_NUMBERS];
     let c = cut_list(list, list.len() / 4, s, &mut work);
     let Count::Rects(m) = c else {
         return Answer::TooMany;
@@ -116,18 +120,18 @@ pub fn cut(list: &[u32], s: Rect, out: &mut [u32]) -> Answer
 pub fn cut_by_polygon(list: &[u32], polygon: &[u32], out: &mut [u32]) -> Answer
     ensures { λ a. ⌜ Drawn (validWithPolygon (now (list .entry)) (now (polygon .entry)) (now (out .entry))) (cutPolygonDrawn (now (list .entry)) (now (polygon .entry))) (now (out .entry)) a (now (out .exit)) ⌝ }
 {
-    if out.len() != 1024 {
+    if out.len() != RESULT_NUMBERS {
         return Answer::Invalid;
     }
-    if !is_list(list, 256) {
+    if !is_list(list, MOST_PIECES) {
         return Answer::Invalid;
     }
-    if !is_list(polygon, 16) {
+    if !is_list(polygon, MOST_OF_POLYGON) {
         return Answer::Invalid;
     }
     let n = list.len() / 4;
-    let mut work = [0u32; 1088];
-    let mut spare = [0u32; 1088];
+    let mut work = [0u32; WORK_NUMBERS];
+    let mut spare = [0u32; WORK_NUMBERS];
     copy(list, 4 * n, &mut work);
     let p = Polygon::load(polygon, polygon.len() / 4);
     let c = cut_polygon(&mut work, n, p, &mut spare);
@@ -154,17 +158,17 @@ fn refine_in(list: &[u32], n: usize, work: &mut [u32], out: &mut [u32]) -> usize
 pub fn refine(list: &[u32], out: &mut [u32]) -> Answer
     ensures { λ a. ⌜ Drawn (validAlone (now (list .entry)) (now (out .entry))) (refineDrawn (now (list .entry))) (now (out .entry)) a (now (out .exit)) ⌝ }
 {
-    if out.len() != 1024 {
+    if out.len() != RESULT_NUMBERS {
         return Answer::Invalid;
     }
-    if !is_list(list, 256) {
+    if !is_list(list, MOST_PIECES) {
         return Answer::Invalid;
     }
     let n = list.len() / 4;
-    if n <= 16 {
+    if n <= MOST_OF_POLYGON {
         let mut short = [0u32; 64];
         return Answer::Wrote(refine_in(list, n, &mut short, out));
     }
-    let mut work = [0u32; 1024];
+    let mut work = [0u32; RESULT_NUMBERS];
     Answer::Wrote(refine_in(list, n, &mut work, out))
 }

@@ -15,7 +15,7 @@ use Rattle.plane.specs.Plane.{planeSpace}
 use Rattle.memory.specs.Layout.{part, polygonIn, childrenIn}
 use Rattle.memory.specs.Fanout.{fanout}
 use Rattle.layout.specs.declared.node.Node.{Node}
-use Rattle.layout.specs.Loaded.{nodeOf, nodeIn, childOf, withChild}
+use Rattle.layout.specs.Loaded.{nodeOf, nodeIn, nodeChild, withChild}
 use Rattle.layout.specs.Nodes.{countAt, childAt}
 use Rattle.layout.specs.Parts.{PartRoom}
 use Rattle.index.specs.Walks.{Walkable}
@@ -156,7 +156,7 @@ module _ (level : ℕ) (m : List ℕ) (lo k : ℕ) (ss w₀ : List ℕ) (next₀
             }
 
     -- the room for the child, by the node as it was loaded
-    pub entered-room : (old : Node) → old ≡ nodeIn (part m k) → i < size → (j : ℕ) → j ≡ childOf old i → Room (level - 1) w next (deepAt (level - 1) m low j ss)
+    pub entered-room : (old : Node) → old ≡ nodeIn (part m k) → i < size → (j : ℕ) → j ≡ nodeChild old i → Room (level - 1) w next (deepAt (level - 1) m low j ss)
     entered-room old q h j e =
         let v = a .at .walk in
         let c = walk-count (suc (level - 1)) m lo k v old q in

@@ -10,7 +10,7 @@ use Rattle.tree.specs.Lists.{notEmpty}
 use Rattle.plane.specs.Lines.{CellEntry}
 use Rattle.memory.specs.Layout.{entryIn}
 use Rattle.layout.specs.declared.node.Node.{Node}
-use Rattle.layout.specs.Loaded.{nodeOf, leafOf, nodeIn, entryOf, withEntry}
+use Rattle.layout.specs.Loaded.{nodeOf, leafOf, nodeIn, nodeEntry, withEntry}
 use Rattle.layout.specs.Nodes.{NodePart}
 use Rattle.layout.proofs.LoadedLaws.{no-entries, count-entries, entry-more, loaded-entry}
 use Rattle.index.proofs.WalkLeaf.{AtEntry, loaded-start, entry-small, entry-nine, entry-test, entry-miss, entry-hit, entry-end}
@@ -24,7 +24,7 @@ left-is ss e c b q g = g ∙ ap (onEvery ss) q
 
 -- an entry was found, or none is left
 module _ (ss p : List ℕ) (n i : ℕ) (a : AtEntry (onTest ss) p n i []) where
-  module _ (leaf : Node) (q : leaf ≡ nodeIn p) (h : i < n) (b : Bool) (e : b ≡ onTest ss (entryOf leaf i)) where
+  module _ (leaf : Node) (q : leaf ≡ nodeIn p) (h : i < n) (b : Bool) (e : b ≡ onTest ss (nodeEntry leaf i)) where
     passed : b ≡ onTest ss (entryIn p i)
     passed = entry-test (onTest ss) p n i [] a leaf q h b e
 
@@ -70,7 +70,7 @@ module _ (ss p : List ℕ) (n : ℕ) (leaf : Node) (l : leaf ≡ nodeIn p) where
     pub gather-nine : i < n → i < 9
     gather-nine h = entry-nine (onTest ss) p n i (a .es) (a .at) leaf l h
 
-    module _ (h : i < n) (b : Bool) (e : b ≡ onTest ss (entryOf leaf i)) where
+    module _ (h : i < n) (b : Bool) (e : b ≡ onTest ss (nodeEntry leaf i)) where
       kept : b ≡ onTest ss (entryIn p i)
       kept = entry-test (onTest ss) p n i (a .es) (a .at) leaf l h b e
 
@@ -82,7 +82,7 @@ module _ (ss p : List ℕ) (n : ℕ) (leaf : Node) (l : leaf ≡ nodeIn p) where
         few = let g = a .few in omega arith;
       })
 
-      pub gather-hit : (c : Cell) (t : ℕ) (left″ left′ : Node) → b ≡ true → c ≡ entryOf leaf i .cell → t ≡ entryOf leaf i .tag
+      pub gather-hit : (c : Cell) (t : ℕ) (left″ left′ : Node) → b ≡ true → c ≡ nodeEntry leaf i .cell → t ≡ nodeEntry leaf i .tag
           → left″ ≡ withEntry left (record { cell = c; tag = t }) → left′ ≡ left″ → GatherLoop ss p n (i + 1) left′
       unfolding withEntry
       gather-hit c t left″ left′ f u v x q =

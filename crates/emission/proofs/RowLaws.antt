@@ -19,7 +19,7 @@ use Rattle.memory.proofs.NodeImage.{length-node}
 use Rattle.memory.proofs.ReadingLaws.{lowAt, row-at, row-length, node-parts, node-lower}
 use Rattle.memory.specs.Fanout.{fanout}
 use Rattle.layout.specs.declared.node.Node.{Node}
-use Rattle.layout.specs.Loaded.{nodeOf, routingOf, nodeIn, childOf, withChild}
+use Rattle.layout.specs.Loaded.{nodeOf, routingOf, nodeIn, nodeChild, withChild}
 use Rattle.layout.specs.Nodes.{childAt, countAt}
 use Rattle.index.specs.Walks.{Walkable}
 use Rattle.layout.proofs.NodeLaws.{child-in}
@@ -91,7 +91,7 @@ module _ (n : ℕ) (m : List ℕ) (k : ℕ) (v : Walkable (suc n) m 0 k) (to : �
   pub range-nine : i < 9
   range-nine = let f = v .few in omega arith
 
-  pub range-child : (j : ℕ) → j ≡ childOf node i → j ≡ childAt m k i
+  pub range-child : (j : ℕ) → j ≡ nodeChild node i → j ≡ childAt m k i
   range-child j e = let f = v .few in child-at m k node q i j (omega arith) e
 
 -- branches that follow one another fit where all of them fit

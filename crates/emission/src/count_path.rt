@@ -13,6 +13,7 @@ ghost use Rattle.emission.specs.Path.{PathNode, PathFrom, halfUnder, pla
 ghost use Rattle.emission.specs.Rows.{topParts};
 use crate::beside::count_beside;
 use crate::capped::capped_sum;
+use crate::front::MOST_SIDES;
 use crate::front::put_in_front;
 use crate::path::PATH_LEVEL;
 use crate::path::PATH_LINE;
@@ -61,7 +62,7 @@ pub fn count_half(m: &[u32], path: &[u32], level: u32, sides: &[u32], c: Cell, t
         let whole = count_half(m, path, below, sides, c, tag);
         return count_top(sides, capped_sum(beside, whole));
     }
-    let mut under = [0u32; 257];
+    let mut under = [0u32; MOST_SIDES];
     let n = sides.len() + 1;
     put_in_front(left_side(line), sides, &mut under);
     let left = count_half(m, path, below, &under[..n], c, tag);

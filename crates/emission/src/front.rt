@@ -5,6 +5,9 @@ ghost use Prim.Native.Nat.{_+_, _≤_};
 ghost use lib.ListN.{length, take};
 use geometry::copy;
 
+// The most sides that apply to a node: those of the lines of 256 levels, and one in front.
+pub const MOST_SIDES: usize = 257;
+
 // Writes a side and then some sides to the start of a list.
 pub fn put_in_front(side: u32, sides: &[u32], list: &mut [u32])
     requires { ⌜ length (now sides) + 1 ≤ length (now list) ⌝ }

@@ -7,6 +7,7 @@ ghost use Rattle.emission.specs.Emits.{Emits, Room};
 ghost use Rattle.emission.specs.Path.{PathFrom, halfUnder, placeOn, polygonOn};
 ghost use Rattle.emission.specs.Rows.{PathStep, Grows, RestWritten, RestRoom, noTops, beforeOn, behindOn};
 use crate::branches::emit_branches;
+use crate::front::MOST_SIDES;
 use crate::front::put_in_front;
 use crate::path::PATH_LEVEL;
 use crate::path::PATH_LINE;
@@ -87,7 +88,7 @@ pub fn emit_half(
         let tops = before.with_top(after);
         return emit_rest(m, path, level, sides, work, tops);
     }
-    let mut under = [0u32; 257];
+    let mut under = [0u32; MOST_SIDES];
     let n = sides.len() + 1;
     put_in_front(left_side(line), sides, &mut under);
     let middle = emit_half(m, path, below, &under[..n], c, tag, work, before.next);

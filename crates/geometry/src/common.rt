@@ -5,6 +5,7 @@ ghost use Rattle.geometry.specs.Common.{common, commonWith};
 ghost use Rattle.geometry.specs.Cut.{commonLimited};
 ghost use Rattle.geometry.specs.Numbers.{rectsIn, rectsOf, Appended, Written};
 use crate::cut::Count;
+use crate::limits::MOST_PIECES;
 use crate::numbers::put_rect;
 use crate::numbers::rect_at;
 use crate::polygon::Polygon;
@@ -49,7 +50,7 @@ pub fn common_parts(list: &[u32], n: usize, p: Polygon, out: &mut [u32]) -> Coun
     while i < n {
         let r = rect_at(list, i);
         m = put_common_with(out, m, r, p);
-        if 256 < m {
+        if MOST_PIECES < m {
             return Count::Over;
         }
         i += 1;

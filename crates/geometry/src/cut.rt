@@ -8,6 +8,7 @@ ghost use Rattle.geometry.specs.Cut.{xCeiling, xFloor, yCeiling, yFloor,
 ghost use Rattle.geometry.specs.Refine.{anyOf};
 ghost use Rattle.geometry.specs.Limits.{atMost, mostPieces};
 ghost use Rattle.geometry.specs.Numbers.{rectsIn, rectsOf, Appended, Written};
+use crate::limits::MOST_PIECES;
 use crate::numbers::copy;
 use crate::numbers::put_rect;
 use crate::numbers::rect_at;
@@ -95,7 +96,7 @@ pub fn cut_list(list: &[u32], n: usize, s: Rect, out: &mut [u32]) -> Count
     while i < n {
         let r = rect_at(list, i);
         m = put_cut(out, m, r, s);
-        if 256 < m {
+        if MOST_PIECES < m {
             return Count::Over;
         }
         i += 1;

@@ -2,6 +2,7 @@
 // value, and lists of rectangles as numbers, four a rectangle.
 mod common;
 mod cut;
+mod limits;
 mod numbers;
 mod polygon;
 mod rect;
@@ -12,6 +13,9 @@ pub use cut::Count;
 pub use cut::any_shares;
 pub use cut::cut_list;
 pub use cut::cut_polygon;
+pub use limits::MOST_OF_POLYGON;
+pub use limits::MOST_PIECES;
+pub use limits::WORK_NUMBERS;
 pub use numbers::all_valid;
 pub use numbers::copy;
 pub use numbers::put_rect;

@@ -10,6 +10,7 @@ ghost use Rattle.geometry.specs.Grow.{extraArea};
 ghost use Rattle.geometry.specs.Numbers.{rectsIn, rectsOf, Appended, PolygonOf};
 ghost use Rattle.geometry.specs.Place.{place};
 ghost use Rattle.geometry.specs.Refine.{refine};
+use crate::limits::MOST_OF_POLYGON;
 use crate::numbers::put_rect;
 use crate::numbers::rect_at;
 use crate::rect::Cell;
@@ -18,7 +19,7 @@ use crate::rect::Side;
 use crate::refine::refine_list;
 
 pub struct Polygon {
-    pub rects: [Rect; 16],
+    pub rects: [Rect; MOST_OF_POLYGON],
     pub count: usize,
 }
 
@@ -28,7 +29,7 @@ impl Polygon {
         ensures { λ p. ⌜ PolygonOf (r ∷ []) p ⌝ }
     {
         Polygon {
-            rects: [r; 16],
+            rects: [r; MOST_OF_POLYGON],
             count: 1,
         }
     }
@@ -45,7 +46,7 @@ impl Polygon {
             ury: 0,
         };
         let mut p = Polygon {
-            rects: [none; 16],
+            rects: [none; MOST_OF_POLYGON],
             count: n,
         };
         let mut i = 0;

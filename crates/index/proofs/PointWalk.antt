@@ -10,7 +10,7 @@ use Rattle.geometry.specs.declared.rect.Cell.{Cell}
 use Rattle.plane.specs.Lines.{CellEntry}
 use Rattle.memory.specs.Layout.{part, entryIn, polygonIn}
 use Rattle.layout.specs.declared.node.Node.{Node}
-use Rattle.layout.specs.Loaded.{nodeIn, entryOf}
+use Rattle.layout.specs.Loaded.{nodeIn, nodeEntry}
 use Rattle.layout.specs.Nodes.{childAt, countAt}
 use Rattle.index.specs.declared.walk.Found.{Found}
 use Rattle.index.specs.Walks.{hasTest, cellTest, visitsBelow, leafEntries, Walkable, found, foundOf, joined, heldBelow}
@@ -52,11 +52,11 @@ found-visits (e ∷ es) v = refl
 
 -- the leaf: the first entry that passes, or none
 module _ (c : Cell) (p : List ℕ) (n i : ℕ) (a : AtEntry (cellTest c) p n i []) where
-  module _ (leaf : Node) (q : leaf ≡ nodeIn p) (h : i < n) (b : Bool) (e : b ≡ cellTest c (entryOf leaf i)) where
+  module _ (leaf : Node) (q : leaf ≡ nodeIn p) (h : i < n) (b : Bool) (e : b ≡ cellTest c (nodeEntry leaf i)) where
     of-cell : b ≡ cellTest c (entryIn p i)
     of-cell = entry-test (cellTest c) p n i [] a leaf q h b e
 
-    pub leaf-held : (t : ℕ) → b ≡ true → t ≡ entryOf leaf i .tag → record { held = true; tag = t; visits = 1 } ≡ found (leafEntries (cellTest c) p) 1
+    pub leaf-held : (t : ℕ) → b ≡ true → t ≡ nodeEntry leaf i .tag → record { held = true; tag = t; visits = 1 } ≡ found (leafEntries (cellTest c) p) 1
     unfolding found foundOf
     leaf-held t f g =
         let k = entry-tag (cellTest c) p n i [] a leaf q h t g in

@@ -13,7 +13,7 @@ use Rattle.memory.specs.Layout.{itemCount, entryIn, entriesIn}
 use Rattle.memory.proofs.ReadingLaws.{entries-length}
 use Rattle.layout.specs.declared.node.Node.{Node}
 use Rattle.layout.specs.Items.{putEntry}
-use Rattle.layout.specs.Loaded.{nodeIn, entryOf}
+use Rattle.layout.specs.Loaded.{nodeIn, nodeEntry}
 use Rattle.layout.specs.Nodes.{NodePart}
 use Rattle.layout.proofs.LoadedLaws.{loaded-count, loaded-test, loaded-tag, loaded-put}
 use Rattle.index.specs.Walks.{leafEntries}
@@ -52,13 +52,13 @@ module _ (u : CellEntry → Bool) (p : List ℕ) (n : ℕ) where
       pub entry-nine : i < 9
       entry-nine = let s = entry-small in omega arith
 
-      pub entry-test : (b : Bool) → b ≡ u (entryOf leaf i) → b ≡ u (entryIn p i)
+      pub entry-test : (b : Bool) → b ≡ u (nodeEntry leaf i) → b ≡ u (entryIn p i)
       entry-test b e = loaded-test p leaf q u i b entry-small e
 
-      pub entry-tag : (t : ℕ) → t ≡ entryOf leaf i .tag → t ≡ entryIn p i .tag
+      pub entry-tag : (t : ℕ) → t ≡ nodeEntry leaf i .tag → t ≡ entryIn p i .tag
       entry-tag t e = loaded-tag p leaf q i t entry-small e
 
-      pub entry-put : (c : Cell) (t : ℕ) (l : List ℕ) (at : ℕ) (l′ : List ℕ) → c ≡ entryOf leaf i .cell → t ≡ entryOf leaf i .tag
+      pub entry-put : (c : Cell) (t : ℕ) (l : List ℕ) (at : ℕ) (l′ : List ℕ) → c ≡ nodeEntry leaf i .cell → t ≡ nodeEntry leaf i .tag
           → l′ ≡ putEntry l at (record { cell = c; tag = t }) → l′ ≡ putEntry l at (entryIn p i)
       entry-put c t l at l′ e f g = loaded-put p leaf q i c t l at l′ entry-small e f g
 

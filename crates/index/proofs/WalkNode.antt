@@ -5,7 +5,7 @@ use mathlib.Core.List.{List}
 use native.Mathlib.Omega.{arith}
 use Rattle.memory.specs.Layout.{part}
 use Rattle.layout.specs.declared.node.Node.{Node}
-use Rattle.layout.specs.Loaded.{nodeIn, childOf}
+use Rattle.layout.specs.Loaded.{nodeIn, nodeChild}
 use Rattle.layout.specs.Nodes.{countAt, childAt}
 use Rattle.layout.proofs.LoadedLaws.{count-at, child-at}
 use Rattle.index.specs.Walks.{Walkable}
@@ -17,5 +17,5 @@ module _ (level : ℕ) (m : List ℕ) (lo k : ℕ) (v : Walkable level m lo k) (
   pub walk-nine : (i : ℕ) → i < node .count → i < 9
   walk-nine i h = let c = walk-count in let f = v .few in omega arith
 
-  pub walk-child : (i j : ℕ) → i < node .count → j ≡ childOf node i → j ≡ childAt m k i
+  pub walk-child : (i j : ℕ) → i < node .count → j ≡ nodeChild node i → j ≡ childAt m k i
   walk-child i j h e = let c = walk-count in let f = v .few in child-at m k node q i j (omega arith) e

@@ -13,7 +13,7 @@ use Rattle.geometry.specs.Cells.{hasCell}
 use Rattle.plane.specs.Lines.{CellEntry}
 use Rattle.memory.specs.Layout.{part, entryIn, polygonIn}
 use Rattle.layout.specs.declared.node.Node.{Node}
-use Rattle.layout.specs.Loaded.{nodeIn, entryOf}
+use Rattle.layout.specs.Loaded.{nodeIn, nodeEntry}
 use Rattle.layout.specs.Nodes.{childAt, countAt, NodePart}
 use Rattle.index.specs.declared.window_query.Matched.{Matched}
 use Rattle.index.specs.Walks.{meetsTest, insideTest, visitsBelow, leafEntries, Walkable, matched, matchesBelow}
@@ -44,7 +44,7 @@ module _ (w : Rect) (p : List ℕ) (n : ℕ) (leaf : Node) (l : leaf ≡ nodeIn 
     pub count-small : i < n → i < 8
     count-small h = entry-small (insideTest w) p n i (x .es) (x .at) leaf l h
 
-    module _ (h : i < n) (b : Bool) (e : b ≡ insideTest w (entryOf leaf i)) where
+    module _ (h : i < n) (b : Bool) (e : b ≡ insideTest w (nodeEntry leaf i)) where
       passed : b ≡ insideTest w (entryIn p i)
       passed = entry-test (insideTest w) p n i (x .es) (x .at) leaf l h b e
 

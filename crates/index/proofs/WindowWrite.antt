@@ -11,7 +11,7 @@ use Rattle.plane.specs.Lines.{CellEntry}
 use Rattle.memory.specs.Layout.{part, entryIn, polygonIn}
 use Rattle.layout.specs.Items.{putEntry}
 use Rattle.layout.specs.declared.node.Node.{Node}
-use Rattle.layout.specs.Loaded.{nodeIn, childOf, entryOf}
+use Rattle.layout.specs.Loaded.{nodeIn, nodeChild, nodeEntry}
 use Rattle.layout.specs.Nodes.{childAt, countAt}
 use Rattle.index.specs.Walks.{meetsTest, insideTest, leafEntries, Walkable, putEntries, Listed, LeafRoom, WalkRoom, matchesBelow}
 use Rattle.index.proofs.WalkLeaf.{AtEntry, entry-miss, entry-hit, entry-end, loaded-start, entry-small, entry-nine, entry-put, entry-test}
@@ -75,7 +75,7 @@ module _ (w : Rect) (p : List ℕ) (n : ℕ) (l₀ : List ℕ) (at₀ : ℕ) (le
     pub write-nine : i < n → i < 9
     write-nine h = entry-nine (insideTest w) p n i (x .es) (x .at) leaf q h
 
-    module _ (h : i < n) (b : Bool) (e : b ≡ insideTest w (entryOf leaf i)) where
+    module _ (h : i < n) (b : Bool) (e : b ≡ insideTest w (nodeEntry leaf i)) where
       passed : b ≡ insideTest w (entryIn p i)
       passed = entry-test (insideTest w) p n i (x .es) (x .at) leaf q h b e
 
@@ -91,7 +91,7 @@ module _ (w : Rect) (p : List ℕ) (n : ℕ) (l₀ : List ℕ) (at₀ : ℕ) (le
       pub write-miss : (l′ : List ℕ) (next′ : ℕ) → b ≡ false → l′ ≡ l → next′ ≡ next → WriteLeaf w p n l₀ at₀ (i + 1) l′ next′
       write-miss l′ next′ f u r = rw (u, r) (record { es = x .es; at = entry-miss (insideTest w) p n i (x .es) (x .at) h b passed f; room = x .room; fits = x .fits; so-far = x .so-far })
 
-      pub write-hit : (c : Cell) (t : ℕ) (l″ l′ : List ℕ) (next′ : ℕ) → b ≡ true → c ≡ entryOf leaf i .cell → t ≡ entryOf leaf i .tag
+      pub write-hit : (c : Cell) (t : ℕ) (l″ l′ : List ℕ) (next′ : ℕ) → b ≡ true → c ≡ nodeEntry leaf i .cell → t ≡ nodeEntry leaf i .tag
           → l″ ≡ putEntry l next (record { cell = c; tag = t }) → l′ ≡ l″ → next′ ≡ next + 1 → WriteLeaf w p n l₀ at₀ (i + 1) l′ next′
       write-hit c t l″ l′ next′ f g k u s r =
           let v = entry-put (insideTest w) p n i (x .es) (x .at) leaf q h c t l next l″ g k u in
@@ -175,7 +175,7 @@ module _ (w : Rect) (level : ℕ) (m : List ℕ) (lo k n : ℕ) (l₀ : List ℕ
       })
 
     -- the same, by the node as it was loaded
-    pub entered-room : (node : Node) → node ≡ nodeIn (part m k) → i < n → (j : ℕ) → j ≡ childOf node i
+    pub entered-room : (node : Node) → node ≡ nodeIn (part m k) → i < n → (j : ℕ) → j ≡ nodeChild node i
         → (b : Bool) → b ≡ meetsTest w (polygonIn (part m j)) → b ≡ true → WalkRoom (level - 1) m low j w l next
     entered-room node q h j g b e f =
         let c = walk-count level m lo k (x .at .walkable) node q in

@@ -26,6 +26,7 @@ use index::Opened;
 use index::entries_below;
 use index::is_held;
 use index::open;
+use layout::MOST_PARTS;
 use layout::fill_zeros;
 use layout::part_at;
 use layout::part_count;
@@ -99,7 +100,7 @@ fn build_on_path(
         let mut path = [0u32; 16 * PATH_LEVEL];
         return build(m, work, level, root, c, tag, &mut path);
     }
-    let mut path = [0u32; 256 * PATH_LEVEL];
+    let mut path = [0u32; MOST_PARTS * PATH_LEVEL];
     build(m, work, level, root, c, tag, &mut path)
 }
 

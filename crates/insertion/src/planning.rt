@@ -4,6 +4,7 @@ use emission::PATH_LEVEL;
 use emission::PATH_LINE;
 use emission::PATH_PLACE;
 use geometry::Cell;
+use layout::FANOUT;
 use layout::count_at;
 use layout::part_at;
 use split_line::leaf_line;
@@ -34,7 +35,7 @@ pub fn plan(m: &[u32], level: u32, c: Cell, path: &mut [u32])
         let at = PATH_LEVEL * (n as usize);
         let k = path[at];
         // with the new item it has at most eight: it is not split, nor is any above
-        if count_at(m, k) < 8 {
+        if count_at(m, k) < FANOUT {
             return;
         }
         let line = line_at(m, path, n, level, c);

@@ -17,7 +17,7 @@ use Rattle.layout.specs.declared.node.Node.{Node}
 use Rattle.layout.specs.Nodes.{NodePart, childIn, countAt, childAt}
 use Rattle.layout.specs.Items.{putEntry}
 use Rattle.layout.specs.Gap.{MovedDown}
-use Rattle.layout.specs.Loaded.{nodeOf, leafOf, routingOf, nodeIn, childAmong, entryAmong, childOf, entryOf, withEntry, withChild, ItemOut}
+use Rattle.layout.specs.Loaded.{nodeOf, leafOf, routingOf, nodeIn, childAmong, entryAmong, nodeChild, nodeEntry, withEntry, withChild, ItemOut}
 
 -- a node without items is a leaf without entries, and a routing node without children
 pub no-entries : nodeOf 0 [] ≡ leafOf []
@@ -97,27 +97,27 @@ module _ (p : List ℕ) (n : Node) (q : n ≡ nodeIn p) where
   unfolding nodeIn
   loaded-item x h = rw q (getD-take 27 (drop 66 p) x 0 h ∙ getD-drop 66 p x 0)
 
-  pub loaded-child : (i j : ℕ) → i < 8 → j ≡ childOf n i → j ≡ childIn p i
+  pub loaded-child : (i j : ℕ) → i < 8 → j ≡ nodeChild n i → j ≡ childIn p i
   unfolding childAmong
   loaded-child i j h e = e ∙ loaded-item i (omega arith)
 
-  pub loaded-entry : (i : ℕ) → i < 8 → entryOf n i ≡ entryIn p i
+  pub loaded-entry : (i : ℕ) → i < 8 → nodeEntry n i ≡ entryIn p i
   unfolding entryAmong entryIn
   loaded-entry i h =
       let e : 66 + (3 * i + 1) ≡ 66 + 3 * i + 1 = omega arith in
       let f : 66 + (3 * i + 2) ≡ 66 + 3 * i + 2 = omega arith in
       rw (loaded-item (3 * i) (omega arith), loaded-item (3 * i + 1) (omega arith), loaded-item (3 * i + 2) (omega arith), e, f)
 
-  pub loaded-test : (u : CellEntry → Bool) (i : ℕ) (b : Bool) → i < 8 → b ≡ u (entryOf n i) → b ≡ u (entryIn p i)
+  pub loaded-test : (u : CellEntry → Bool) (i : ℕ) (b : Bool) → i < 8 → b ≡ u (nodeEntry n i) → b ≡ u (entryIn p i)
   loaded-test u i b h e = e ∙ ap u (loaded-entry i h)
 
-  pub loaded-cell : (i : ℕ) (c : Cell) → i < 8 → c ≡ entryOf n i .cell → c ≡ entryIn p i .cell
+  pub loaded-cell : (i : ℕ) (c : Cell) → i < 8 → c ≡ nodeEntry n i .cell → c ≡ entryIn p i .cell
   loaded-cell i c h e = e ∙ ap (λ (x : CellEntry). x .cell) (loaded-entry i h)
 
-  pub loaded-tag : (i t : ℕ) → i < 8 → t ≡ entryOf n i .tag → t ≡ entryIn p i .tag
+  pub loaded-tag : (i t : ℕ) → i < 8 → t ≡ nodeEntry n i .tag → t ≡ entryIn p i .tag
   loaded-tag i t h e = e ∙ ap (λ (x : CellEntry). x .tag) (loaded-entry i h)
 
-  pub loaded-put : (i : ℕ) (c : Cell) (t : ℕ) (l : List ℕ) (at : ℕ) (l′ : List ℕ) → i < 8 → c ≡ entryOf n i .cell → t ≡ entryOf n i .tag
+  pub loaded-put : (i : ℕ) (c : Cell) (t : ℕ) (l : List ℕ) (at : ℕ) (l′ : List ℕ) → i < 8 → c ≡ nodeEntry n i .cell → t ≡ nodeEntry n i .tag
       → l′ ≡ putEntry l at (record { cell = c; tag = t }) → l′ ≡ putEntry l at (entryIn p i)
   loaded-put i c t l at l′ h e f g = let a = loaded-cell i c h e in let b = loaded-tag i t h f in rw (a, b) at g
 
@@ -129,7 +129,7 @@ module _ (p : List ℕ) (v : NodePart p) (n : Node) (q : n ≡ nodeIn p) (i : �
   pub part-nine : i < 9
   part-nine = let s = part-small in omega arith
 
-  pub part-cell : (c : Cell) → c ≡ entryOf n i .cell → c ≡ entryIn p i .cell
+  pub part-cell : (c : Cell) → c ≡ nodeEntry n i .cell → c ≡ entryIn p i .cell
   part-cell c e = loaded-cell p n q i c part-small e
 
 -- the same of the node at part k
@@ -137,7 +137,7 @@ module _ (m : List ℕ) (k : ℕ) (n : Node) (q : n ≡ nodeIn (part m k)) where
   pub count-at : n .count ≡ countAt m k
   count-at = loaded-count (part m k) n q
 
-  pub child-at : (i j : ℕ) → i < 8 → j ≡ childOf n i → j ≡ childAt m k i
+  pub child-at : (i j : ℕ) → i < 8 → j ≡ nodeChild n i → j ≡ childAt m k i
   child-at i j h e = loaded-child (part m k) n q i j h e
 
 -- the items of a node are as many numbers as it has room for

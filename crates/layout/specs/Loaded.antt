@@ -34,11 +34,11 @@ unfoldable pub entryAmong : List ℕ → ℕ → CellEntry
 entryAmong l i = record { cell = record { x = getD l (3 * i) 0; y = getD l (3 * i + 1) 0 }; tag = getD l (3 * i + 2) 0 }
 
 -- the same by the node
-abbrev pub childOf : Node → ℕ → ℕ
-childOf n i = childAmong (n .items) i
+abbrev pub nodeChild : Node → ℕ → ℕ
+nodeChild n i = childAmong (n .items) i
 
-abbrev pub entryOf : Node → ℕ → CellEntry
-entryOf n i = entryAmong (n .items) i
+abbrev pub nodeEntry : Node → ℕ → CellEntry
+nodeEntry n i = entryAmong (n .items) i
 
 -- a part with the count and the items of a node; its polygon stays
 unfoldable pub withNode : List ℕ → Node → List ℕ

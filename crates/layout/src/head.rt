@@ -7,6 +7,7 @@ ghost use Rattle.memory.proofs.ReadingLaws.{RightLength};
 use crate::numbers::HEAD;
 use crate::numbers::HEAD_END;
 use crate::numbers::HEIGHT;
+use crate::numbers::MOST_PARTS;
 use crate::numbers::PART;
 use crate::numbers::ROOT;
 use crate::zeros::all_zero;
@@ -26,7 +27,7 @@ pub fn right_length(m: &[u32]) -> bool
     if n < 1 {
         return false;
     }
-    n <= 256
+    n <= MOST_PARTS
 }
 
 // How many parts the memory has.

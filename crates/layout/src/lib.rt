@@ -33,6 +33,8 @@ pub use node::node_at;
 pub use node::tag;
 pub use numbers::CHILD;
 pub use numbers::ENTRY;
+pub use numbers::FANOUT;
+pub use numbers::MOST_PARTS;
 pub use part::node_fits;
 pub use part::others_zero;
 pub use reading::child_at;

@@ -1,5 +1,11 @@
 // The numbers of the layout, which memory/specs/Layout.antt defines and docs/LAYOUT.md describes.
 
+// '1 to 8 entries', '1 to 8 branches'.
+pub const FANOUT: u32 = 8;
+
+// 'N from 1 to 256'.
+pub const MOST_PARTS: usize = 256;
+
 // The numbers before the first part.
 pub const HEAD: usize = 64;
 

@@ -9,6 +9,7 @@ ghost use Rattle.memory.specs.Fanout.{fanout};
 ghost use Rattle.layout.specs.Nodes.{IsPart, NodePart};
 use crate::bits::in_use;
 use crate::head::part_count;
+use crate::numbers::FANOUT;
 use crate::numbers::ITEMS;
 use crate::numbers::ITEMS_END;
 use crate::numbers::RECTS;
@@ -33,7 +34,7 @@ fn counts_fit(p: &[u32]) -> bool
     if items < 1 {
         return false;
     }
-    items <= 8
+    items <= FANOUT
 }
 
 // Whether the numbers behind the rectangles are zero. Nearly all polygons have one rectangle: there the length is constant.

@@ -15,7 +15,7 @@ use Rattle.tree.proofs.Booleans.{contrary}
 use Rattle.memory.specs.Layout.{part, itemCount, entryIn, polygonIn, childrenIn}
 use Rattle.memory.proofs.ReadingLaws.{lowAt, part-length}
 use Rattle.layout.specs.declared.node.Node.{Node}
-use Rattle.layout.specs.Loaded.{nodeIn, childOf, entryOf}
+use Rattle.layout.specs.Loaded.{nodeIn, nodeChild, nodeEntry}
 use Rattle.layout.specs.Nodes.{countAt, childAt, PartIn, PolygonPart}
 use Rattle.index.specs.Walks.{hasTest, cellTest}
 use Rattle.layout.proofs.NodeLaws.{child-in}
@@ -40,7 +40,7 @@ module _ (p : List ℕ) (c : Cell) where
   pub seek-start : HoldsCell p c → SeekEntry p c 0
   seek-start h = seek-at p c 0 h (omega arith)
 
-  module _ (leaf : Node) (l : leaf ≡ nodeIn p) (i : ℕ) (v : SeekEntry p c i) (b : Bool) (t : b ≡ cellTest c (entryOf leaf i)) where
+  module _ (leaf : Node) (l : leaf ≡ nodeIn p) (i : ℕ) (v : SeekEntry p c i) (b : Bool) (t : b ≡ cellTest c (nodeEntry leaf i)) where
     e : b ≡ cellTest c (entryIn p i)
     e = loaded-test p leaf l (cellTest c) i b (v .few) t
 
@@ -100,7 +100,7 @@ seek-child-at m lo k c i low j h l e f =
 
 module _ (m : List ℕ) (lo k : ℕ) (c : Cell) where
   module _ (node : Node) (l : node ≡ nodeIn (part m k)) where
-    pub seek-child-start : (j : ℕ) → ChildrenHave m k c → j ≡ childOf node 0 → SeekChild m lo k c 0 lo j
+    pub seek-child-start : (j : ℕ) → ChildrenHave m k c → j ≡ nodeChild node 0 → SeekChild m lo k c 0 lo j
     seek-child-start j h q =
         seek-child-at m lo k c 0 lo j h (omega arith) (sym (low-first lo (childrenIn (part m k)))) (child-at m k node l 0 j (omega arith) q)
 
@@ -144,7 +144,7 @@ module _ (m : List ℕ) (lo k : ℕ) (c : Cell) where
       pub seek-child-nine : not b ≡ true → i + 1 < 9
       seek-child-nine f = let a = seek-child-few f in omega arith
 
-      pub seek-child-again : (node : Node) (x : ℕ) → node ≡ nodeIn (part m k) → not b ≡ true → x ≡ childOf node (i + 1) → SeekChild m lo k c (i + 1) (j + 1) x
+      pub seek-child-again : (node : Node) (x : ℕ) → node ≡ nodeIn (part m k) → not b ≡ true → x ≡ nodeChild node (i + 1) → SeekChild m lo k c (i + 1) (j + 1) x
       seek-child-again node x l f q =
           let n = child-numbers m k (v .have .ends) (v .have .few) in
           let s = n .count in

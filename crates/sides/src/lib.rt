@@ -11,14 +11,17 @@ use geometry::Cell;
 use geometry::Line;
 use geometry::Side;
 
+// What is added to l for the number of a line in y; numbers below it are of lines in x.
+pub const Y_LINES: u32 = 65536;
+
 // The line of a number.
 pub fn line_of(rank: u32) -> Line
     ensures { λ l. ⌜ l ≡ rankLine rank ⌝ }
 {
-    if rank < 65536 {
+    if rank < Y_LINES {
         return Line::AtX(rank);
     }
-    Line::AtY(rank - 65536)
+    Line::AtY(rank - Y_LINES)
 }
 
 // The number of a line's left side.

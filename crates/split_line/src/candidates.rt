@@ -11,6 +11,11 @@ ghost use Rattle.split_line.specs.Bounds.{rectExtent, extentsIn, BoundsL
 use geometry::Line;
 use geometry::Rect;
 use geometry::rect_at;
+use layout::FANOUT;
+use sides::Y_LINES;
+
+// The numbers of lines are below this.
+const LINES: u32 = 131072;
 
 // How many branches hold entries left of a line, right of it, and on both sides.
 struct Counts {
@@ -56,13 +61,13 @@ impl Counts {
         if self.lefts == 0 {
             return false;
         }
-        if 8 < self.lefts {
+        if FANOUT < self.lefts {
             return false;
         }
         if self.rights == 0 {
             return false;
         }
-        self.rights <= 8
+        self.rights <= FANOUT
     }
 }
 
@@ -94,7 +99,7 @@ fn rank_of(line: Line) -> u32
 {
     match line {
         Line::AtX(l) => l,
-        Line::AtY(l) => 65536 + l,
+        Line::AtY(l) => Y_LINES + l,
     }
 }
 
@@ -126,7 +131,7 @@ fn try_line(bounds: &[u32], n: usize, line: Line, key: u32) -> u32
     if !counts.fit() {
         return key;
     }
-    let next = counts.both * 131072 + rank_of(line);
+    let next = counts.both * LINES + rank_of(line);
     if next < key {
         return next;
     }
@@ -156,5 +161,5 @@ pub fn best_line(bounds: &[u32], n: usize) -> u32
         key = try_branch(bounds, n, i, key);
         i += 1;
     }
-    key % 131072
+    key % LINES
 }

@@ -5,6 +5,7 @@ use geometry::Cell;
 use layout::Node;
 use layout::cell;
 use layout::item_count;
+use sides::Y_LINES;
 
 // The sums of coordinates and of their squares.
 struct Sums {
@@ -63,7 +64,7 @@ pub fn leaf_line(p: &[u32], c: Cell) -> u32
     let spread_x = n * sums.xx - sums.x * sums.x;
     let spread_y = n * sums.yy - sums.y * sums.y;
     if spread_x < spread_y {
-        return 65536 + (sums.y / n) as u32 + 1;
+        return Y_LINES + (sums.y / n) as u32 + 1;
     }
     (sums.x / n) as u32 + 1
 }

@@ -104,6 +104,7 @@ pub fn node_line(m: &[u32], level: u32, lo: u32, k: u32, place: u32, below: u32,
     requires { ⌜ NodeHere (now m) level lo k place below c ⌝ }
     ensures { λ r. ⌜ NodeLineIs (now (m .entry)) level lo k place below c r ⌝ }
 {
+    // of nine groups, four numbers each
     let mut bounds = [0u32; 36];
     let n = put_bounds(m, level, lo, k, place, below, c, &mut bounds);
     best_line(&bounds, n)

@@ -10,7 +10,7 @@ use Rattle.geometry.specs.declared.polygon.Polygon.{Polygon}
 use Rattle.geometry.specs.Numbers.{rectsIn, PolygonOf}
 use Rattle.memory.specs.Layout.{part, rectCount, polygonIn, childrenIn, rectNumbers}
 use Rattle.layout.specs.declared.node.Node.{Node}
-use Rattle.layout.specs.Loaded.{nodeIn, childOf}
+use Rattle.layout.specs.Loaded.{nodeIn, nodeChild}
 use Rattle.layout.specs.Nodes.{countAt, childAt, PolygonPart}
 use Rattle.layout.proofs.NodeLaws.{lent-polygon, child-in}
 use Rattle.layout.proofs.LoadedLaws.{count-at, child-at}
@@ -62,7 +62,7 @@ module _ (m : List ℕ) (k : ℕ) (v : Branches m k) (node : Node) (q : node ≡
     pub branch-nine : i < 9
     branch-nine = let f = v .few in omega arith
 
-    pub branch-child : (j : ℕ) → j ≡ childOf node i → j ≡ childAt m k i
+    pub branch-child : (j : ℕ) → j ≡ nodeChild node i → j ≡ childAt m k i
     branch-child j e = let f = v .few in child-at m k node q i j (omega arith) e
 
   -- up to the last
@@ -73,5 +73,5 @@ module _ (m : List ℕ) (k : ℕ) (v : Branches m k) (node : Node) (q : node ≡
     pub each-nine : i < 9
     each-nine = let f = v .few in let g = each-below in omega arith
 
-    pub each-child : (j : ℕ) → j ≡ childOf node i → j ≡ childAt m k i
+    pub each-child : (j : ℕ) → j ≡ nodeChild node i → j ≡ childAt m k i
     each-child j e = let f = v .few in let g = each-below in child-at m k node q i j (omega arith) e

@@ -15,6 +15,7 @@ use crate::pieces::put_grown;
 use geometry::Cell;
 use geometry::Count;
 use geometry::Polygon;
+use geometry::WORK_NUMBERS;
 use layout::child_at;
 use layout::count_at;
 
@@ -38,8 +39,8 @@ fn choose_nearest(m: &[u32], k: u32, p: Polygon, c: Cell) -> Choice
     let found = find_nearest(m, k, c);
     let place = found.branch;
     let rect = found.rect;
-    let mut list = [0u32; 1088];
-    let mut spare = [0u32; 1088];
+    let mut list = [0u32; WORK_NUMBERS];
+    let mut spare = [0u32; WORK_NUMBERS];
     let grown = put_grown(m, k, place, rect, p, c, &mut list, &mut spare);
     let Count::Rects(n) = grown else {
         let taken = Taken::Over;

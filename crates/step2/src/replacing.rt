@@ -6,6 +6,7 @@ ghost use Rattle.memory.specs.Layout.{part, rectCount, polygonIn};
 ghost use Rattle.layout.specs.Nodes.{PolygonPart};
 ghost use Rattle.step2.specs.Pieces.{replaced, refinedLimited};
 use geometry::Count;
+use geometry::MOST_OF_POLYGON;
 use geometry::put_rect;
 use geometry::rect_at;
 use geometry::refine_list;
@@ -60,7 +61,7 @@ fn put_refined(
 {
     let all = put_replaced(list, polygon, n, k, pieces, count);
     let left = refine_list(list, all);
-    if 16 < left {
+    if MOST_OF_POLYGON < left {
         return Count::Over;
     }
     Count::Rects(left)

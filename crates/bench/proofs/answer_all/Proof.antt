@@ -1,3 +1,4 @@
+-- `answer_all` meets its contract; its loop is in AnswerLoop.
 use Prim.Native.Nat.{_-_}
 use lib.ListN.{length}
 use Rattle.bench.proofs.AnswerLoop.{AllAnswered, all-start, all-again, all-less}

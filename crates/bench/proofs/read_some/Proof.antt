@@ -1,3 +1,4 @@
+-- `read_some` meets its contract; the laws that it needs are in TurnLoop.
 use Rattle.bench.proofs.TurnLoop.{rest-within}
 use borrow.Author.Needs.{needs}
 use Rattle.bench.proofs.read_some.Statement.{statement}

@@ -1,3 +1,4 @@
+-- `run` meets its contract; its loop is in TurnLoop.
 use Rattle.bench.proofs.TurnLoop.{Turning, turn-start, turn-long, turn-again}
 use borrow.Author.Needs.{needs}
 use Rattle.bench.proofs.run.Statement.{statement}

@@ -1,3 +1,4 @@
+-- `is_below` meets its contract; the laws that it needs are in SideLaws.
 use Rattle.sides.proofs.SideLaws.{below-x, below-y}
 use borrow.Author.Needs.{needs}
 use Rattle.sides.proofs.is_below.Statement.{statement}

@@ -1,3 +1,4 @@
+-- `is_on` meets its contract; the laws that it needs are in SideLaws.
 use Rattle.sides.proofs.SideLaws.{on-left, on-right}
 use borrow.Author.Needs.{needs}
 use Rattle.sides.proofs.is_on.Statement.{statement}

@@ -1,3 +1,4 @@
+-- `left_side` meets its contract; the laws that it needs are in SideLaws.
 use Rattle.sides.proofs.SideLaws.{left-is}
 use borrow.Author.Needs.{needs}
 use Rattle.sides.proofs.left_side.Statement.{statement}

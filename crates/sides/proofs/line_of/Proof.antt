@@ -1,3 +1,4 @@
+-- `line_of` meets its contract; the laws that it needs are in SideLaws.
 use Rattle.sides.proofs.SideLaws.{line-x, line-y}
 use Rattle.sides.proofs.line_of.Statement.{statement}
 use Rattle.sides.proofs.line_of.Tie as tie

@@ -1,3 +1,4 @@
+-- `on_all` meets its contract; its loop is in SideLaws.
 use borrow.Author.Tests.{not-true, not-false}
 use Rattle.sides.specs.Sides.{onEvery}
 use borrow.Author.Needs.{needs}

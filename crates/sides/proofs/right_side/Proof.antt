@@ -1,3 +1,4 @@
+-- `right_side` meets its contract; the laws that it needs are in SideLaws.
 use Rattle.sides.proofs.SideLaws.{right-is}
 use borrow.Author.Needs.{needs}
 use Rattle.sides.proofs.right_side.Statement.{statement}

@@ -1,3 +1,4 @@
+-- `side_of` meets its contract; the laws that it needs are in SideLaws.
 use Rattle.sides.proofs.SideLaws.{side-left, side-right}
 use borrow.Author.Needs.{needs}
 use Rattle.sides.proofs.side_of.Statement.{statement}

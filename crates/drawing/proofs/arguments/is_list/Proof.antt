@@ -1,3 +1,4 @@
+-- `arguments::is_list` meets its contract.
 use borrow.Author.Tests.{eq-eqb, ne-eqb, le-leb, lt-leb}
 use borrow.Author.Needs.{needs}
 use Rattle.drawing.specs.Arguments.{isList}

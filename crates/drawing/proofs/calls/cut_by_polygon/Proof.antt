@@ -1,3 +1,4 @@
+-- `calls::cut_by_polygon` meets its contract; the laws that it needs are in Ways.
 use mathlib.Core.Path.{refl}
 use mathlib.Core.Path.{_≡_}
 use Prim.Native.Nat.{_≤_, _/_}

@@ -1,3 +1,4 @@
+-- `calls::extra_area` meets its contract; the laws that it needs are in Ways and GrowLoop.
 use borrow.Author.Tests.{not-true, not-false}
 use borrow.Author.Needs.{needs}
 use Rattle.drawing.proofs.Ways.{told}

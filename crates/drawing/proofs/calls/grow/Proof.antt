@@ -1,3 +1,4 @@
+-- `calls::grow` meets its contract; the laws that it needs are in Ways and GrowLoop.
 use Prim.Native.Nat.{_≤_, _/_}
 use native.Mathlib.Omega.{arith}
 use lib.ListN.{length}

@@ -1,3 +1,4 @@
+-- `calls::put_grown` meets its contract; its loop is in GrowLoop.
 use Prim.Native.Nat.{_-_}
 use borrow.Author.Needs.{needs}
 use Rattle.drawing.proofs.GrowLoop.{Growing, grow-start, grow-again, grow-end}

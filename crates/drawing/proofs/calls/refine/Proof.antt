@@ -1,3 +1,4 @@
+-- `calls::refine` meets its contract; the laws that it needs are in Ways.
 use Prim.Native.Nat.{_/_}
 use Prim.Native.Nat.{_≤_}
 use native.Mathlib.Omega.{arith}

@@ -1,3 +1,4 @@
+-- `calls::refine_in` meets its contract; the laws that it needs are in Ways.
 use borrow.Author.Needs.{needs}
 use Rattle.drawing.proofs.Ways.{refined-into}
 use Rattle.drawing.proofs.calls.refine_in.Statement.{statement}

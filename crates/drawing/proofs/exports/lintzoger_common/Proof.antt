@@ -1,3 +1,4 @@
+-- `exports::lintzoger_common` meets its contract; the laws that it needs are in ExportWays.
 use borrow.Author.Needs.{needs}
 use Rattle.drawing.proofs.ExportWays.{exported}
 use Rattle.drawing.proofs.exports.lintzoger_common.Statement.{statement}

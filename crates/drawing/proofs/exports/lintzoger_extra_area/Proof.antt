@@ -1,3 +1,4 @@
+-- `exports::lintzoger_extra_area` meets its contract; the laws that it needs are in ExportWays.
 use borrow.Author.Needs.{needs}
 use Rattle.drawing.proofs.ExportWays.{area-number, area-reported, unfit-number, unfit-reported}
 use Rattle.drawing.proofs.exports.lintzoger_extra_area.Statement.{statement}

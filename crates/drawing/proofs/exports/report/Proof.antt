@@ -1,3 +1,4 @@
+-- `exports::report` meets its contract; the laws that it needs are in ExportWays.
 use Prim.Native.Nat.{_≤_}
 use native.Mathlib.Omega.{arith}
 use borrow.Author.Needs.{needs}

@@ -1,3 +1,4 @@
+-- `common::put_common` meets its contract; the laws that it needs are in AppendLaws.
 use borrow.Author.Needs.{needs}
 use Rattle.geometry.proofs.AppendLaws.{put-part, put-nothing}
 use Rattle.geometry.proofs.common.put_common.Statement.{statement}

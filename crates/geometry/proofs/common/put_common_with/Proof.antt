@@ -1,3 +1,4 @@
+-- `common::put_common_with` meets its contract; its loop is in FillLoops.
 use Prim.Native.Nat.{_-_}
 use borrow.Author.Needs.{needs}
 use Rattle.geometry.proofs.ArrayLaws.{of-map}

@@ -1,3 +1,4 @@
+-- `cut::cut_list` meets its contract; its loop is in FillLoops.
 use Prim.Native.Nat.{_-_}
 use borrow.Author.Needs.{needs}
 use Rattle.geometry.specs.Cut.{cutBy}

@@ -1,3 +1,4 @@
+-- `cut::cut_once` meets its contract; the laws that it needs are in CutLoops.
 use Prim.Native.Nat.{_≤_}
 use native.Mathlib.Omega.{arith}
 use borrow.Author.Needs.{needs}

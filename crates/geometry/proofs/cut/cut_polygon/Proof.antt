@@ -1,3 +1,4 @@
+-- `cut::cut_polygon` meets its contract; its loop is in CutLoops.
 use Prim.Native.Nat.{_-_}
 use borrow.Author.Needs.{needs}
 use Rattle.geometry.proofs.ArrayLaws.{of-map}

@@ -1,3 +1,4 @@
+-- `cut::put_cut` meets its contract; the laws that it needs are in AppendLaws.
 use borrow.Author.Needs.{needs}
 use Rattle.geometry.proofs.AppendLaws.{common-is, cut-shared, cut-apart}
 use Rattle.geometry.proofs.cut.put_cut.Statement.{statement}

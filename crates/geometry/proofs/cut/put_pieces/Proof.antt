@@ -1,3 +1,4 @@
+-- `cut::put_pieces` meets its contract; the laws that it needs are in AppendLaws.
 use borrow.Author.Needs.{needs}
 use Rattle.geometry.proofs.AppendLaws.{four-pieces}
 use Rattle.geometry.proofs.cut.put_pieces.Statement.{statement}

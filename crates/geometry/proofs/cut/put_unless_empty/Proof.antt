@@ -1,3 +1,4 @@
+-- `cut::put_unless_empty` meets its contract; the laws that it needs are in AppendLaws.
 use borrow.Author.Needs.{needs}
 use Rattle.geometry.proofs.AppendLaws.{empty-x, empty-y, not-empty}
 use Rattle.geometry.proofs.cut.put_unless_empty.Statement.{statement}

@@ -1,3 +1,4 @@
+-- `numbers::all_valid` meets its contract; its loop is in ScanLoops.
 use Prim.Native.Nat.{_-_}
 use borrow.Author.Needs.{needs}
 use Rattle.geometry.specs.Cells.{allValid}

@@ -1,3 +1,4 @@
+-- `numbers::put_rect` meets its contract.
 use mathlib.Core.Path.{refl}
 use native.Mathlib.Omega.{arith}
 use lib.ListN.{length-set}

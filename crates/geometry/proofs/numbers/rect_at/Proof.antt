@@ -1,3 +1,4 @@
+-- `numbers::rect_at` meets its contract.
 use mathlib.Core.Path.{refl}
 use borrow.Author.Needs.{needs}
 use Rattle.geometry.specs.Numbers.{rectAt}

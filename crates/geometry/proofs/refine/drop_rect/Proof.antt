@@ -1,3 +1,4 @@
+-- `refine::drop_rect` meets its contract; its loop is in RefineLoops.
 use Prim.Native.Nat.{_-_}
 use borrow.Author.Needs.{needs}
 use Rattle.geometry.proofs.RefineLoops.{Moving, move-start, move-again, move-end}

@@ -1,3 +1,4 @@
+-- `refine::is_contained` meets its contract; the laws that it needs are in ScanLoops.
 use borrow.Author.Needs.{needs}
 use Rattle.geometry.proofs.ScanLoops.{contained-before, contained-after}
 use Rattle.geometry.proofs.refine.is_contained.Statement.{statement}

@@ -1,3 +1,4 @@
+-- `refine::is_strictly_within_any` meets its contract; its loop is in ScanLoops.
 use Prim.Native.Nat.{_-_}
 use lib.ListN.{drop}
 use borrow.Author.Needs.{needs}

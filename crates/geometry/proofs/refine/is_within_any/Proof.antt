@@ -1,3 +1,4 @@
+-- `refine::is_within_any` meets its contract; its loop is in ScanLoops.
 use Prim.Native.Nat.{_-_}
 use borrow.Author.Needs.{needs}
 use Rattle.geometry.specs.Refine.{within, anyOf}

@@ -1,3 +1,4 @@
+-- `refine::join_rects` meets its contract; the laws that it needs are in RefineLoops.
 use borrow.Author.Needs.{needs}
 use Rattle.geometry.proofs.RefineLoops.{joined-is}
 use Rattle.geometry.proofs.refine.join_rects.Statement.{statement}

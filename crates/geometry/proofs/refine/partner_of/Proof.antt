@@ -1,3 +1,4 @@
+-- `refine::partner_of` meets its contract; its loop is in ScanLoops.
 use Prim.Native.Nat.{_-_}
 use borrow.Author.Needs.{needs}
 use Rattle.geometry.specs.Refine.{joins, partner}

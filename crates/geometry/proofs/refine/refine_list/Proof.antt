@@ -1,3 +1,4 @@
+-- `refine::refine_list` meets its contract; its loop is in RefineLoops.
 use borrow.Author.Needs.{needs}
 use Rattle.geometry.proofs.RefineLoops.{Refining, refining-start, refining-again, refining-stop, refining-end}
 use Rattle.geometry.proofs.refine.refine_list.Statement.{statement}

@@ -1,3 +1,4 @@
+-- `refine::refine_step` meets its contract; the laws that it needs are in RefineLoops.
 use borrow.Author.Needs.{needs}
 use Rattle.geometry.proofs.RefineLoops.{step-drop, step-done, step-join, partner-after, partner-inside}
 use Rattle.geometry.proofs.refine.refine_step.Statement.{statement}

@@ -1,3 +1,4 @@
+-- `calling::make_call` meets its contract; the laws that it needs are in CallWays.
 use native.Mathlib.Omega.{arith}
 use Rattle.history.proofs.CallWays.{replied-insert, replied-remove, replied-clear, replied-point, replied-window}
 use borrow.Author.Needs.{needs}

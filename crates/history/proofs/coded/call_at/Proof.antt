@@ -1,3 +1,4 @@
+-- `coded::call_at` meets its contract.
 use mathlib.Core.Path.{refl}
 use Rattle.history.specs.Coded.{codedAt}
 use borrow.Author.Needs.{needs}

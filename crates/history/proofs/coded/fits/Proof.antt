@@ -1,3 +1,4 @@
+-- `coded::fits` meets its contract; the laws that it needs are in CodedWays.
 use Prim.Native.Nat.{_+_, _*_}
 use native.Mathlib.Omega.{arith}
 use Rattle.history.proofs.CodedWays.{fits-no-call, fits-no-room, fits-no-kind, fits-no-part, fits-last}

@@ -1,3 +1,4 @@
+-- `replaying::make_one` meets its contract; the laws that it needs are in CallWays.
 use Rattle.history.specs.Coded.{partFor, partBack}
 use Rattle.history.proofs.CallWays.{one-made}
 use borrow.Author.Needs.{needs}

@@ -1,3 +1,4 @@
+-- `replaying::replay` meets its contract; its loop is in ReplayLoop.
 use Prim.Native.Nat.{_-_}
 use lib.ListN.{length}
 use borrow.Author.Needs.{needs}

@@ -1,3 +1,4 @@
+-- `replies::point_reply` meets its contract; the laws that it needs are in ReplyWays.
 use Rattle.history.specs.Replies.{replyOf}
 use Rattle.history.proofs.ReplyWays.{point-case}
 use borrow.Author.Needs.{needs}

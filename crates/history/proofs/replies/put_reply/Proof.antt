@@ -1,3 +1,4 @@
+-- `replies::put_reply` meets its contract.
 use mathlib.Core.Path.{refl}
 use native.Mathlib.Omega.{arith}
 use lib.ListN.{length-set}

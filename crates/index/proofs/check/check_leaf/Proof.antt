@@ -1,3 +1,4 @@
+-- `check::check_leaf` meets its contract; the laws that it needs are in CheckLoops.
 use borrow.Author.Tests.{not-true, not-false}
 use Rattle.index.proofs.CheckLoops.{leaf-unfit, leaf-outside, leaf-double, leaf-sound, sound-in, sound-part}
 use borrow.Author.Needs.{needs}

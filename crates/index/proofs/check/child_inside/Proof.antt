@@ -1,3 +1,4 @@
+-- `check::child_inside` meets its contract; the laws that it needs are in CheckLoops.
 use Rattle.layout.proofs.NodeLaws.{polygon-few}
 use Rattle.index.proofs.CheckLoops.{inside-is}
 use borrow.Author.Needs.{needs}

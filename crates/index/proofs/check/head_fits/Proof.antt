@@ -1,3 +1,4 @@
+-- `check::head_fits` meets its contract; the laws that it needs are in CheckLoops.
 use borrow.Author.Tests.{not-true, not-false}
 use Rattle.layout.proofs.NodeLaws.{rects-long}
 use Rattle.index.proofs.CheckLoops.{head-stop, head-in, head-part, head-last}

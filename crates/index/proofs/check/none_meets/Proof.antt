@@ -1,3 +1,4 @@
+-- `check::none_meets` meets its contract; its loop is in CheckLoops.
 use borrow.Author.Needs.{needs}
 use Prim.Native.Nat.{_-_, _+_}
 use lib.ListN.{drop, getD, length}

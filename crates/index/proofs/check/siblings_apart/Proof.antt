@@ -1,3 +1,4 @@
+-- `check::siblings_apart` meets its contract; its loop is in CheckLoops.
 use Prim.Native.Nat.{_-_}
 use lib.ListN.{length}
 use borrow.Author.Tests.{not-true, not-false}

@@ -1,3 +1,4 @@
+-- `cover::none_left` meets its contract; the laws that it needs are in CoverLaws.
 use Prim.Native.Nat.{ℕ, _<_, _-_}
 use borrow.Author.Needs.{needs}
 use native.Mathlib.Omega.{arith}

@@ -1,3 +1,4 @@
+-- `cover::are_apart` meets its contract; its loop is in CoverLaws.
 use borrow.Author.Needs.{needs}
 use Prim.Native.Nat.{_-_}
 use Rattle.geometry.specs.Numbers.{rectsIn}

@@ -1,3 +1,4 @@
+-- `cover::covered` meets its contract; the laws that it needs are in CoverLaws.
 use Rattle.index.proofs.CoverLaws.{covered-flat, covered-low, covered-within, covered-whole}
 use borrow.Author.Needs.{needs}
 use Rattle.index.proofs.cover.covered.Statement.{statement}

@@ -1,3 +1,4 @@
+-- `cover::first_shared` meets its contract; its loop is in CoverLaws.
 use borrow.Author.Needs.{needs}
 use Prim.Native.Nat.{_-_}
 use Rattle.index.specs.Check.{Skipped}

@@ -1,3 +1,4 @@
+-- `cover::inside` meets its contract; its loop is in CoverLaws.
 use borrow.Author.Needs.{needs}
 use Prim.Native.Nat.{_-_}
 use borrow.Author.Tests.{not-true, not-false}

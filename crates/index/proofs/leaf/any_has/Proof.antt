@@ -1,3 +1,4 @@
+-- `leaf::any_has` meets its contract; its loop is in LeafLaws.
 use borrow.Author.Needs.{needs}
 use Prim.Native.Nat.{_-_}
 use Rattle.geometry.specs.Cells.{anyHas}

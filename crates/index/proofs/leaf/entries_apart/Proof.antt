@@ -1,3 +1,4 @@
+-- `leaf::entries_apart` meets its contract; its loop is in LeafLaws.
 use borrow.Author.Needs.{needs}
 use Prim.Native.Nat.{_-_}
 use borrow.Author.Tests.{not-true, not-false}

@@ -1,3 +1,4 @@
+-- `leaf::none_like` meets its contract; its loop is in LeafLaws.
 use borrow.Author.Needs.{needs}
 use Prim.Native.Nat.{_-_, _+_}
 use lib.ListN.{drop}

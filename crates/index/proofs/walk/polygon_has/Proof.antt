@@ -1,3 +1,4 @@
+-- `walk::polygon_has` meets its contract; the laws that it needs are in WalkParts.
 use Rattle.layout.proofs.NodeLaws.{polygon-few}
 use Rattle.index.proofs.WalkParts.{polygon-has}
 use borrow.Author.Needs.{needs}

@@ -1,3 +1,4 @@
+-- `walk::polygon_meets` meets its contract; the laws that it needs are in WalkParts.
 use Rattle.layout.proofs.NodeLaws.{polygon-few}
 use Rattle.index.proofs.WalkParts.{polygon-meets}
 use borrow.Author.Needs.{needs}

@@ -1,3 +1,4 @@
+-- `descent::descend` meets its contract; the laws that it needs are in DescentLaws and DescentWays.
 use borrow.Author.Needs.{needs}
 use native.Mathlib.Omega.{arith}
 use Rattle.insertion.proofs.DescentLaws.{at-leaf}

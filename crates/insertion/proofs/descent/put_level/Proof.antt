@@ -1,3 +1,4 @@
+-- `descent::put_level` meets its contract; the laws that it needs are in LevelLaws.
 use lib.ListN.{length-set}
 use native.Mathlib.Omega.{arith}
 use Rattle.insertion.proofs.LevelLaws.{level-put, level-length}

@@ -1,3 +1,4 @@
+-- `insert_call::build` meets its contract; the laws that it needs are in InsertLaws.
 use borrow.Author.Needs.{needs}
 use borrow.Author.Tests.{not-true, not-false}
 use Rattle.insertion.proofs.InsertLaws.{build-walk, build-right, build-level, held-fits, build-seven, build-eight, emit-room, put-some, put-few, put-fit, put-long, build-accepted, path-from}

@@ -1,3 +1,4 @@
+-- `insert_call::build_on_path` meets its contract; the laws that it needs are in InsertLaws.
 use Rattle.insertion.proofs.InsertLaws.{build-room}
 use borrow.Author.Needs.{needs}
 use Rattle.insertion.proofs.insert_call.build_on_path.Statement.{statement}

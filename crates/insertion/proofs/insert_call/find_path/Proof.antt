@@ -1,3 +1,4 @@
+-- `insert_call::find_path` meets its contract; the laws that it needs are in RootLaws.
 use borrow.Author.Tests.{not-true, not-false}
 use Rattle.insertion.proofs.RootLaws.{root-in, cell-x, cell-y, find-start, find-refused, find-length, find-plannable, find-planned, plan-length}
 use borrow.Author.Needs.{needs}

@@ -1,3 +1,4 @@
+-- `insert_call::insert_into` meets its contract; the laws that it needs are in InsertWays.
 use Rattle.insertion.proofs.InsertWays.{into-held, into-new, into-done}
 use borrow.Author.Needs.{needs}
 use Rattle.insertion.proofs.insert_call.insert_into.Statement.{statement}

@@ -1,3 +1,4 @@
+-- `insert_call::insert_opened` meets its contract; the laws that it needs are in InsertWays.
 use borrow.Author.Tests.{not-true, not-false}
 use Rattle.index.proofs.OpenLaws.{right-is}
 use Rattle.insertion.proofs.InsertWays.{wrong-length, wrong-work, off-grid, call-done, cell-on-grid}

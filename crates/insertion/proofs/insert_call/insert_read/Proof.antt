@@ -1,3 +1,4 @@
+-- `insert_call::insert_read` meets its contract; the laws that it needs are in InsertWays.
 use Rattle.index.proofs.PointWays.{opened-tree}
 use Rattle.insertion.proofs.InsertWays.{no-tree, opened-empty, into-done}
 use borrow.Author.Needs.{needs}

@@ -1,3 +1,4 @@
+-- `planning::line_at` meets its contract; the laws that it needs are in NodeBounds and LineLaws.
 use Rattle.insertion.proofs.NodeBounds.{part-in, place-at, part-ends, full-node, below-in}
 use Rattle.insertion.proofs.LineLaws.{leaf-ready, leaf-found, node-ready, node-found}
 use borrow.Author.Needs.{needs}

@@ -1,3 +1,4 @@
+-- `planning::plan` meets its contract; its loop is in PlanLoop.
 use borrow.Author.Needs.{needs}
 use Prim.Native.Nat.{_+_, _-_}
 use Rattle.insertion.proofs.PlanBounds.{plan-part, plan-line, plan-in, plan-next}

@@ -1,3 +1,4 @@
+-- `bits::bits_set` meets its contract; its loop is in BitLaws.
 use Prim.Native.Nat.{_-_, _^_, _<_}
 use native.Mathlib.Omega.{arith}
 use lib.Count.{ones-le}

@@ -1,3 +1,4 @@
+-- `bits::in_use` meets its contract.
 use mathlib.Core.Path.{refl}
 use Rattle.memory.specs.Layout.{inUse}
 use borrow.Author.Needs.{needs}

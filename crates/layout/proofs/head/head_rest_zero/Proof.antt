@@ -1,3 +1,4 @@
+-- `head::head_rest_zero` meets its contract; the laws that it needs are in HeadLaws.
 use Rattle.layout.proofs.HeadLaws.{head-zero}
 use borrow.Author.Needs.{needs}
 use Rattle.layout.proofs.head.head_rest_zero.Statement.{statement}

@@ -1,3 +1,4 @@
+-- `head::right_length` meets its contract; the laws that it needs are in HeadLaws.
 use Rattle.layout.proofs.HeadLaws.{length-stop-1, length-stop-2, length-stop-3, length-last}
 use borrow.Author.Needs.{needs}
 use Rattle.layout.proofs.head.right_length.Statement.{statement}

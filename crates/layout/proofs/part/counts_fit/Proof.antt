@@ -1,3 +1,4 @@
+-- `part::counts_fit` meets its contract; the laws that it needs are in PartLaws.
 use Rattle.layout.proofs.PartLaws.{counts-1, counts-2, counts-3, counts-4}
 use borrow.Author.Needs.{needs}
 use Rattle.layout.proofs.part.counts_fit.Statement.{statement}

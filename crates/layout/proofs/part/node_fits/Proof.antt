@@ -1,3 +1,4 @@
+-- `part::node_fits` meets its contract; the laws that it needs are in PartLaws.
 use borrow.Author.Tests.{not-true, not-false}
 use Rattle.layout.proofs.PartLaws.{fits-stop-1, fits-stop-2, fits-stop-3, fits-part, fits-last}
 use borrow.Author.Needs.{needs}

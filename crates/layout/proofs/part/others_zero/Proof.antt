@@ -1,3 +1,4 @@
+-- `part::others_zero` meets its contract; its loop is in PartLaws.
 use borrow.Author.Needs.{needs}
 use Prim.Native.Nat.{_-_}
 use borrow.Author.Tests.{not-true, not-false}

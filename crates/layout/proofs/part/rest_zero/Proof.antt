@@ -1,3 +1,4 @@
+-- `part::rest_zero` meets its contract; the laws that it needs are in PartLaws.
 use native.Mathlib.Omega.{arith}
 use borrow.Author.Tests.{not-true, not-false}
 use Rattle.layout.proofs.PartLaws.{few-numbers, rest-stop-1, rest-stop-2, rest-last}

@@ -1,3 +1,4 @@
+-- `part::used_or_zero` meets its contract; the laws that it needs are in PartLaws.
 use Rattle.layout.proofs.PartLaws.{used-one, zero-one}
 use borrow.Author.Needs.{needs}
 use Rattle.layout.proofs.part.used_or_zero.Statement.{statement}

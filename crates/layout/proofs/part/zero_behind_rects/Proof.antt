@@ -1,3 +1,4 @@
+-- `part::zero_behind_rects` meets its contract; the laws that it needs are in PartLaws.
 use Rattle.layout.proofs.PartLaws.{behind-one, behind-more}
 use borrow.Author.Needs.{needs}
 use Rattle.layout.proofs.part.zero_behind_rects.Statement.{statement}

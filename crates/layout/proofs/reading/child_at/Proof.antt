@@ -1,3 +1,4 @@
+-- `reading::child_at` meets its contract; the laws that it needs are in NodeLaws.
 use Rattle.layout.proofs.NodeLaws.{child-of}
 use borrow.Author.Needs.{needs}
 use Rattle.layout.proofs.reading.child_at.Statement.{statement}

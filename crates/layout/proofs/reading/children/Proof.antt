@@ -1,3 +1,4 @@
+-- `reading::children` meets its contract; the laws that it needs are in NodeLaws.
 use borrow.Author.Needs.{needs}
 use Rattle.layout.proofs.NodeLaws.{children-are}
 use Rattle.layout.proofs.reading.children.Statement.{statement}

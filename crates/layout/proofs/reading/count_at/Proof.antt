@@ -1,3 +1,4 @@
+-- `reading::count_at` meets its contract; the laws that it needs are in NodeLaws.
 use Rattle.layout.proofs.NodeLaws.{count-of}
 use borrow.Author.Needs.{needs}
 use Rattle.layout.proofs.reading.count_at.Statement.{statement}

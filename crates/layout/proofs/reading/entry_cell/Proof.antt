@@ -1,3 +1,4 @@
+-- `reading::entry_cell` meets its contract; the laws that it needs are in NodeLaws.
 use borrow.Author.Needs.{needs}
 use Rattle.layout.proofs.NodeLaws.{cell-is}
 use Rattle.layout.proofs.reading.entry_cell.Statement.{statement}

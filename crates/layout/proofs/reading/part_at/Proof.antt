@@ -1,3 +1,4 @@
+-- `reading::part_at` meets its contract; the laws that it needs are in NodeLaws.
 use borrow.Author.Needs.{needs}
 use Rattle.layout.proofs.NodeLaws.{part-is, part-long}
 use Rattle.layout.proofs.reading.part_at.Statement.{statement}

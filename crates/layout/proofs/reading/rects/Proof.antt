@@ -1,3 +1,4 @@
+-- `reading::rects` meets its contract; the laws that it needs are in NodeLaws.
 use borrow.Author.Needs.{needs}
 use Rattle.layout.proofs.NodeLaws.{rest-is}
 use Rattle.layout.proofs.reading.rects.Statement.{statement}

@@ -1,3 +1,4 @@
+-- `writing::bits_word` meets its contract; the laws that it needs are in WritingLaws.
 use Rattle.layout.proofs.WritingLaws.{no-bits, all-bits, bit-room, low-bits}
 use borrow.Author.Needs.{needs}
 use Rattle.layout.proofs.writing.bits_word.Statement.{statement}

@@ -1,3 +1,4 @@
+-- `writing::put_head` meets its contract; the laws that it needs are in WritingLaws.
 use native.Mathlib.Omega.{arith}
 use lib.ListN.{length-set}
 use Rattle.layout.proofs.WritingLaws.{head-put}

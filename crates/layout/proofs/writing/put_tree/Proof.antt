@@ -1,3 +1,4 @@
+-- `writing::put_tree` meets its contract; the laws that it needs are in WritingLaws.
 use Rattle.layout.proofs.WritingLaws.{writes}
 use borrow.Author.Needs.{needs}
 use Rattle.layout.proofs.writing.put_tree.Statement.{statement}

@@ -1,3 +1,4 @@
+-- `zeros::all_zero` meets its contract; its loop is in ZeroLaws.
 use borrow.Author.Needs.{needs}
 use Prim.Native.Nat.{_-_}
 use lib.ListN.{length}

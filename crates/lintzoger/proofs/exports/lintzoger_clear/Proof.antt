@@ -1,3 +1,4 @@
+-- `exports::lintzoger_clear` meets its contract; the laws that it needs are in ExportWays.
 use Rattle.lintzoger.proofs.ExportWays.{clear-accepted, clear-length}
 use borrow.Author.Needs.{needs}
 use Rattle.lintzoger.proofs.exports.lintzoger_clear.Statement.{statement}

@@ -1,3 +1,4 @@
+-- `exports::lintzoger_insert` meets its contract; the laws that it needs are in ExportWays.
 use Rattle.lintzoger.proofs.ExportWays.{insert-accepted, insert-length, insert-work, insert-off-grid, insert-no-tree, insert-cell-held, insert-seven, insert-eight}
 use borrow.Author.Needs.{needs}
 use Rattle.lintzoger.proofs.exports.lintzoger_insert.Statement.{statement}

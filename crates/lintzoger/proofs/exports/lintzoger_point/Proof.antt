@@ -1,3 +1,4 @@
+-- `exports::lintzoger_point` meets its contract; the laws that it needs are in ExportWays.
 use Rattle.lintzoger.proofs.ExportWays.{point-held, point-not-held, point-length, point-off-grid, point-no-tree}
 use borrow.Author.Needs.{needs}
 use Rattle.lintzoger.proofs.exports.lintzoger_point.Statement.{statement}

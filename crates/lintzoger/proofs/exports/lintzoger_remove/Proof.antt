@@ -1,3 +1,4 @@
+-- `exports::lintzoger_remove` meets its contract; the laws that it needs are in ExportWays.
 use Rattle.lintzoger.proofs.ExportWays.{remove-accepted, remove-length, remove-off-grid, remove-no-tree, remove-not-held}
 use borrow.Author.Needs.{needs}
 use Rattle.lintzoger.proofs.exports.lintzoger_remove.Statement.{statement}

@@ -1,3 +1,4 @@
+-- `exports::lintzoger_window` meets its contract; the laws that it needs are in ExportWays.
 use Rattle.lintzoger.proofs.ExportWays.{window-found, window-length, window-bad, window-no-tree, window-short}
 use borrow.Author.Needs.{needs}
 use Rattle.lintzoger.proofs.exports.lintzoger_window.Statement.{statement}

@@ -1,3 +1,4 @@
+-- `polygon::Polygon::refine` meets its contract; the laws that it needs are in RefineLoops.
 use borrow.Author.Needs.{needs}
 use Rattle.geometry.proofs.RefineLoops.{polygon-refined}
 use Rattle.geometry.proofs.polygon.Polygon.refine.Statement.{statement}

@@ -1,3 +1,4 @@
+-- `rect::Cell::on_grid` meets its contract; the laws that it needs are in Tests.
 use borrow.Author.Tests.{le-leb, lt-leb}
 use Rattle.geometry.specs.Cells.{onGrid}
 use Rattle.geometry.proofs.Tests.{stop-of-2, last-of-2}

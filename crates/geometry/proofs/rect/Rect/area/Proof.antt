@@ -1,3 +1,4 @@
+-- `rect::Rect::area` meets its contract; the laws that it needs are in RectWays.
 use borrow.Author.Needs.{needs}
 use Rattle.geometry.specs.Cells.{area}
 use Rattle.geometry.proofs.RectWays.{product-fits}

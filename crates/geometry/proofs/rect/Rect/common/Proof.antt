@@ -1,3 +1,4 @@
+-- `rect::Rect::common` meets its contract; the laws that it needs are in RectWays.
 use borrow.Author.Needs.{needs}
 use Rattle.geometry.proofs.RectWays.{common-none-x, common-none-y, common-part}
 use Rattle.geometry.proofs.rect.Rect.common.Statement.{statement}

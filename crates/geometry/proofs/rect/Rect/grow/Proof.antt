@@ -1,3 +1,4 @@
+-- `rect::Rect::grow` meets its contract; the laws that it needs are in CellLaws.
 use borrow.Author.Needs.{needs}
 use Rattle.geometry.specs.Grow.{grown}
 use Rattle.geometry.proofs.CellLaws.{rect-is}

@@ -1,3 +1,4 @@
+-- `rect::Rect::is_joinable` meets its contract; the laws that it needs are in Tests.
 use borrow.Author.Needs.{needs}
 use Rattle.geometry.specs.Refine.{joinable}
 use Rattle.geometry.proofs.Tests.{side-1, side-2}

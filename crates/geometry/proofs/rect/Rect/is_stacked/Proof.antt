@@ -1,3 +1,4 @@
+-- `rect::Rect::is_stacked` meets its contract; the laws that it needs are in Tests.
 use borrow.Author.Tests.{eq-eqb, ne-eqb, le-leb, lt-leb}
 use Rattle.geometry.specs.Refine.{stacked}
 use Rattle.geometry.proofs.Tests.{stop-1, stop-2, stop-3, last-4}

@@ -1,3 +1,4 @@
+-- `rect::Rect::is_strictly_within` meets its contract; the laws that it needs are in Tests.
 use borrow.Author.Needs.{needs}
 use Rattle.geometry.specs.Refine.{strictlyWithin}
 use Rattle.geometry.proofs.Tests.{but-1, but-2}

@@ -1,3 +1,4 @@
+-- `rect::Rect::shares` meets its contract; the laws that it needs are in RectWays.
 use borrow.Author.Needs.{needs}
 use Rattle.geometry.proofs.RectWays.{shares-none-x, shares-y}
 use Rattle.geometry.proofs.rect.Rect.shares.Statement.{statement}
