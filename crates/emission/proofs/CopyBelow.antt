@@ -3,7 +3,7 @@ use Prim.Native.Nat.{ℕ, zero, suc, _+_, _-_, _≤_, _<_}
 use mathlib.Core.Path.{_≡_, refl, sym, ap, _∙_}
 use mathlib.Core.List.{List, [], _∷_, flatMap}
 use native.Mathlib.Omega.{arith}
-use lib.ListN.{length}
+use lib.ListN.{length, set}
 use Rattle.tree.specs.Lists.{keep, total}
 use Rattle.tree.specs.Nodes.{Item, nodes}
 use Rattle.tree.specs.Pass.{onAll}
@@ -104,9 +104,10 @@ module _ (level : ℕ) (m : List ℕ) (lo k : ℕ) (w₀ : List ℕ) (next₀ si
       on : next < next′
       on = moved-on (level - 1) m low j w next w′ next′ copy-walk e
 
-      pub copy-again : (node′ : Node) → node′ ≡ withChild node (next′ - 1) → CopyLoop level m lo k w₀ next₀ size (i + 1) (j + 1) w′ next′ node′
+      pub copy-again : (items : List ℕ) → items ≡ set (node .items) (node .count) (next′ - 1)
+          → CopyLoop level m lo k w₀ next₀ size (i + 1) (j + 1) w′ next′ (record { count = node .count + 1; items = items })
       unfolding withChild
-      copy-again node′ q =
+      copy-again items q =
           let g = on in
           let c = a .count-is in
           rw q (record { row = again-one level m lo k [] w₀ next₀ size i low w next node (a .row) h j j-is w′ next′ e (λ z. omega arith); count-is = omega arith })

@@ -3,7 +3,7 @@ use Prim.Native.Nat.{ℕ, suc, _+_, _-_, _≤_, _<_}
 use mathlib.Core.Path.{_≡_, refl, ap, _∙_}
 use mathlib.Core.List.{List, [], _∷_, flatMap}
 use native.Mathlib.Omega.{arith}
-use lib.ListN.{length}
+use lib.ListN.{length, set}
 use Rattle.tree.specs.Lists.{total}
 use Rattle.tree.specs.Nodes.{Item, nodes}
 use Rattle.tree.specs.Plan.{clips}
@@ -103,9 +103,10 @@ module _ (level : ℕ) (m : List ℕ) (lo k : ℕ) (ss w : List ℕ) (next : ℕ
 module _ (level : ℕ) (m : List ℕ) (lo k : ℕ) (ss w₀ : List ℕ) (next₀ size i low : ℕ) (w : List ℕ) (next : ℕ) (node : Node)
     (a : EmitLoop level m lo k ss w₀ next₀ size i low w next node) where
   module _ (j : ℕ) (h : i < size) (j-is : j ≡ childAt m k i) (w′ : List ℕ) (next′ : ℕ) (e : Emits (level - 1) w next (deepAt (level - 1) m low j ss) w′ next′) where
-    pub emit-one : (node″ node′ : Node) → (next′ ≡ next → ⊥) → node″ ≡ withChild node (next′ - 1) → node′ ≡ node″
-        → EmitLoop level m lo k ss w₀ next₀ size (i + 1) (j + 1) w′ next′ node′
-    emit-one node″ node′ ne q r = rw (r ∙ q) (again-one level m lo k ss w₀ next₀ size i low w next node a h j j-is w′ next′ e ne)
+    pub emit-one : (items : List ℕ) (node′ : Node) → (next′ ≡ next → ⊥) → items ≡ set (node .items) (node .count) (next′ - 1)
+        → node′ ≡ record { count = node .count + 1; items = items } → EmitLoop level m lo k ss w₀ next₀ size (i + 1) (j + 1) w′ next′ node′
+    unfolding withChild
+    emit-one items node′ ne q r = rw (r, q) (again-one level m lo k ss w₀ next₀ size i low w next node a h j j-is w′ next′ e ne)
 
     pub emit-nothing : (node′ : Node) → next′ ≡ next → node′ ≡ node → EmitLoop level m lo k ss w₀ next₀ size (i + 1) (j + 1) w′ next′ node′
     emit-nothing node′ z q = rw q (again-nothing level m lo k ss w₀ next₀ size i low w next node a h j j-is w′ next′ e z)

@@ -10,9 +10,10 @@ use Rattle.tree.specs.Lists.{notEmpty}
 use Rattle.plane.specs.Lines.{CellEntry}
 use Rattle.memory.specs.Layout.{entryIn}
 use Rattle.layout.specs.declared.node.Node.{Node}
+use Rattle.layout.specs.Items.{putEntry}
 use Rattle.layout.specs.Loaded.{nodeOf, leafOf, nodeIn, nodeEntry, withEntry}
 use Rattle.layout.specs.Nodes.{NodePart}
-use Rattle.layout.proofs.LoadedLaws.{no-entries, count-entries, entry-more, loaded-entry}
+use Rattle.layout.proofs.LoadedLaws.{no-entries, count-entries, entry-is, entry-more, loaded-entry}
 use Rattle.index.proofs.WalkLeaf.{AtEntry, loaded-start, entry-small, entry-nine, entry-test, entry-miss, entry-hit, entry-end}
 use Rattle.sides.specs.Sides.{onEvery}
 use Rattle.emission.specs.Leaves.{onTest, leafLeft}
@@ -82,14 +83,16 @@ module _ (ss p : List ℕ) (n : ℕ) (leaf : Node) (l : leaf ≡ nodeIn p) where
         few = let g = a .few in omega arith;
       })
 
-      pub gather-hit : (c : Cell) (t : ℕ) (left″ left′ : Node) → b ≡ true → c ≡ nodeEntry leaf i .cell → t ≡ nodeEntry leaf i .tag
-          → left″ ≡ withEntry left (record { cell = c; tag = t }) → left′ ≡ left″ → GatherLoop ss p n (i + 1) left′
+      pub gather-hit : (c : Cell) (t : ℕ) (items : List ℕ) (left′ : Node) → b ≡ true → c ≡ nodeEntry leaf i .cell → t ≡ nodeEntry leaf i .tag
+          → items ≡ putEntry (left .items) (left .count) (record { cell = c; tag = t }) → left′ ≡ record { count = left .count + 1; items = items }
+          → GatherLoop ss p n (i + 1) left′
       unfolding withEntry
-      gather-hit c t left″ left′ f u v x q =
+      gather-hit c t items left′ f u v x q =
           let g = gather-few in
           let k : left .count ≡ length (a .es) = ap (λ (l : Node). l .count) (a .so-far) ∙ count-entries (a .es) in
           let o = loaded-entry p leaf l i (gather-small h) in
-          let y : left′ ≡ withEntry left (entryIn p i) = q ∙ (rw (u, v) at x) ∙ ap (withEntry left) o in
+          let z = entry-is left (record { cell = c; tag = t }) items x in
+          let y : left′ ≡ withEntry left (entryIn p i) = q ∙ (rw (u, v) at z) ∙ ap (withEntry left) o in
           rw y (record {
             es = a .es ++ (entryIn p i ∷ []);
             at = entry-hit (onTest ss) p n i (a .es) (a .at) h b kept f;

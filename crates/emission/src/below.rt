@@ -9,6 +9,7 @@ ghost use Rattle.emission.specs.Leaves.{leafUnder};
 use crate::leaf::gather;
 use crate::node::put_left;
 use layout::Node;
+use layout::add_child;
 use layout::child;
 use layout::copy_node;
 use layout::copy_part;
@@ -34,7 +35,9 @@ pub fn copy_below(m: &[u32], level: u32, lo: u32, k: u32, work: &mut [u32], next
     while i < n {
         let j = child(&node.items, i);
         free = copy_below(m, level - 1, low, j, work, free);
-        copy = copy.with_child(free - 1);
+        let count = copy.count;
+        add_child(&mut copy.items, count, free - 1);
+        copy.count = count + 1;
         low = j + 1;
         i += 1;
     }
@@ -84,7 +87,9 @@ pub fn emit_below(
         let j = child(&node.items, i);
         let after = emit_below(m, level - 1, low, j, sides, work, free);
         if after != free {
-            left = left.with_child(after - 1);
+            let count = left.count;
+            add_child(&mut left.items, count, after - 1);
+            left.count = count + 1;
         }
         free = after;
         low = j + 1;

@@ -7,6 +7,7 @@ ghost use Rattle.layout.specs.Nodes.{NodePart};
 ghost use Rattle.emission.specs.Leaves.{onTest, leafLeft};
 use layout::Items;
 use layout::Node;
+use layout::add_entry;
 use layout::cell;
 use layout::tag;
 use sides::on_all;
@@ -48,7 +49,14 @@ pub fn gather(p: &[u32], sides: &[u32]) -> Node
     let mut i = 0;
     while i < n {
         if is_left(&leaf.items, i, sides) {
-            left = left.with_entry(cell(&leaf.items, i), tag(&leaf.items, i));
+            let count = left.count;
+            add_entry(
+                &mut left.items,
+                count,
+                cell(&leaf.items, i),
+                tag(&leaf.items, i),
+            );
+            left.count = count + 1;
         }
         i += 1;
     }

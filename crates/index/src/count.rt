@@ -4,6 +4,7 @@ ghost use lib.ListN.{length};
 ghost use Rattle.index.specs.Count.{entriesAt};
 ghost use Rattle.index.specs.Walks.{Walkable};
 use layout::child;
+use layout::count_at;
 use layout::node_at;
 
 // Counts the entries below the node at part k, whose subtree has the parts from lo on.
@@ -11,10 +12,10 @@ pub fn entries_below(m: &[u32], level: u32, lo: u32, k: u32) -> u32
     requires { ⌜ Walkable level (now m) lo k ⌝ }
     ensures { λ r. ⌜ r ≡ length (entriesAt level (now (m .entry)) lo k) ⌝ }
 {
-    let node = node_at(m, k);
     if level == 0 {
-        return node.count;
+        return count_at(m, k);
     }
+    let node = node_at(m, k);
     let n = node.count as usize;
     let mut sum: u32 = 0;
     let mut low = lo;

@@ -27,6 +27,8 @@ pub use head::tree_height;
 pub use items::put_entry;
 pub use node::Items;
 pub use node::Node;
+pub use node::add_child;
+pub use node::add_entry;
 pub use node::cell;
 pub use node::child;
 pub use node::node_at;

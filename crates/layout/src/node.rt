@@ -2,7 +2,9 @@
 ghost use mathlib.Core.List.{[]};
 ghost use mathlib.Core.Path.{_≡_};
 ghost use Prim.Native.Nat.{_≤_, _<_};
+ghost use lib.ListN.{set};
 ghost use Rattle.memory.specs.Layout.{part};
+ghost use Rattle.layout.specs.Items.{putEntry};
 ghost use Rattle.layout.specs.Loaded.{nodeOf, nodeIn, childAmong, entryAmong, withEntry, withChild, ItemOut};
 ghost use Rattle.layout.specs.Nodes.{IsPart, PartIn};
 use crate::gap::move_down;
@@ -142,4 +144,24 @@ pub fn tag(items: &Items, i: usize) -> u32
     ensures { λ t. ⌜ t ≡ entryAmong (now (items .entry)) i .tag ⌝ }
 {
     items[ENTRY * i + 2]
+}
+
+// Writes one more entry to a leaf's items, behind those that it has, so that the leaf is not copied.
+pub fn add_entry(items: &mut Items, count: u32, c: Cell, tag: u32)
+    requires { ⌜ count < 9 ⌝ }
+    ensures { λ _. ⌜ now (items .exit) ≡ putEntry (now (items .entry)) count (record { cell = c; tag = tag }) ⌝ }
+{
+    let at = ENTRY * (count as usize);
+    items[at] = c.x;
+    items[at + 1] = c.y;
+    items[at + 2] = tag;
+}
+
+// Writes one more child to a routing node's items, by its part number.
+pub fn add_child(items: &mut Items, count: u32, k: u32)
+    requires { ⌜ count < 9 ⌝ }
+    ensures { λ _. ⌜ now (items .exit) ≡ set (now (items .entry)) count k ⌝ }
+{
+    let at = count as usize;
+    items[at] = k;
 }

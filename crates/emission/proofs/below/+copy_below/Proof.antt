@@ -12,9 +12,9 @@ use Rattle.emission.proofs.below.copy_below.Kinds as copy-below-kinds
 use Rattle.emission.proofs.below.+copy_below.Lts-copy_below as copy-below-lts
 use Rattle.layout.proofs.copy_node.Reads as copy-node-reads
 use Rattle.layout.proofs.copy_part.Reads as copy-part-reads
-use Rattle.layout.proofs.child.Reads as child-reads
 use Rattle.layout.proofs.node.Node.empty.Reads as empty-reads
-use Rattle.layout.proofs.node.Node.with_child.Reads as with-child-reads
+use Rattle.layout.proofs.add_child.Reads as add-child-reads
+use Rattle.layout.proofs.child.Reads as child-reads
 use Rattle.layout.proofs.node_at.Reads as node-at-reads
 use Rattle.layout.proofs.part_at.Reads as part-at-reads
 use Rattle.emission.proofs.below.+copy_below.{statement}
@@ -50,8 +50,8 @@ copy-below-part-at-requires : (t : ℕ) → copy-below-lts.Need-part-at-requires
   child-reads.Learnt,
   copy-below-below t,
   copy-below.Post,
-  with-child-reads.Asked,
-  with-child-reads.Learnt,
+  add-child-reads.Asked,
+  add-child-reads.Learnt,
   copy-node-reads.Asked,
   copy-node-reads.Learnt,
 ) (copy-below-at t) copy-below.Post copy-below-Inv-loop copy-below-μ-loop
@@ -70,8 +70,8 @@ copy-below-copy-part-requires : (t : ℕ) → copy-below-lts.Need-copy-part-requ
   child-reads.Learnt,
   copy-below-below t,
   copy-below.Post,
-  with-child-reads.Asked,
-  with-child-reads.Learnt,
+  add-child-reads.Asked,
+  add-child-reads.Learnt,
   copy-node-reads.Asked,
   copy-node-reads.Learnt,
 ) (copy-below-at t) copy-below.Post copy-below-Inv-loop copy-below-μ-loop
@@ -90,8 +90,8 @@ copy-below-add-result : (t : ℕ) → copy-below-lts.Need-add-result (
   child-reads.Learnt,
   copy-below-below t,
   copy-below.Post,
-  with-child-reads.Asked,
-  with-child-reads.Learnt,
+  add-child-reads.Asked,
+  add-child-reads.Learnt,
   copy-node-reads.Asked,
   copy-node-reads.Learnt,
 ) (copy-below-at t) copy-below.Post copy-below-Inv-loop copy-below-μ-loop
@@ -110,8 +110,8 @@ copy-below-same-length : (t : ℕ) → copy-below-lts.Need-same-length (
   child-reads.Learnt,
   copy-below-below t,
   copy-below.Post,
-  with-child-reads.Asked,
-  with-child-reads.Learnt,
+  add-child-reads.Asked,
+  add-child-reads.Learnt,
   copy-node-reads.Asked,
   copy-node-reads.Learnt,
 ) (copy-below-at t) copy-below.Post copy-below-Inv-loop copy-below-μ-loop
@@ -130,8 +130,8 @@ copy-below-returns : (t : ℕ) → copy-below-lts.Need-returns (
   child-reads.Learnt,
   copy-below-below t,
   copy-below.Post,
-  with-child-reads.Asked,
-  with-child-reads.Learnt,
+  add-child-reads.Asked,
+  add-child-reads.Learnt,
   copy-node-reads.Asked,
   copy-node-reads.Learnt,
 ) (copy-below-at t) copy-below.Post copy-below-Inv-loop copy-below-μ-loop
@@ -150,8 +150,8 @@ copy-below-node-at-requires : (t : ℕ) → copy-below-lts.Need-node-at-requires
   child-reads.Learnt,
   copy-below-below t,
   copy-below.Post,
-  with-child-reads.Asked,
-  with-child-reads.Learnt,
+  add-child-reads.Asked,
+  add-child-reads.Learnt,
   copy-node-reads.Asked,
   copy-node-reads.Learnt,
 ) (copy-below-at t) copy-below.Post copy-below-Inv-loop copy-below-μ-loop
@@ -170,8 +170,8 @@ copy-below-cast-n : (t : ℕ) → copy-below-lts.Need-cast-n (
   child-reads.Learnt,
   copy-below-below t,
   copy-below.Post,
-  with-child-reads.Asked,
-  with-child-reads.Learnt,
+  add-child-reads.Asked,
+  add-child-reads.Learnt,
   copy-node-reads.Asked,
   copy-node-reads.Learnt,
 ) (copy-below-at t) copy-below.Post copy-below-Inv-loop copy-below-μ-loop
@@ -190,8 +190,8 @@ copy-below-empty-requires : (t : ℕ) → copy-below-lts.Need-empty-requires (
   child-reads.Learnt,
   copy-below-below t,
   copy-below.Post,
-  with-child-reads.Asked,
-  with-child-reads.Learnt,
+  add-child-reads.Asked,
+  add-child-reads.Learnt,
   copy-node-reads.Asked,
   copy-node-reads.Learnt,
 ) (copy-below-at t) copy-below.Post copy-below-Inv-loop copy-below-μ-loop
@@ -210,8 +210,8 @@ copy-below-loop-holds : (t : ℕ) → copy-below-lts.Need-loop-holds (
   child-reads.Learnt,
   copy-below-below t,
   copy-below.Post,
-  with-child-reads.Asked,
-  with-child-reads.Learnt,
+  add-child-reads.Asked,
+  add-child-reads.Learnt,
   copy-node-reads.Asked,
   copy-node-reads.Learnt,
 ) (copy-below-at t) copy-below.Post copy-below-Inv-loop copy-below-μ-loop
@@ -230,8 +230,8 @@ copy-below-child-requires : (t : ℕ) → copy-below-lts.Need-child-requires (
   child-reads.Learnt,
   copy-below-below t,
   copy-below.Post,
-  with-child-reads.Asked,
-  with-child-reads.Learnt,
+  add-child-reads.Asked,
+  add-child-reads.Learnt,
   copy-node-reads.Asked,
   copy-node-reads.Learnt,
 ) (copy-below-at t) copy-below.Post copy-below-Inv-loop copy-below-μ-loop
@@ -250,8 +250,8 @@ copy-below-sub-copy-below : (t : ℕ) → copy-below-lts.Need-sub-copy-below (
   child-reads.Learnt,
   copy-below-below t,
   copy-below.Post,
-  with-child-reads.Asked,
-  with-child-reads.Learnt,
+  add-child-reads.Asked,
+  add-child-reads.Learnt,
   copy-node-reads.Asked,
   copy-node-reads.Learnt,
 ) (copy-below-at t) copy-below.Post copy-below-Inv-loop copy-below-μ-loop
@@ -270,14 +270,14 @@ copy-below-copy-below-requires : (t : ℕ) → copy-below-lts.Need-copy-below-re
   child-reads.Learnt,
   copy-below-below t,
   copy-below.Post,
-  with-child-reads.Asked,
-  with-child-reads.Learnt,
+  add-child-reads.Asked,
+  add-child-reads.Learnt,
   copy-node-reads.Asked,
   copy-node-reads.Learnt,
 ) (copy-below-at t) copy-below.Post copy-below-Inv-loop copy-below-μ-loop
 copy-below-copy-below-requires t c κs = (omega arith, (search (copy-walk, walk-child), search (copy-child-room, walk-child)))
 
-copy-below-sub-with-child : (t : ℕ) → copy-below-lts.Need-sub-with-child (
+copy-below-sub-add-child : (t : ℕ) → copy-below-lts.Need-sub-add-child (
   part-at-reads.Asked,
   part-at-reads.Learnt,
   copy-part-reads.Asked,
@@ -290,14 +290,14 @@ copy-below-sub-with-child : (t : ℕ) → copy-below-lts.Need-sub-with-child (
   child-reads.Learnt,
   copy-below-below t,
   copy-below.Post,
-  with-child-reads.Asked,
-  with-child-reads.Learnt,
+  add-child-reads.Asked,
+  add-child-reads.Learnt,
   copy-node-reads.Asked,
   copy-node-reads.Learnt,
 ) (copy-below-at t) copy-below.Post copy-below-Inv-loop copy-below-μ-loop
-copy-below-sub-with-child t c = search (copy-moved, walk-child)
+copy-below-sub-add-child t c = search (copy-moved, walk-child)
 
-copy-below-with-child-requires : (t : ℕ) → copy-below-lts.Need-with-child-requires (
+copy-below-add-child-requires : (t : ℕ) → copy-below-lts.Need-add-child-requires (
   part-at-reads.Asked,
   part-at-reads.Learnt,
   copy-part-reads.Asked,
@@ -310,12 +310,32 @@ copy-below-with-child-requires : (t : ℕ) → copy-below-lts.Need-with-child-re
   child-reads.Learnt,
   copy-below-below t,
   copy-below.Post,
-  with-child-reads.Asked,
-  with-child-reads.Learnt,
+  add-child-reads.Asked,
+  add-child-reads.Learnt,
   copy-node-reads.Asked,
   copy-node-reads.Learnt,
 ) (copy-below-at t) copy-below.Post copy-below-Inv-loop copy-below-μ-loop
-copy-below-with-child-requires t c κs = search copy-few
+copy-below-add-child-requires t c κs = search copy-few
+
+copy-below-add-copy : (t : ℕ) → copy-below-lts.Need-add-copy (
+  part-at-reads.Asked,
+  part-at-reads.Learnt,
+  copy-part-reads.Asked,
+  copy-part-reads.Learnt,
+  node-at-reads.Asked,
+  node-at-reads.Learnt,
+  empty-reads.Asked,
+  empty-reads.Learnt,
+  child-reads.Asked,
+  child-reads.Learnt,
+  copy-below-below t,
+  copy-below.Post,
+  add-child-reads.Asked,
+  add-child-reads.Learnt,
+  copy-node-reads.Asked,
+  copy-node-reads.Learnt,
+) (copy-below-at t) copy-below.Post copy-below-Inv-loop copy-below-μ-loop
+copy-below-add-copy t c = search needs
 
 copy-below-add-low : (t : ℕ) → copy-below-lts.Need-add-low (
   part-at-reads.Asked,
@@ -330,8 +350,8 @@ copy-below-add-low : (t : ℕ) → copy-below-lts.Need-add-low (
   child-reads.Learnt,
   copy-below-below t,
   copy-below.Post,
-  with-child-reads.Asked,
-  with-child-reads.Learnt,
+  add-child-reads.Asked,
+  add-child-reads.Learnt,
   copy-node-reads.Asked,
   copy-node-reads.Learnt,
 ) (copy-below-at t) copy-below.Post copy-below-Inv-loop copy-below-μ-loop
@@ -350,8 +370,8 @@ copy-below-add-i : (t : ℕ) → copy-below-lts.Need-add-i (
   child-reads.Learnt,
   copy-below-below t,
   copy-below.Post,
-  with-child-reads.Asked,
-  with-child-reads.Learnt,
+  add-child-reads.Asked,
+  add-child-reads.Learnt,
   copy-node-reads.Asked,
   copy-node-reads.Learnt,
 ) (copy-below-at t) copy-below.Post copy-below-Inv-loop copy-below-μ-loop
@@ -370,8 +390,8 @@ copy-below-loop-less : (t : ℕ) → copy-below-lts.Need-loop-less (
   child-reads.Learnt,
   copy-below-below t,
   copy-below.Post,
-  with-child-reads.Asked,
-  with-child-reads.Learnt,
+  add-child-reads.Asked,
+  add-child-reads.Learnt,
   copy-node-reads.Asked,
   copy-node-reads.Learnt,
 ) (copy-below-at t) copy-below.Post copy-below-Inv-loop copy-below-μ-loop
@@ -390,8 +410,8 @@ copy-below-loop-again : (t : ℕ) → copy-below-lts.Need-loop-again (
   child-reads.Learnt,
   copy-below-below t,
   copy-below.Post,
-  with-child-reads.Asked,
-  with-child-reads.Learnt,
+  add-child-reads.Asked,
+  add-child-reads.Learnt,
   copy-node-reads.Asked,
   copy-node-reads.Learnt,
 ) (copy-below-at t) copy-below.Post copy-below-Inv-loop copy-below-μ-loop
@@ -410,8 +430,8 @@ copy-below-part-at-requires-2 : (t : ℕ) → copy-below-lts.Need-part-at-requir
   child-reads.Learnt,
   copy-below-below t,
   copy-below.Post,
-  with-child-reads.Asked,
-  with-child-reads.Learnt,
+  add-child-reads.Asked,
+  add-child-reads.Learnt,
   copy-node-reads.Asked,
   copy-node-reads.Learnt,
 ) (copy-below-at t) copy-below.Post copy-below-Inv-loop copy-below-μ-loop
@@ -430,8 +450,8 @@ copy-below-copy-node-requires : (t : ℕ) → copy-below-lts.Need-copy-node-requ
   child-reads.Learnt,
   copy-below-below t,
   copy-below.Post,
-  with-child-reads.Asked,
-  with-child-reads.Learnt,
+  add-child-reads.Asked,
+  add-child-reads.Learnt,
   copy-node-reads.Asked,
   copy-node-reads.Learnt,
 ) (copy-below-at t) copy-below.Post copy-below-Inv-loop copy-below-μ-loop
@@ -450,8 +470,8 @@ copy-below-add-result-2 : (t : ℕ) → copy-below-lts.Need-add-result-2 (
   child-reads.Learnt,
   copy-below-below t,
   copy-below.Post,
-  with-child-reads.Asked,
-  with-child-reads.Learnt,
+  add-child-reads.Asked,
+  add-child-reads.Learnt,
   copy-node-reads.Asked,
   copy-node-reads.Learnt,
 ) (copy-below-at t) copy-below.Post copy-below-Inv-loop copy-below-μ-loop
@@ -470,8 +490,8 @@ copy-below-same-length-2 : (t : ℕ) → copy-below-lts.Need-same-length-2 (
   child-reads.Learnt,
   copy-below-below t,
   copy-below.Post,
-  with-child-reads.Asked,
-  with-child-reads.Learnt,
+  add-child-reads.Asked,
+  add-child-reads.Learnt,
   copy-node-reads.Asked,
   copy-node-reads.Learnt,
 ) (copy-below-at t) copy-below.Post copy-below-Inv-loop copy-below-μ-loop
@@ -490,8 +510,8 @@ copy-below-returns-2 : (t : ℕ) → copy-below-lts.Need-returns-2 (
   child-reads.Learnt,
   copy-below-below t,
   copy-below.Post,
-  with-child-reads.Asked,
-  with-child-reads.Learnt,
+  add-child-reads.Asked,
+  add-child-reads.Learnt,
   copy-node-reads.Asked,
   copy-node-reads.Learnt,
 ) (copy-below-at t) copy-below.Post copy-below-Inv-loop copy-below-μ-loop
@@ -511,8 +531,8 @@ pub +copy-below-spec : {M : Type 1} → statement M
   child-reads.Learnt,
   copy-below-below t,
   copy-below.Post,
-  with-child-reads.Asked,
-  with-child-reads.Learnt,
+  add-child-reads.Asked,
+  add-child-reads.Learnt,
   copy-node-reads.Asked,
   copy-node-reads.Learnt,
 )
@@ -532,8 +552,9 @@ pub +copy-below-spec : {M : Type 1} → statement M
     (copy-below-child-requires t)
     (copy-below-sub-copy-below t)
     (copy-below-copy-below-requires t)
-    (copy-below-sub-with-child t)
-    (copy-below-with-child-requires t)
+    (copy-below-sub-add-child t)
+    (copy-below-add-child-requires t)
+    (copy-below-add-copy t)
     (copy-below-add-low t)
     (copy-below-add-i t)
     (copy-below-loop-less t)

@@ -16,9 +16,9 @@ use Rattle.emission.proofs.below.+emit_below.Lts-emit_below as emit-bel
 use Rattle.emission.proofs.below.copy_below.Reads as copy-below-reads
 use Rattle.emission.proofs.below.emit_leaf.Reads as emit-leaf-reads
 use Rattle.emission.proofs.node.put_left.Reads as put-left-reads
-use Rattle.layout.proofs.child.Reads as child-reads
 use Rattle.layout.proofs.node.Node.empty.Reads as empty-reads
-use Rattle.layout.proofs.node.Node.with_child.Reads as with-child-reads
+use Rattle.layout.proofs.add_child.Reads as add-child-reads
+use Rattle.layout.proofs.child.Reads as child-reads
 use Rattle.layout.proofs.node_at.Reads as node-at-reads
 use Rattle.layout.proofs.part_at.Reads as part-at-reads
 use Rattle.emission.proofs.below.+emit_below.{statement}
@@ -57,8 +57,8 @@ emit-below-copy-below-requires : (t : ℕ) → emit-below-lts.Need-copy-below-re
   child-reads.Learnt,
   emit-below-below t,
   emit-below.Post,
-  with-child-reads.Asked,
-  with-child-reads.Learnt,
+  add-child-reads.Asked,
+  add-child-reads.Learnt,
   put-left-reads.Asked,
   put-left-reads.Learnt,
 ) (emit-below-at t) emit-below.Post emit-below-Inv-loop emit-below-μ-loop
@@ -79,8 +79,8 @@ emit-below-same-length : (t : ℕ) → emit-below-lts.Need-same-length (
   child-reads.Learnt,
   emit-below-below t,
   emit-below.Post,
-  with-child-reads.Asked,
-  with-child-reads.Learnt,
+  add-child-reads.Asked,
+  add-child-reads.Learnt,
   put-left-reads.Asked,
   put-left-reads.Learnt,
 ) (emit-below-at t) emit-below.Post emit-below-Inv-loop emit-below-μ-loop
@@ -101,8 +101,8 @@ emit-below-returns : (t : ℕ) → emit-below-lts.Need-returns (
   child-reads.Learnt,
   emit-below-below t,
   emit-below.Post,
-  with-child-reads.Asked,
-  with-child-reads.Learnt,
+  add-child-reads.Asked,
+  add-child-reads.Learnt,
   put-left-reads.Asked,
   put-left-reads.Learnt,
 ) (emit-below-at t) emit-below.Post emit-below-Inv-loop emit-below-μ-loop
@@ -123,8 +123,8 @@ emit-below-part-at-requires : (t : ℕ) → emit-below-lts.Need-part-at-requires
   child-reads.Learnt,
   emit-below-below t,
   emit-below.Post,
-  with-child-reads.Asked,
-  with-child-reads.Learnt,
+  add-child-reads.Asked,
+  add-child-reads.Learnt,
   put-left-reads.Asked,
   put-left-reads.Learnt,
 ) (emit-below-at t) emit-below.Post emit-below-Inv-loop emit-below-μ-loop
@@ -145,8 +145,8 @@ emit-below-emit-leaf-requires : (t : ℕ) → emit-below-lts.Need-emit-leaf-requ
   child-reads.Learnt,
   emit-below-below t,
   emit-below.Post,
-  with-child-reads.Asked,
-  with-child-reads.Learnt,
+  add-child-reads.Asked,
+  add-child-reads.Learnt,
   put-left-reads.Asked,
   put-left-reads.Learnt,
 ) (emit-below-at t) emit-below.Post emit-below-Inv-loop emit-below-μ-loop
@@ -167,8 +167,8 @@ emit-below-same-length-2 : (t : ℕ) → emit-below-lts.Need-same-length-2 (
   child-reads.Learnt,
   emit-below-below t,
   emit-below.Post,
-  with-child-reads.Asked,
-  with-child-reads.Learnt,
+  add-child-reads.Asked,
+  add-child-reads.Learnt,
   put-left-reads.Asked,
   put-left-reads.Learnt,
 ) (emit-below-at t) emit-below.Post emit-below-Inv-loop emit-below-μ-loop
@@ -189,8 +189,8 @@ emit-below-returns-2 : (t : ℕ) → emit-below-lts.Need-returns-2 (
   child-reads.Learnt,
   emit-below-below t,
   emit-below.Post,
-  with-child-reads.Asked,
-  with-child-reads.Learnt,
+  add-child-reads.Asked,
+  add-child-reads.Learnt,
   put-left-reads.Asked,
   put-left-reads.Learnt,
 ) (emit-below-at t) emit-below.Post emit-below-Inv-loop emit-below-μ-loop
@@ -211,8 +211,8 @@ emit-below-node-at-requires : (t : ℕ) → emit-below-lts.Need-node-at-requires
   child-reads.Learnt,
   emit-below-below t,
   emit-below.Post,
-  with-child-reads.Asked,
-  with-child-reads.Learnt,
+  add-child-reads.Asked,
+  add-child-reads.Learnt,
   put-left-reads.Asked,
   put-left-reads.Learnt,
 ) (emit-below-at t) emit-below.Post emit-below-Inv-loop emit-below-μ-loop
@@ -233,8 +233,8 @@ emit-below-cast-n : (t : ℕ) → emit-below-lts.Need-cast-n (
   child-reads.Learnt,
   emit-below-below t,
   emit-below.Post,
-  with-child-reads.Asked,
-  with-child-reads.Learnt,
+  add-child-reads.Asked,
+  add-child-reads.Learnt,
   put-left-reads.Asked,
   put-left-reads.Learnt,
 ) (emit-below-at t) emit-below.Post emit-below-Inv-loop emit-below-μ-loop
@@ -255,8 +255,8 @@ emit-below-empty-requires : (t : ℕ) → emit-below-lts.Need-empty-requires (
   child-reads.Learnt,
   emit-below-below t,
   emit-below.Post,
-  with-child-reads.Asked,
-  with-child-reads.Learnt,
+  add-child-reads.Asked,
+  add-child-reads.Learnt,
   put-left-reads.Asked,
   put-left-reads.Learnt,
 ) (emit-below-at t) emit-below.Post emit-below-Inv-loop emit-below-μ-loop
@@ -277,8 +277,8 @@ emit-below-loop-holds : (t : ℕ) → emit-below-lts.Need-loop-holds (
   child-reads.Learnt,
   emit-below-below t,
   emit-below.Post,
-  with-child-reads.Asked,
-  with-child-reads.Learnt,
+  add-child-reads.Asked,
+  add-child-reads.Learnt,
   put-left-reads.Asked,
   put-left-reads.Learnt,
 ) (emit-below-at t) emit-below.Post emit-below-Inv-loop emit-below-μ-loop
@@ -299,8 +299,8 @@ emit-below-child-requires : (t : ℕ) → emit-below-lts.Need-child-requires (
   child-reads.Learnt,
   emit-below-below t,
   emit-below.Post,
-  with-child-reads.Asked,
-  with-child-reads.Learnt,
+  add-child-reads.Asked,
+  add-child-reads.Learnt,
   put-left-reads.Asked,
   put-left-reads.Learnt,
 ) (emit-below-at t) emit-below.Post emit-below-Inv-loop emit-below-μ-loop
@@ -321,8 +321,8 @@ emit-below-sub-emit-below : (t : ℕ) → emit-below-lts.Need-sub-emit-below (
   child-reads.Learnt,
   emit-below-below t,
   emit-below.Post,
-  with-child-reads.Asked,
-  with-child-reads.Learnt,
+  add-child-reads.Asked,
+  add-child-reads.Learnt,
   put-left-reads.Asked,
   put-left-reads.Learnt,
 ) (emit-below-at t) emit-below.Post emit-below-Inv-loop emit-below-μ-loop
@@ -343,14 +343,14 @@ emit-below-emit-below-requires : (t : ℕ) → emit-below-lts.Need-emit-below-re
   child-reads.Learnt,
   emit-below-below t,
   emit-below.Post,
-  with-child-reads.Asked,
-  with-child-reads.Learnt,
+  add-child-reads.Asked,
+  add-child-reads.Learnt,
   put-left-reads.Asked,
   put-left-reads.Learnt,
 ) (emit-below-at t) emit-below.Post emit-below-Inv-loop emit-below-μ-loop
 emit-below-emit-below-requires t c κs = (omega arith, (search (child-walk, walk-child), search entered-room))
 
-emit-below-sub-with-child : (t : ℕ) → emit-below-lts.Need-sub-with-child (
+emit-below-sub-add-child : (t : ℕ) → emit-below-lts.Need-sub-add-child (
   copy-below-reads.Asked,
   copy-below-reads.Learnt,
   part-at-reads.Asked,
@@ -365,14 +365,14 @@ emit-below-sub-with-child : (t : ℕ) → emit-below-lts.Need-sub-with-child (
   child-reads.Learnt,
   emit-below-below t,
   emit-below.Post,
-  with-child-reads.Asked,
-  with-child-reads.Learnt,
+  add-child-reads.Asked,
+  add-child-reads.Learnt,
   put-left-reads.Asked,
   put-left-reads.Learnt,
 ) (emit-below-at t) emit-below.Post emit-below-Inv-loop emit-below-μ-loop
-emit-below-sub-with-child t c = search emit-moved
+emit-below-sub-add-child t c = search emit-moved
 
-emit-below-with-child-requires : (t : ℕ) → emit-below-lts.Need-with-child-requires (
+emit-below-add-child-requires : (t : ℕ) → emit-below-lts.Need-add-child-requires (
   copy-below-reads.Asked,
   copy-below-reads.Learnt,
   part-at-reads.Asked,
@@ -387,12 +387,34 @@ emit-below-with-child-requires : (t : ℕ) → emit-below-lts.Need-with-child-re
   child-reads.Learnt,
   emit-below-below t,
   emit-below.Post,
-  with-child-reads.Asked,
-  with-child-reads.Learnt,
+  add-child-reads.Asked,
+  add-child-reads.Learnt,
   put-left-reads.Asked,
   put-left-reads.Learnt,
 ) (emit-below-at t) emit-below.Post emit-below-Inv-loop emit-below-μ-loop
-emit-below-with-child-requires t c κs = search count-small
+emit-below-add-child-requires t c κs = search count-small
+
+emit-below-add-left : (t : ℕ) → emit-below-lts.Need-add-left (
+  copy-below-reads.Asked,
+  copy-below-reads.Learnt,
+  part-at-reads.Asked,
+  part-at-reads.Learnt,
+  emit-leaf-reads.Asked,
+  emit-leaf-reads.Learnt,
+  node-at-reads.Asked,
+  node-at-reads.Learnt,
+  empty-reads.Asked,
+  empty-reads.Learnt,
+  child-reads.Asked,
+  child-reads.Learnt,
+  emit-below-below t,
+  emit-below.Post,
+  add-child-reads.Asked,
+  add-child-reads.Learnt,
+  put-left-reads.Asked,
+  put-left-reads.Learnt,
+) (emit-below-at t) emit-below.Post emit-below-Inv-loop emit-below-μ-loop
+emit-below-add-left t c = search needs
 
 emit-below-add-low : (t : ℕ) → emit-below-lts.Need-add-low (
   copy-below-reads.Asked,
@@ -409,8 +431,8 @@ emit-below-add-low : (t : ℕ) → emit-below-lts.Need-add-low (
   child-reads.Learnt,
   emit-below-below t,
   emit-below.Post,
-  with-child-reads.Asked,
-  with-child-reads.Learnt,
+  add-child-reads.Asked,
+  add-child-reads.Learnt,
   put-left-reads.Asked,
   put-left-reads.Learnt,
 ) (emit-below-at t) emit-below.Post emit-below-Inv-loop emit-below-μ-loop
@@ -431,8 +453,8 @@ emit-below-add-i : (t : ℕ) → emit-below-lts.Need-add-i (
   child-reads.Learnt,
   emit-below-below t,
   emit-below.Post,
-  with-child-reads.Asked,
-  with-child-reads.Learnt,
+  add-child-reads.Asked,
+  add-child-reads.Learnt,
   put-left-reads.Asked,
   put-left-reads.Learnt,
 ) (emit-below-at t) emit-below.Post emit-below-Inv-loop emit-below-μ-loop
@@ -453,8 +475,8 @@ emit-below-loop-less : (t : ℕ) → emit-below-lts.Need-loop-less (
   child-reads.Learnt,
   emit-below-below t,
   emit-below.Post,
-  with-child-reads.Asked,
-  with-child-reads.Learnt,
+  add-child-reads.Asked,
+  add-child-reads.Learnt,
   put-left-reads.Asked,
   put-left-reads.Learnt,
 ) (emit-below-at t) emit-below.Post emit-below-Inv-loop emit-below-μ-loop
@@ -475,8 +497,8 @@ emit-below-loop-again : (t : ℕ) → emit-below-lts.Need-loop-again (
   child-reads.Learnt,
   emit-below-below t,
   emit-below.Post,
-  with-child-reads.Asked,
-  with-child-reads.Learnt,
+  add-child-reads.Asked,
+  add-child-reads.Learnt,
   put-left-reads.Asked,
   put-left-reads.Learnt,
 ) (emit-below-at t) emit-below.Post emit-below-Inv-loop emit-below-μ-loop
@@ -497,8 +519,8 @@ emit-below-same-length-3 : (t : ℕ) → emit-below-lts.Need-same-length-3 (
   child-reads.Learnt,
   emit-below-below t,
   emit-below.Post,
-  with-child-reads.Asked,
-  with-child-reads.Learnt,
+  add-child-reads.Asked,
+  add-child-reads.Learnt,
   put-left-reads.Asked,
   put-left-reads.Learnt,
 ) (emit-below-at t) emit-below.Post emit-below-Inv-loop emit-below-μ-loop
@@ -519,8 +541,8 @@ emit-below-returns-3 : (t : ℕ) → emit-below-lts.Need-returns-3 (
   child-reads.Learnt,
   emit-below-below t,
   emit-below.Post,
-  with-child-reads.Asked,
-  with-child-reads.Learnt,
+  add-child-reads.Asked,
+  add-child-reads.Learnt,
   put-left-reads.Asked,
   put-left-reads.Learnt,
 ) (emit-below-at t) emit-below.Post emit-below-Inv-loop emit-below-μ-loop
@@ -541,8 +563,8 @@ emit-below-part-at-requires-2 : (t : ℕ) → emit-below-lts.Need-part-at-requir
   child-reads.Learnt,
   emit-below-below t,
   emit-below.Post,
-  with-child-reads.Asked,
-  with-child-reads.Learnt,
+  add-child-reads.Asked,
+  add-child-reads.Learnt,
   put-left-reads.Asked,
   put-left-reads.Learnt,
 ) (emit-below-at t) emit-below.Post emit-below-Inv-loop emit-below-μ-loop
@@ -563,8 +585,8 @@ emit-below-put-left-requires : (t : ℕ) → emit-below-lts.Need-put-left-requir
   child-reads.Learnt,
   emit-below-below t,
   emit-below.Post,
-  with-child-reads.Asked,
-  with-child-reads.Learnt,
+  add-child-reads.Asked,
+  add-child-reads.Learnt,
   put-left-reads.Asked,
   put-left-reads.Learnt,
 ) (emit-below-at t) emit-below.Post emit-below-Inv-loop emit-below-μ-loop
@@ -585,8 +607,8 @@ emit-below-add-result : (t : ℕ) → emit-below-lts.Need-add-result (
   child-reads.Learnt,
   emit-below-below t,
   emit-below.Post,
-  with-child-reads.Asked,
-  with-child-reads.Learnt,
+  add-child-reads.Asked,
+  add-child-reads.Learnt,
   put-left-reads.Asked,
   put-left-reads.Learnt,
 ) (emit-below-at t) emit-below.Post emit-below-Inv-loop emit-below-μ-loop
@@ -607,8 +629,8 @@ emit-below-same-length-4 : (t : ℕ) → emit-below-lts.Need-same-length-4 (
   child-reads.Learnt,
   emit-below-below t,
   emit-below.Post,
-  with-child-reads.Asked,
-  with-child-reads.Learnt,
+  add-child-reads.Asked,
+  add-child-reads.Learnt,
   put-left-reads.Asked,
   put-left-reads.Learnt,
 ) (emit-below-at t) emit-below.Post emit-below-Inv-loop emit-below-μ-loop
@@ -629,8 +651,8 @@ emit-below-returns-4 : (t : ℕ) → emit-below-lts.Need-returns-4 (
   child-reads.Learnt,
   emit-below-below t,
   emit-below.Post,
-  with-child-reads.Asked,
-  with-child-reads.Learnt,
+  add-child-reads.Asked,
+  add-child-reads.Learnt,
   put-left-reads.Asked,
   put-left-reads.Learnt,
 ) (emit-below-at t) emit-below.Post emit-below-Inv-loop emit-below-μ-loop
@@ -652,8 +674,8 @@ pub +emit-below-spec : {M : Type 1} → statement M
   child-reads.Learnt,
   emit-below-below t,
   emit-below.Post,
-  with-child-reads.Asked,
-  with-child-reads.Learnt,
+  add-child-reads.Asked,
+  add-child-reads.Learnt,
   put-left-reads.Asked,
   put-left-reads.Learnt,
 )
@@ -675,8 +697,9 @@ pub +emit-below-spec : {M : Type 1} → statement M
     (emit-below-child-requires t)
     (emit-below-sub-emit-below t)
     (emit-below-emit-below-requires t)
-    (emit-below-sub-with-child t)
-    (emit-below-with-child-requires t)
+    (emit-below-sub-add-child t)
+    (emit-below-add-child-requires t)
+    (emit-below-add-left t)
     (emit-below-add-low t)
     (emit-below-add-i t)
     (emit-below-loop-less t)

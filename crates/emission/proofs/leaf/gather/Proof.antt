@@ -33,8 +33,11 @@ cell-requires c κs = search gather-nine
 tag-requires : tie.Need-tag-requires Inv-loop μ-loop
 tag-requires c κs = search gather-nine
 
-with-entry-requires : tie.Need-with-entry-requires Inv-loop μ-loop
-with-entry-requires c κs = search needs
+add-entry-requires : tie.Need-add-entry-requires Inv-loop μ-loop
+add-entry-requires c κs = search needs
+
+add-left : tie.Need-add-left Inv-loop μ-loop
+add-left c = search needs
 
 add-i : tie.Need-add-i Inv-loop μ-loop
 add-i c = search needs
@@ -61,7 +64,8 @@ gather-spec =
     is-left-requires
     cell-requires
     tag-requires
-    with-entry-requires
+    add-entry-requires
+    add-left
     add-i
     loop-less
     loop-again

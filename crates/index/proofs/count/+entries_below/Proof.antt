@@ -12,6 +12,7 @@ use Rattle.index.proofs.count.entries_below.Kinds as entries-below-kind
 use Rattle.index.proofs.count.+entries_below.Lts-entries_below as entries-below-lts
 use Rattle.layout.proofs.child.Reads as child-reads
 use Rattle.layout.proofs.node_at.Reads as node-at-reads
+use Rattle.layout.proofs.count_at.Reads as count-at-reads
 use Rattle.index.proofs.count.+entries_below.{statement}
 use Rattle.index.proofs.count.+entries_below.Tie.{close}
 
@@ -36,7 +37,33 @@ entries-below-Inv-loop m level lo k node n sum₀ low₀ i₀ sum low i = CountH
 abbrev entries-below-μ-loop : entries-below-lts.MeasureT-loop
 entries-below-μ-loop m level lo k node n sum₀ low₀ i₀ sum low i = n - i
 
+entries-below-count-at-requires : (t : ℕ) → entries-below-lts.Need-count-at-requires (
+  count-at-reads.Asked,
+  count-at-reads.Learnt,
+  node-at-reads.Asked,
+  node-at-reads.Learnt,
+  child-reads.Asked,
+  child-reads.Learnt,
+  entries-below-below t,
+  entries-below.Post,
+) (entries-below-at t) entries-below.Post entries-below-Inv-loop entries-below-μ-loop
+entries-below-count-at-requires t c κs = search needs
+
+entries-below-returns : (t : ℕ) → entries-below-lts.Need-returns (
+  count-at-reads.Asked,
+  count-at-reads.Learnt,
+  node-at-reads.Asked,
+  node-at-reads.Learnt,
+  child-reads.Asked,
+  child-reads.Learnt,
+  entries-below-below t,
+  entries-below.Post,
+) (entries-below-at t) entries-below.Post entries-below-Inv-loop entries-below-μ-loop
+entries-below-returns t c = search held-leaf
+
 entries-below-node-at-requires : (t : ℕ) → entries-below-lts.Need-node-at-requires (
+  count-at-reads.Asked,
+  count-at-reads.Learnt,
   node-at-reads.Asked,
   node-at-reads.Learnt,
   child-reads.Asked,
@@ -46,17 +73,9 @@ entries-below-node-at-requires : (t : ℕ) → entries-below-lts.Need-node-at-re
 ) (entries-below-at t) entries-below.Post entries-below-Inv-loop entries-below-μ-loop
 entries-below-node-at-requires t c κs = search needs
 
-entries-below-returns : (t : ℕ) → entries-below-lts.Need-returns (
-  node-at-reads.Asked,
-  node-at-reads.Learnt,
-  child-reads.Asked,
-  child-reads.Learnt,
-  entries-below-below t,
-  entries-below.Post,
-) (entries-below-at t) entries-below.Post entries-below-Inv-loop entries-below-μ-loop
-entries-below-returns t c = search (held-leaf, walk-count)
-
 entries-below-cast-n : (t : ℕ) → entries-below-lts.Need-cast-n (
+  count-at-reads.Asked,
+  count-at-reads.Learnt,
   node-at-reads.Asked,
   node-at-reads.Learnt,
   child-reads.Asked,
@@ -67,6 +86,8 @@ entries-below-cast-n : (t : ℕ) → entries-below-lts.Need-cast-n (
 entries-below-cast-n t c = search needs
 
 entries-below-loop-holds : (t : ℕ) → entries-below-lts.Need-loop-holds (
+  count-at-reads.Asked,
+  count-at-reads.Learnt,
   node-at-reads.Asked,
   node-at-reads.Learnt,
   child-reads.Asked,
@@ -77,6 +98,8 @@ entries-below-loop-holds : (t : ℕ) → entries-below-lts.Need-loop-holds (
 entries-below-loop-holds t c = search (held-start, walk-count)
 
 entries-below-child-requires : (t : ℕ) → entries-below-lts.Need-child-requires (
+  count-at-reads.Asked,
+  count-at-reads.Learnt,
   node-at-reads.Asked,
   node-at-reads.Learnt,
   child-reads.Asked,
@@ -87,6 +110,8 @@ entries-below-child-requires : (t : ℕ) → entries-below-lts.Need-child-requir
 entries-below-child-requires t c κs = search walk-nine
 
 entries-below-sub-entries-below : (t : ℕ) → entries-below-lts.Need-sub-entries-below (
+  count-at-reads.Asked,
+  count-at-reads.Learnt,
   node-at-reads.Asked,
   node-at-reads.Learnt,
   child-reads.Asked,
@@ -97,6 +122,8 @@ entries-below-sub-entries-below : (t : ℕ) → entries-below-lts.Need-sub-entri
 entries-below-sub-entries-below t c = search needs
 
 entries-below-entries-below-requires : (t : ℕ) → entries-below-lts.Need-entries-below-requires (
+  count-at-reads.Asked,
+  count-at-reads.Learnt,
   node-at-reads.Asked,
   node-at-reads.Learnt,
   child-reads.Asked,
@@ -107,6 +134,8 @@ entries-below-entries-below-requires : (t : ℕ) → entries-below-lts.Need-entr
 entries-below-entries-below-requires t c κs = (omega arith, search (child-walkable, walk-child))
 
 entries-below-add-sum : (t : ℕ) → entries-below-lts.Need-add-sum (
+  count-at-reads.Asked,
+  count-at-reads.Learnt,
   node-at-reads.Asked,
   node-at-reads.Learnt,
   child-reads.Asked,
@@ -117,6 +146,8 @@ entries-below-add-sum : (t : ℕ) → entries-below-lts.Need-add-sum (
 entries-below-add-sum t c = search (held-fits, walk-child)
 
 entries-below-add-low : (t : ℕ) → entries-below-lts.Need-add-low (
+  count-at-reads.Asked,
+  count-at-reads.Learnt,
   node-at-reads.Asked,
   node-at-reads.Learnt,
   child-reads.Asked,
@@ -127,6 +158,8 @@ entries-below-add-low : (t : ℕ) → entries-below-lts.Need-add-low (
 entries-below-add-low t c = search (child-fits, walk-child)
 
 entries-below-add-i : (t : ℕ) → entries-below-lts.Need-add-i (
+  count-at-reads.Asked,
+  count-at-reads.Learnt,
   node-at-reads.Asked,
   node-at-reads.Learnt,
   child-reads.Asked,
@@ -137,6 +170,8 @@ entries-below-add-i : (t : ℕ) → entries-below-lts.Need-add-i (
 entries-below-add-i t c = search needs
 
 entries-below-loop-less : (t : ℕ) → entries-below-lts.Need-loop-less (
+  count-at-reads.Asked,
+  count-at-reads.Learnt,
   node-at-reads.Asked,
   node-at-reads.Learnt,
   child-reads.Asked,
@@ -147,6 +182,8 @@ entries-below-loop-less : (t : ℕ) → entries-below-lts.Need-loop-less (
 entries-below-loop-less t c = search needs
 
 entries-below-loop-again : (t : ℕ) → entries-below-lts.Need-loop-again (
+  count-at-reads.Asked,
+  count-at-reads.Learnt,
   node-at-reads.Asked,
   node-at-reads.Learnt,
   child-reads.Asked,
@@ -157,6 +194,8 @@ entries-below-loop-again : (t : ℕ) → entries-below-lts.Need-loop-again (
 entries-below-loop-again t c = search (held-next, walk-child)
 
 entries-below-returns-2 : (t : ℕ) → entries-below-lts.Need-returns-2 (
+  count-at-reads.Asked,
+  count-at-reads.Learnt,
   node-at-reads.Asked,
   node-at-reads.Learnt,
   child-reads.Asked,
@@ -168,6 +207,8 @@ entries-below-returns-2 t c = search held-end
 
 pub +entries-below-spec : {M : Type 1} → statement M
 +entries-below-spec = close μ-entries-below λ t. entries-below-lts.spec (
+  count-at-reads.Asked,
+  count-at-reads.Learnt,
   node-at-reads.Asked,
   node-at-reads.Learnt,
   child-reads.Asked,
@@ -179,8 +220,9 @@ pub +entries-below-spec : {M : Type 1} → statement M
     entries-below.Post
     entries-below-Inv-loop
     entries-below-μ-loop
-    (entries-below-node-at-requires t)
+    (entries-below-count-at-requires t)
     (entries-below-returns t)
+    (entries-below-node-at-requires t)
     (entries-below-cast-n t)
     (entries-below-loop-holds t)
     (entries-below-child-requires t)
