@@ -16,6 +16,6 @@ pub fn put_left(p: &[u32], left: Node, sides: &[u32], work: &mut [u32], next: u3
     ensures { λ _. ⌜ PartPut (now (work .entry)) next (leftPart (now (sides .entry)) (now (p .entry)) left) (now (work .exit)) ⌝ }
 {
     let whole = Polygon::load(rects(p), rect_count(p) as usize);
-    let clipped = clipped(whole, sides);
-    put_node(work, next, clipped, left);
+    let polygon = clipped(whole, sides);
+    put_node(work, next, polygon, left);
 }

@@ -27,7 +27,7 @@ is-of-cell-requires : tie.Need-is-of-cell-requires Inv-loop μ-loop
 is-of-cell-requires c κs = search entry-small
 
 tag-requires : tie.Need-tag-requires Inv-loop μ-loop
-tag-requires c κs = search entry-nine
+tag-requires c κs = search (needs, entry-nine)
 
 returns : tie.Need-returns Inv-loop μ-loop
 returns c = search leaf-held
