@@ -1,2 +1,3 @@
+pub mod ServedLaws
 pub mod AnswerLoop
 pub mod TurnLoop

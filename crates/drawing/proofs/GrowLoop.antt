@@ -6,12 +6,12 @@ use Prim.Native.Nat.{ℕ, _+_, _*_, _/_, _≤_, _<_}
 use native.Mathlib.Omega.{arith}
 use lib.ListN.{length, drop, getD, take-append-drop, length-map, length-take}
 use lib.Seq.{drop-drop}
+use Rattle.polygons.specs.Limits.{mostPieces}
 use Rattle.geometry.specs.declared.rect.Rect.{Rect}
 use Rattle.geometry.specs.declared.rect.Cell.{Cell}
 use Rattle.geometry.specs.declared.polygon.Polygon.{Polygon}
 use Rattle.geometry.specs.Cells.{onGrid, valid, noRect}
 use Rattle.geometry.specs.Grow.{grown, extraArea}
-use Rattle.geometry.specs.Limits.{mostPieces}
 use Rattle.geometry.specs.Numbers.{rectAt, rectsIn, rectsOf, putAt, numbersOf, PolygonOf}
 use Rattle.geometry.proofs.NumberLaws.{length-rects, rects-suc, length-put, put-behind, put-rest, numbers-take}
 use Rattle.drawing.specs.declared.answer.Answer.the-variants.{Wrote}

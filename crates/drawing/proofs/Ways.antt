@@ -9,6 +9,7 @@ use borrow.Author.Tests.{eq-eqb, ne-eqb, leb-true}
 use lib.Dec.{leb, eqb}
 use lib.ListN.{length, take, drop}
 use lib.Seq.{length-take-le, length-front, take-at}
+use Rattle.polygons.specs.Limits.{mostOfPolygon, mostPieces}
 use Rattle.geometry.specs.declared.rect.Rect.{Rect}
 use Rattle.geometry.specs.declared.polygon.Polygon.{Polygon}
 use Rattle.geometry.specs.declared.cut.Count.{Count}
@@ -16,11 +17,11 @@ use Rattle.geometry.specs.declared.cut.Count.the-variants.{Rects, Over}
 use Rattle.geometry.specs.Cells.{valid, allValid}
 use Rattle.geometry.specs.Common.{commonWith, commonParts}
 use Rattle.geometry.specs.Cut.{cutLimited, commonLimited}
-use Rattle.geometry.specs.Limits.{mostPieces, mostOfPolygon}
 use Rattle.geometry.specs.Numbers.{rectsIn, rectsOf, numbersOf, counted, Written, Refined, PolygonOf}
 use Rattle.geometry.specs.Refine.{refine}
 use Rattle.geometry.proofs.Booleans.{all4}
-use Rattle.geometry.proofs.CommonLaws.{at-most-some, common-with-length}
+use Rattle.polygons.proofs.LimitLaws.{at-most-some}
+use Rattle.geometry.proofs.CommonLaws.{common-with-length}
 use Rattle.geometry.proofs.CellLaws.{length-flat}
 use Rattle.geometry.proofs.NumberLaws.{length-rects, rects-prefix, numbers-take}
 use Rattle.drawing.specs.declared.answer.Answer.the-variants.{Wrote, Invalid, TooMany}
@@ -131,7 +132,7 @@ module _ (list out : List ℕ) where
 module _ (list out : List ℕ) (r : Rect) (g : length out ≡ 1024) (b : Bool) (e : b ≡ isList mostPieces list) (f : b ≡ true) (d : Bool) (h : d ≡ valid r) (k : d ≡ true)
     (p : Polygon) (o : PolygonOf (r ∷ []) p) (w₀ w : List ℕ) (c : Count) (v : Written w₀ (commonLimited (given list) (rectsOf p)) c w) where
   no-more : commonLimited (given list) (rectsOf p) ≡ some (commonParts (given list) (r ∷ []))
-  unfolding commonLimited commonParts
+  unfolding commonLimited commonParts commonWith
   no-more =
       let a = length-flat (commonWith (r ∷ [])) (λ q. common-with-length (r ∷ []) q) (given list) in
       let l = list-few mostPieces list b e f in

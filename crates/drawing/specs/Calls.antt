@@ -3,13 +3,13 @@ use Prim.Native.Nat.{ℕ}
 use mathlib.Core.Bool.{Bool, _&&_}
 use mathlib.Core.List.{List, [], _∷_, map}
 use mathlib.Core.Option.{Option, some}
+use Rattle.polygons.specs.Limits.{atMost, mostOfPolygon, mostPieces}
 use Rattle.geometry.specs.declared.rect.Cell.{Cell}
 use Rattle.geometry.specs.declared.rect.Rect.{Rect}
 use Rattle.geometry.specs.Cells.{onGrid, valid}
 use Rattle.geometry.specs.Common.{commonParts}
 use Rattle.geometry.specs.Cut.{cutList, cutLimited}
 use Rattle.geometry.specs.Grow.{grown, extraArea}
-use Rattle.geometry.specs.Limits.{mostPieces, mostOfPolygon, atMost}
 use Rattle.geometry.specs.Refine.{refine}
 use Rattle.drawing.specs.Arguments.{given, isList, isResult}
 

@@ -1,6 +1,6 @@
 // The drawing exercise: the rectangle rules on lent numbers, four a rectangle (llx, lly, urx, ury).
 //
-// No function here has a `requires`: a bad argument is refused, and leaves every lent list as it was.
+// No call here has a `requires`: a bad argument is refused, and leaves every lent list as it was.
 mod answer;
 mod arguments;
 mod calls;

@@ -1,5 +1,6 @@
 -- Writing rectangles behind a list of numbers: the ways out of the functions that do it.
 use mathlib.Core.Path.{_≡_, refl, sym, _∙_, ap}
+use mathlib.Core.Bool.{Bool, true, false}
 use mathlib.Core.List.{List, [], _∷_, _++_, append-nil, append-assoc}
 use Prim.Native.Nat.{ℕ, _+_, _*_, _≤_, _<_}
 use native.Mathlib.Omega.{arith}
@@ -9,8 +10,8 @@ use Rattle.geometry.specs.declared.rect.Rect.{Rect}
 use Rattle.geometry.specs.declared.rect.Common.{Common}
 use Rattle.geometry.specs.declared.rect.Common.the-variants.{Part, Nothing}
 use Rattle.geometry.specs.Cells.{nonEmpty}
-use Rattle.geometry.specs.Common.{overlap, commonPart, unlessEmpty, common}
-use Rattle.geometry.specs.Cut.{xCeiling, xFloor, yCeiling, yFloor, cut}
+use Rattle.geometry.specs.Common.{commonPart, unlessEmpty, common, sharesWith}
+use Rattle.geometry.specs.Cut.{xCeiling, xFloor, yCeiling, yFloor, pieces, cut}
 use Rattle.geometry.specs.Numbers.{rectsIn, putAt, Appended}
 use Rattle.geometry.proofs.NumberLaws.{put-behind, length-put, length-rects}
 use Rattle.geometry.proofs.RectWays.{is-part, is-nothing}
@@ -50,35 +51,31 @@ module _ (m : List ℕ) (n : ℕ) (r : Rect) where
   unfolding unlessEmpty nonEmpty
   not-empty g h k m′ e = simp (lt-ltb _ _ g, lt-ltb _ _ h) (append-one m n r 1 (omega arith) k m′ e)
 
--- the four pieces of a cut, one after another
-module _ (m : List ℕ) (n : ℕ) (r s u : Rect) (e : u ≡ overlap r s) where
-  pub four-pieces : (m₁ m₂ m₃ m₄ : List ℕ) (n₁ n₂ n₃ n₄ : ℕ)
-      → Appended m n (unlessEmpty (record { llx = s .urx; lly = r .lly; urx = r .urx; ury = r .ury })) 1 m₁ n₁
-      → Appended m₁ n₁ (unlessEmpty (record { llx = r .llx; lly = r .lly; urx = s .llx; ury = r .ury })) 1 m₂ n₂
-      → Appended m₂ n₂ (unlessEmpty (record { llx = u .llx; lly = s .ury; urx = u .urx; ury = r .ury })) 1 m₃ n₃
-      → Appended m₃ n₃ (unlessEmpty (record { llx = u .llx; lly = r .lly; urx = u .urx; ury = s .lly })) 1 m₄ n₄
-      → Appended m n (unlessEmpty (xCeiling r s) ++ unlessEmpty (xFloor r s) ++ unlessEmpty (yCeiling r s) ++ unlessEmpty (yFloor r s)) 4 m₄ n₄
-  unfolding xCeiling xFloor yCeiling yFloor
-  four-pieces m₁ m₂ m₃ m₄ n₁ n₂ n₃ n₄ a b c d =
-      let p : u .llx ≡ overlap r s .llx = ap (λ (v : Rect). v .llx) e in
-      let q : u .urx ≡ overlap r s .urx = ap (λ (v : Rect). v .urx) e in
-      rw (← p, ← q) (append-more m n _ _ 3 1 m₃ m₄ n₃ n₄ (append-more m n _ _ 2 1 m₂ m₃ n₂ n₃ (append-more m n _ _ 1 1 m₁ m₂ n₁ n₂ a b) c) d)
+module _ (m : List ℕ) (n : ℕ) (r s : Rect) where
+  -- the four pieces of a cut, one after another
+  pub four-pieces : (p q t u : Rect) (m₁ m₂ m₃ m₄ : List ℕ) (n₁ n₂ n₃ n₄ : ℕ)
+      → p ≡ xCeiling r s → q ≡ xFloor r s → t ≡ yCeiling r s → u ≡ yFloor r s
+      → Appended m n (unlessEmpty p) 1 m₁ n₁
+      → Appended m₁ n₁ (unlessEmpty q) 1 m₂ n₂
+      → Appended m₂ n₂ (unlessEmpty t) 1 m₃ n₃
+      → Appended m₃ n₃ (unlessEmpty u) 1 m₄ n₄
+      → Appended m n (pieces r s) 4 m₄ n₄
+  unfolding pieces
+  four-pieces p q t u m₁ m₂ m₃ m₄ n₁ n₂ n₃ n₄ e f g h a b c d =
+      rw (← e, ← f, ← g, ← h)
+      (append-more m n _ _ 3 1 m₃ m₄ n₃ n₄ (append-more m n _ _ 2 1 m₂ m₃ n₂ n₃ (append-more m n _ _ 1 1 m₁ m₂ n₁ n₂ a b) c) d)
+
+  module _ (k : Bool) (e : k ≡ sharesWith s r) where
+    -- the cut where the two share cells, and where not
+    pub cut-shared : (m′ : List ℕ) (n′ : ℕ) → k ≡ true → Appended m n (pieces r s) 4 m′ n′ → Appended m n (cut r s) 4 m′ n′
+    unfolding cut sharesWith
+    cut-shared m′ n′ f v = rw (sym e ∙ f) v
+
+    pub cut-apart : k ≡ false → 4 * n + 16 ≤ length m → (m′ : List ℕ) → m′ ≡ putAt m n r → Appended m n (cut r s) 4 m′ (n + 1)
+    unfolding cut sharesWith
+    cut-apart f h m′ g = rw (sym e ∙ f) (append-one m n r 4 (omega arith) (omega arith) m′ g)
 
 module _ (m : List ℕ) (n : ℕ) (r s : Rect) (k : Common) (e : k ≡ commonPart r s) where
-  pub common-is : (u : Rect) → k ≡ Part u → u ≡ overlap r s
-  common-is u f = is-part r s k e u f .1
-
-  -- the cut where the two share cells, and where not
-  pub cut-shared : (u : Rect) (m′ : List ℕ) (n′ : ℕ) → k ≡ Part u
-      → Appended m n (unlessEmpty (xCeiling r s) ++ unlessEmpty (xFloor r s) ++ unlessEmpty (yCeiling r s) ++ unlessEmpty (yFloor r s)) 4 m′ n′
-      → Appended m n (cut r s) 4 m′ n′
-  unfolding cut
-  cut-shared u m′ n′ f v = rw (is-part r s k e u f .0) v
-
-  pub cut-apart : k ≡ Nothing → 4 * n + 16 ≤ length m → (m′ : List ℕ) → m′ ≡ putAt m n r → Appended m n (cut r s) 4 m′ (n + 1)
-  unfolding cut
-  cut-apart f h m′ g = rw (is-nothing r s k e f) (append-one m n r 4 (omega arith) (omega arith) m′ g)
-
   -- the common part, and none
   pub put-part : (u : Rect) → k ≡ Part u → 4 * n + 4 ≤ length m → (m′ : List ℕ) → m′ ≡ putAt m n u → Appended m n (common r s) 1 m′ (n + 1)
   unfolding common unlessEmpty

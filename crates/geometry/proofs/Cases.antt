@@ -3,13 +3,14 @@
 use mathlib.Core.Path.{_≡_, refl}
 use mathlib.Core.List.{List, [], _∷_}
 use Prim.Native.Nat.{ℕ}
+use Rattle.polygons.specs.Lists.{any}
 use Rattle.geometry.specs.declared.rect.Cell.{Cell}
 use Rattle.geometry.specs.declared.rect.Rect.{Rect}
 use Rattle.geometry.specs.Cells.{nonEmpty, area}
 use Rattle.geometry.specs.Common.{overlap, unlessEmpty}
 use Rattle.geometry.specs.Grow.{grown, extraArea}
-use Rattle.geometry.specs.Cut.{xCeiling, xFloor, yCeiling, yFloor, cut}
-use Rattle.geometry.specs.Refine.{firstFrom, anyOf, within, strictlyWithin, contained, firstContained, stacked, abreast, joinable, union, joins, partner, hasPartner, firstJoin, refineStep, refineSteps, refine}
+use Rattle.geometry.specs.Cut.{xCeiling, xFloor, yCeiling, yFloor, pieces, cut}
+use Rattle.geometry.specs.Refine.{firstFrom, within, strictlyWithin, contained, firstContained, stacked, abreast, joinable, union, joins, partner, hasPartner, firstJoin, refineStep, refineSteps, refine}
 
 -- (a,b)-(c,d)
 abbrev pub rect : ℕ → ℕ → ℕ → ℕ → Rect
@@ -61,5 +62,5 @@ table =
 
 -- all rows hold
 pub cases-hold : AllHold table
-unfolding nonEmpty area overlap unlessEmpty grown extraArea xCeiling xFloor yCeiling yFloor cut firstFrom anyOf within strictlyWithin contained firstContained stacked abreast joinable union joins partner hasPartner firstJoin refineStep refineSteps refine
+unfolding nonEmpty area overlap unlessEmpty grown extraArea xCeiling xFloor yCeiling yFloor pieces cut firstFrom any within strictlyWithin contained firstContained stacked abreast joinable union joins partner hasPartner firstJoin refineStep refineSteps refine
 cases-hold = (refl, (refl, (refl, (refl, ((refl, refl), ((refl, refl), (refl, (refl, (refl, tt)))))))))

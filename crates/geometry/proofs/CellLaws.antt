@@ -8,6 +8,7 @@ use native.Mathlib.Numerals.{add-one}
 use borrow.Author.Tests.{le-leb, lt-ltb, leb-true, ltb-true}
 use lib.ListN.{length, take, drop, getD, length-append, take-append-drop}
 use lib.Seq.{split-at, drop-cons}
+use Rattle.polygons.specs.Lists.{any}
 use Rattle.geometry.specs.declared.rect.Cell.{Cell}
 use Rattle.geometry.specs.declared.rect.Rect.{Rect}
 use Rattle.geometry.specs.Cells.{onGrid, hasCell, nonEmpty, valid, allValid, anyHas, noRect}
@@ -133,9 +134,14 @@ valid-grid r c e t =
 pub within-cells : (r s : Rect) (c : Cell) → within r s ≡ true → hasCell r c ≡ true → hasCell s c ≡ true
 within-cells r s c e t = let w = within-of r s e in let i = in-of r c t in of-in s c (omega arith)
 
+-- a list has the cells of its first rectangle and of the others
+pub has-cons : (r : Rect) (l : List Rect) (c : Cell) → anyHas (r ∷ l) c ≡ hasCell r c || anyHas l c
+unfolding anyHas any
+has-cons r l c = refl
+
 -- a list appended to another has the cells of both
 pub has-append : (l m : List Rect) (c : Cell) → anyHas (l ++ m) c ≡ anyHas l c || anyHas m c
-unfolding anyHas
+unfolding anyHas any
 has-append [] m c = refl
 has-append (r ∷ l) m c = rw (has-append l m c, or-assoc)
 
@@ -147,7 +153,7 @@ valid-append (r ∷ l) m = rw (valid-append l m, and-assoc)
 
 -- leaving a rectangle out where it is empty loses no cell
 pub has-unless-empty : (r : Rect) (c : Cell) → anyHas (unlessEmpty r) c ≡ hasCell r c
-unfolding unlessEmpty anyHas
+unfolding unlessEmpty anyHas any
 has-unless-empty r c = go (nonEmpty r) refl
   where
     go : (b : Bool) → nonEmpty r ≡ b → anyHas (cond b (r ∷ []) []) c ≡ hasCell r c
@@ -175,7 +181,7 @@ length-unless-empty r = go (nonEmpty r)
 module _ (f : Rect → List Rect) where
   -- where f leaves of each rectangle the cells that pass a test, it leaves those of a list
   pub has-flat : (c : Cell) (b : Bool) → ((r : Rect) → anyHas (f r) c ≡ hasCell r c && b) → (l : List Rect) → anyHas (flatMap f l) c ≡ anyHas l c && b
-  unfolding anyHas flatMap
+  unfolding anyHas any flatMap
   has-flat c b h [] = refl
   has-flat c b h (r ∷ l) = rw (has-append, h r, has-flat c b h l) (sym (and-or-distrib-right (hasCell r c) (anyHas l c) b))
 
@@ -208,7 +214,7 @@ module _ (f : Rect → List Rect) where
 module _ (l : List Rect) (i : ℕ) where
   -- a list has the cells of the rectangles before the i-th, of the i-th and of those after it
   pub has-split : (c : Cell) → i < length l → anyHas l c ≡ anyHas (take i l) c || (hasCell (getD l i noRect) c || anyHas (drop (i + 1) l) c)
-  unfolding anyHas
+  unfolding anyHas any
   has-split c h = rw (add-one i) (ap (λ k. anyHas k c) (split-at l i noRect h) ∙ has-append (take i l) (getD l i noRect ∷ drop (suc i) l) c)
 
   -- a list has the cells of its i-th rectangle

@@ -1,4 +1,4 @@
--- Law 6: clipping to a side of a line, and refining the result.
+-- Clipping to a side of a line, and refining the result.
 use mathlib.Core.Path.{_≡_, _∙_, ap}
 use mathlib.Core.Bool.{true, false, not, _&&_, _||_, and-not-self, or-not-self}
 use mathlib.Core.List.{List}
@@ -97,17 +97,17 @@ module _ (s : Side) (p : List Rect) where
 
   -- the cells of a clipped and refined list are the list's cells on that side
   pub clip-refined-cells : (c : Cell) → anyHas (clipRefined s p) c ≡ anyHas p c && onSide s c
-  unfolding clipRefined
+  unfolding clipRefined clip
   clip-refined-cells c = refine-cells (clip s p) c ∙ clip-cells c
 
   -- clipping and refining makes no list longer
   pub clip-refined-length : length (clipRefined s p) ≤ length p
-  unfolding clipRefined
+  unfolding clipRefined clip
   clip-refined-length = omega (arith, refine-length (clip s p), clip-length)
 
   -- clipping and refining keeps rectangles valid
   pub clip-refined-valid : allValid p ≡ true → allValid (clipRefined s p) ≡ true
-  unfolding clipRefined
+  unfolding clipRefined clip
   clip-refined-valid v = refine-valid (clip s p) (clip-valid v)
 
 -- the rectangle of all cells of the grid

@@ -1,21 +1,21 @@
--- Laws 1 and 5: common parts, of two rectangles and of lists; limited lists.
+-- Common parts, of two rectangles and of lists; limited lists.
 use mathlib.Core.Path.{_≡_, refl, sym, _∙_, ap}
 use mathlib.Core.Bool.{Bool, true, false, _&&_, cond, and-comm}
 use mathlib.Core.List.{List, [], _∷_}
-use mathlib.Core.Logic.{_⊎_, inl, inr}
+use mathlib.Core.Logic.{_⊎_}
 use mathlib.Core.Option.{none, some}
-use Prim.Native.Nat.{ℕ, _≤_, _<_}
+use Prim.Native.Nat.{_≤_}
 use native.Mathlib.Omega.{arith}
-use borrow.Author.Tests.{le-leb, lt-leb, leb-true}
-use lib.Dec.{leb}
 use lib.ListN.{length}
+use Rattle.polygons.specs.Limits.{mostPieces}
+use Rattle.polygons.specs.Lists.{any}
+use Rattle.polygons.proofs.LimitLaws.{at-most-is, at-most-length, at-most-or}
 use Rattle.geometry.specs.declared.rect.Cell.{Cell}
 use Rattle.geometry.specs.declared.rect.Rect.{Rect}
 use Rattle.geometry.specs.declared.rect.Common.{Common}
 use Rattle.geometry.specs.declared.rect.Common.the-variants.{Part, Nothing}
 use Rattle.geometry.specs.Cells.{hasCell, nonEmpty, valid, allValid, anyHas}
 use Rattle.geometry.specs.Common.{overlap, commonPart, unlessEmpty, common, commonWith, commonParts}
-use Rattle.geometry.specs.Limits.{mostPieces, atMost}
 use Rattle.geometry.specs.Cut.{commonLimited}
 use Rattle.geometry.proofs.Booleans.{same, not-both, both, split-and}
 use Rattle.geometry.proofs.CellLaws.{in-of, of-in, valid-of, corner, corner-in, has-unless-empty, valid-unless-empty, length-unless-empty, has-flat, valid-flat, valid-flat-of, length-flat}
@@ -44,7 +44,7 @@ module _ (r s : Rect) where
 
   -- where two rectangles have no common part, no cell is in both
   pub none-shared : common r s ≡ [] → (c : Cell) → hasCell r c && hasCell s c ≡ false
-  unfolding anyHas
+  unfolding anyHas any
   none-shared e c = sym (common-cells c) ∙ ap (λ l. anyHas l c) e
 
   -- where no cell is in two rectangles, they have no common part
@@ -89,51 +89,13 @@ module _ (p : List Rect) (r : Rect) where
 module _ (l p : List Rect) where
   -- the common parts of two lists have the cells in both
   pub common-parts-cells : (c : Cell) → anyHas (commonParts l p) c ≡ anyHas l c && anyHas p c
-  unfolding commonParts
+  unfolding commonParts commonWith
   common-parts-cells c = has-flat (commonWith p) c (anyHas p c) (λ r. common-with-cells p r c) l
 
   -- the common parts of a valid list with another are valid
   pub common-parts-valid : allValid l ≡ true → allValid (commonParts l p) ≡ true
-  unfolding commonParts
+  unfolding commonParts commonWith
   common-parts-valid = valid-flat-of (commonWith p) (common-with-valid p) l
-
-module _ (n : ℕ) (l : List Rect) where
-  -- a list that passed a limit is the list itself
-  pub at-most-is : (m : List Rect) → atMost n l ≡ some m → m ≡ l
-  unfolding atMost
-  at-most-is m e = go (leb (length l) n) e
-    where
-      go : (b : Bool) → cond b (some l) none ≡ some m → m ≡ l
-      go true e = cc
-      go false e = let z : _≡_ {A = ℕ} 0 1 = cc in absurd (omega arith)
-
-  -- a list that passed a limit is within it
-  pub at-most-length : (m : List Rect) → atMost n l ≡ some m → length m ≤ n
-  unfolding atMost
-  at-most-length m e = go (leb (length l) n) refl e
-    where
-      go : (b : Bool) → leb (length l) n ≡ b → cond b (some l) none ≡ some m → length m ≤ n
-      go true f e = let q : m ≡ l = cc in rw q (leb-true (length l) n f)
-      go false f e = let z : _≡_ {A = ℕ} 0 1 = cc in absurd (omega arith)
-
-  -- a list passes a limit as it is, or is refused
-  pub at-most-or : (atMost n l ≡ some l) ⊎ (atMost n l ≡ none)
-  unfolding atMost
-  at-most-or = go (leb (length l) n)
-    where
-      go : (b : Bool) → (cond b (some l) none ≡ some l) ⊎ (cond b (some l) none ≡ none)
-      go true = inl refl
-      go false = inr refl
-
-  -- a list within a limit passes it
-  pub at-most-some : length l ≤ n → atMost n l ≡ some l
-  unfolding atMost
-  at-most-some h = rw (le-leb (length l) n h)
-
-  -- a list over a limit is refused
-  pub at-most-none : n < length l → atMost n l ≡ none
-  unfolding atMost
-  at-most-none h = rw (lt-leb (length l) n h)
 
 -- limited common parts are the common parts, or are refused
 pub common-limited-or : (l p : List Rect) → (commonLimited l p ≡ some (commonParts l p)) ⊎ (commonLimited l p ≡ none)

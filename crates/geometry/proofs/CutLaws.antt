@@ -1,4 +1,4 @@
--- Laws 3 and 4: cutting a rectangle, a list, and by a polygon, without and with the limit.
+-- Cutting a rectangle, a list, and by a polygon, without and with the limit.
 use mathlib.Core.Path.{_≡_, refl, sym, _∙_, ap}
 use mathlib.Core.Bool.{Bool, true, false, not, _&&_, _||_, cond, or-false, or-true, and-assoc, and-true}
 use mathlib.Core.List.{List, [], _∷_, _++_, flatMap}
@@ -8,16 +8,19 @@ use Prim.Native.Nat.{ℕ, _≤_, _<_}
 use native.Mathlib.Omega.{arith}
 use native.Mathlib.Decide.{decLe, decLt}
 use lib.ListN.{length, length-append}
+use Rattle.polygons.specs.Limits.{atMost, mostPieces}
+use Rattle.polygons.specs.Lists.{any}
+use Rattle.polygons.specs.Rules.{cutEach}
 use Rattle.geometry.specs.declared.rect.Cell.{Cell}
 use Rattle.geometry.specs.declared.rect.Rect.{Rect}
 use Rattle.geometry.specs.Cells.{hasCell, nonEmpty, valid, allValid, anyHas}
 use Rattle.geometry.specs.Common.{overlap, unlessEmpty}
-use Rattle.geometry.specs.Limits.{mostPieces, atMost}
-use Rattle.geometry.specs.Cut.{xCeiling, xFloor, yCeiling, yFloor, cut, cutBy, cutList, cutAll, cutLimited}
+use Rattle.geometry.specs.Cut.{xCeiling, xFloor, yCeiling, yFloor, pieces, cut, cutList, cutAll, cutLimited}
 use Rattle.geometry.specs.Refine.{within}
 use Rattle.geometry.proofs.Booleans.{same, is-false, not-both, either, both, split-and}
 use Rattle.geometry.proofs.CellLaws.{In, in-of, of-in, valid-of, Some, some-of, Within, of-within, empty-has-none, has-append, valid-append, has-unless-empty, valid-unless-empty, length-unless-empty, has-flat, valid-flat-of, flat-append}
-use Rattle.geometry.proofs.CommonLaws.{overlap-cells, at-most-or, at-most-length}
+use Rattle.polygons.proofs.LimitLaws.{at-most-or, at-most-length}
+use Rattle.geometry.proofs.CommonLaws.{overlap-cells}
 
 -- every rectangle of the list is contained in r
 unfoldable pub allWithin : List Rect → Rect → Bool
@@ -36,10 +39,6 @@ within-unless-empty p r e = go (nonEmpty p)
     go : (b : Bool) → allWithin (cond b (p ∷ []) []) r ≡ true
     go true = rw e
     go false = refl
-
--- the four pieces in their order, without the empty ones
-pieces : Rect → Rect → List Rect
-pieces r s = unlessEmpty (xCeiling r s) ++ unlessEmpty (xFloor r s) ++ unlessEmpty (yCeiling r s) ++ unlessEmpty (yFloor r s)
 
 pieces-length : (r s : Rect) → length (pieces r s) ≤ 4
 unfolding pieces
@@ -141,7 +140,7 @@ module _ (r s : Rect) where
 
   -- what holds of the pieces where the two share a cell, and of r alone where not, holds of the cut
   cases : (P : List Rect → Type 0) → (Some (overlap r s) → P (pieces r s)) → (nonEmpty (overlap r s) ≡ false → P (r ∷ [])) → P (cut r s)
-  unfolding cut pieces
+  unfolding cut
   cases P f g = go (nonEmpty (overlap r s)) refl
     where
       go : (b : Bool) → nonEmpty (overlap r s) ≡ b → P (cond b (pieces r s) (r ∷ []))
@@ -150,7 +149,7 @@ module _ (r s : Rect) where
 
   -- a cut has the cells in r and not in s
   pub cut-cells : (c : Cell) → anyHas (cut r s) c ≡ hasCell r c && not (hasCell s c)
-  unfolding anyHas
+  unfolding anyHas any
   cut-cells c = cases
       (λ l. anyHas l c ≡ hasCell r c && not (hasCell s c))
       (λ o. pieces-cells r s o c)
@@ -170,14 +169,18 @@ module _ (r s : Rect) where
   pub cut-length : length (cut r s) ≤ 4
   cut-length = cases (λ l. length l ≤ 4) (λ o. pieces-length r s) (λ e. omega arith)
 
+-- one piece cut by S, S first: a name that the loops share
+unfoldable pub cutBy : Rect → Rect → List Rect
+cutBy s r = cut r s
+
 -- a list is cut piece by piece
 pub cut-list-cons : (r : Rect) (l : List Rect) (s : Rect) → cutList (r ∷ l) s ≡ cut r s ++ cutList l s
-unfolding cutList cutBy flatMap
+unfolding cutList flatMap
 cut-list-cons r l s = refl
 
 -- a list appended to another is cut as each of the two
 pub cut-list-append : (l m : List Rect) (s : Rect) → cutList (l ++ m) s ≡ cutList l s ++ cutList m s
-unfolding cutList
+unfolding cutList cutBy
 cut-list-append l m s = flat-append (cutBy s) l m
 
 module _ (l : List Rect) (s : Rect) where
@@ -198,7 +201,7 @@ neither-of false b d = refl
 
 -- a list cut by a polygon has the cells in the list and not in the polygon
 pub cut-all-cells : (l p : List Rect) (c : Cell) → anyHas (cutAll l p) c ≡ anyHas l c && not (anyHas p c)
-unfolding cutAll anyHas
+unfolding cutAll anyHas any
 cut-all-cells l [] c = sym (and-true (anyHas l c))
 cut-all-cells l (s ∷ p) c = cut-all-cells (cutList l s) p c ∙ rw (cut-list-cells l s c) (neither-of (anyHas l c) (hasCell s c) (anyHas p c))
 
@@ -210,7 +213,7 @@ cut-all-valid l (s ∷ p) v = cut-all-valid (cutList l s) p (cut-list-valid l s 
 
 -- a limited cut is the cut without a limit, or is refused
 pub limited-or-refused : (l p : List Rect) → (cutLimited l p ≡ some (cutAll l p)) ⊎ (cutLimited l p ≡ none)
-unfolding cutLimited cutAll bind
+unfolding cutEach cutList cutAll bind
 limited-or-refused l [] = inl refl
 limited-or-refused l (s ∷ p) =
     let ih = limited-or-refused (cutList l s) p in
@@ -218,7 +221,7 @@ limited-or-refused l (s ∷ p) =
 
 -- a limited cut of at most 256 that is not refused leaves at most 256
 pub cut-limited-length : (l p m : List Rect) → length l ≤ 256 → cutLimited l p ≡ some m → length m ≤ 256
-unfolding cutLimited bind
+unfolding cutEach cutList bind
 cut-limited-length l [] m h e = let q : m ≡ l = cc in rw q h
 cut-limited-length l (s ∷ p) m h e = go (atMost mostPieces (cutList l s)) refl e (λ k. cut-limited-length k p m)
   where
@@ -229,7 +232,7 @@ cut-limited-length l (s ∷ p) m h e = go (atMost mostPieces (cutList l s)) refl
 
 -- a limited cut by a polygon appended to another is the limited cut by the first, then by the second
 pub cut-limited-append : (l p q : List Rect) → cutLimited l (p ++ q) ≡ bind (cutLimited l p) (λ m. cutLimited m q)
-unfolding cutLimited bind
+unfolding cutEach cutList bind
 cut-limited-append l [] q = refl
 cut-limited-append l (s ∷ p) q = go (atMost mostPieces (cutList l s)) (λ k. cut-limited-append k p q)
   where

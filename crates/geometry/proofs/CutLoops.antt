@@ -7,31 +7,32 @@ use Prim.Native.Nat.{ℕ, _+_, _*_, _≤_, _<_}
 use native.Mathlib.Omega.{arith}
 use lib.ListN.{length, take, drop, getD}
 use lib.Seq.{length-front, take-at, length-take-le}
+use Rattle.polygons.specs.Limits.{atMost, mostPieces}
+use Rattle.polygons.specs.Lists.{any}
+use Rattle.polygons.specs.Rules.{cutEach}
 use Rattle.geometry.specs.declared.rect.Rect.{Rect}
 use Rattle.geometry.specs.declared.polygon.Polygon.{Polygon}
 use Rattle.geometry.specs.declared.cut.Count.{Count}
 use Rattle.geometry.specs.declared.cut.Count.the-variants.{Rects, Over}
 use Rattle.geometry.specs.Common.{sharesWith}
-use Rattle.geometry.specs.Cut.{cutBy, cutList, cutLimited}
-use Rattle.geometry.specs.Limits.{atMost, mostPieces}
+use Rattle.geometry.specs.Cut.{cutList, cutLimited}
 use Rattle.geometry.specs.Numbers.{rectsIn, rectsOf, counted, Written}
-use Rattle.geometry.specs.Refine.{anyOf}
 use Rattle.geometry.proofs.ArrayLaws.{array-next, array-end}
 use Rattle.geometry.proofs.Booleans.{neither}
-use Rattle.geometry.proofs.CommonLaws.{at-most-some}
+use Rattle.polygons.proofs.LimitLaws.{at-most-some}
 use Rattle.geometry.proofs.CutLaws.{uncut}
 use Rattle.geometry.proofs.NumberLaws.{length-rects, rects-prefix}
 
 -- a list of which no rectangle shares a cell with s stays as it is
-uncut-list : (l : List Rect) (s : Rect) → anyOf (sharesWith s) l ≡ false → cutList l s ≡ l
-unfolding anyOf sharesWith cutList cutBy flatMap
+uncut-list : (l : List Rect) (s : Rect) → any (sharesWith s) l ≡ false → cutList l s ≡ l
+unfolding any sharesWith cutList flatMap
 uncut-list [] s e = refl
 uncut-list (r ∷ l) s e =
-    let f = neither (sharesWith s r) (anyOf (sharesWith s) l) e in
+    let f = neither (sharesWith s r) (any (sharesWith s) l) e in
     let ih = uncut-list l s (f .1) in
     rw (uncut r s (f .0), ih)
 
-pub uncut-written : (m : List ℕ) (n : ℕ) (s : Rect) (b : Bool) → n ≤ 256 → b ≡ anyOf (sharesWith s) (rectsIn m n) → b ≡ false
+pub uncut-written : (m : List ℕ) (n : ℕ) (s : Rect) (b : Bool) → n ≤ 256 → b ≡ any (sharesWith s) (rectsIn m n) → b ≡ false
     → Written m (atMost mostPieces (cutList (rectsIn m n) s)) (Rects n) m
 unfolding counted
 uncut-written m n s b h e f =
@@ -98,7 +99,7 @@ cutting-start m n p spare a b l g h = record {
 
 module _ (m₀ : List ℕ) (n : ℕ) (p : Polygon) (k : ℕ) (spare₀ m spare : List ℕ) (c i : ℕ) (v : Cutting m₀ n p k spare₀ m spare c i) where
   pub cutting-end : k ≤ i → Written m₀ (cutLimited (rectsIn m₀ n) (rectsOf p)) (Rects c) m
-  unfolding counted cutLimited
+  unfolding counted cutEach cutList
   cutting-end h =
       let l : k ≤ length (p .rects) = omega arith in
       record {
@@ -109,7 +110,7 @@ module _ (m₀ : List ℕ) (n : ℕ) (p : Polygon) (k : ℕ) (spare₀ m spare :
 
   module _ (d : Rect) (a : Count) (m′ spare′ : List ℕ) (h : i < k) (w : Written m (atMost mostPieces (cutList (rectsIn m c) (getD (p .rects) i d))) a m′) where
     next : cutLimited (rectsIn m₀ n) (rectsOf p) ≡ bind (counted a m′) (λ l. cutLimited l (drop (i + 1) (take k (p .rects))))
-    unfolding cutLimited
+    unfolding cutEach cutList
     next =
         let l : k ≤ length (p .rects) = omega arith in
         v .rest ∙ rw (array-next k i (p .rects) d h l, w .list)

@@ -6,12 +6,13 @@ use Prim.Native.Nat.{ℕ, _+_, _*_, _≤_, _<_}
 use native.Mathlib.Omega.{arith}
 use borrow.Author.Tests.{le-leb, lt-leb}
 use lib.ListN.{length, drop, getD, take, length-append}
+use Rattle.polygons.specs.Limits.{atMost, mostPieces}
 use Rattle.geometry.specs.declared.rect.Rect.{Rect}
 use Rattle.geometry.specs.declared.polygon.Polygon.{Polygon}
 use Rattle.geometry.specs.declared.cut.Count.the-variants.{Rects, Over}
 use Rattle.geometry.specs.Common.{common, commonWith, commonParts}
-use Rattle.geometry.specs.Limits.{atMost, mostPieces}
-use Rattle.geometry.specs.Cut.{cut, cutBy, cutList, commonLimited}
+use Rattle.geometry.specs.Cut.{cut, cutList, commonLimited}
+use Rattle.geometry.proofs.CutLaws.{cutBy}
 use Rattle.geometry.specs.Numbers.{rectAt, rectsIn, rectsOf, counted, Appended, Written}
 use Rattle.geometry.proofs.NumberLaws.{length-rects, rects-next, rects-end}
 use Rattle.geometry.proofs.ArrayLaws.{array-next, array-end}
@@ -76,7 +77,7 @@ module _ (s : Rect) (src : List ℕ) (n : ℕ) (out₀ : List ℕ) where
       cut-over = fill-over (cutBy s) src n out₀ out m i v r 4 out′ m′ h e w
 
     pub cut-end : n ≤ i → Written out₀ (atMost mostPieces (cutList (rectsIn src n) s)) (Rects m) out
-    unfolding cutList
+    unfolding cutBy cutList
     cut-end = fill-end (cutBy s) src n out₀ out m i v
 
 -- the common parts of a list with a polygon's
@@ -90,11 +91,11 @@ module _ (p : List Rect) (src : List ℕ) (n : ℕ) (out₀ : List ℕ) where
       parts-again = fill-again (commonWith p) src n out₀ out m i v r 16 out′ m′ h e w
 
       pub parts-over : 256 < m′ → Written out₀ (commonLimited (rectsIn src n) p) Over out′
-      unfolding commonLimited commonParts
+      unfolding commonLimited commonParts commonWith
       parts-over = fill-over (commonWith p) src n out₀ out m i v r 16 out′ m′ h e w
 
     pub parts-end : n ≤ i → Written out₀ (commonLimited (rectsIn src n) p) (Rects m) out
-    unfolding commonLimited commonParts
+    unfolding commonLimited commonParts commonWith
     parts-end = fill-end (commonWith p) src n out₀ out m i v
 
 -- The first i of a polygon's k rectangles are done: the common parts of r and them are written behind the first n.

@@ -1,4 +1,4 @@
--- Law 2: a rectangle grown to take a cell in; areas.
+-- A rectangle grown to take a cell in; areas.
 use mathlib.Core.Path.{_≡_}
 use mathlib.Core.Bool.{true}
 use Prim.Native.Nat.{_-_, _≤_, _<_}

@@ -7,6 +7,7 @@ use native.Mathlib.Omega.{arith}
 use borrow.Author.Tests.{lt-ltb}
 use lib.Dec.{ltb, leb·suc-suc}
 use lib.ListN.{length, getD}
+use Rattle.polygons.specs.Lists.{any}
 use Rattle.geometry.specs.declared.rect.Cell.{Cell}
 use Rattle.geometry.specs.declared.rect.Rect.{Rect}
 use Rattle.geometry.specs.Cells.{hasCell, anyHas, noRect}
@@ -47,7 +48,7 @@ place-before (r ∷ l) c k h = go (hasCell r c) refl k h (place-before l c)
 
 -- the place is in the list exactly if some rectangle has the cell
 pub place-any : (l : List Rect) (c : Cell) → ltb (place l c) (length l) ≡ anyHas l c
-unfolding place anyHas
+unfolding place anyHas any
 place-any [] c = refl
 place-any (r ∷ l) c = go (hasCell r c) (place-any l c)
   where

@@ -1,4 +1,4 @@
--- Law 7: refine. A step keeps the cells and drops one rectangle, or it changes nothing; no step applies to a refined list.
+-- Refine: a step keeps the cells and drops one rectangle, or it changes nothing; no step applies to a refined list.
 use mathlib.Core.Path.{_≡_, refl, sym, _∙_, ap}
 use mathlib.Core.Bool.{Bool, true, false, not, _||_, cond, false≢true, or-assoc}
 use mathlib.Core.List.{List, [], _∷_, _++_}
@@ -11,12 +11,13 @@ use borrow.Author.Tests.{leb-true, ltb-true, eqb-true}
 use lib.Dec.{ltb}
 use lib.ListN.{length, take, drop, getD, set, length-append, length-take, length-drop, length-set, List·getD-append}
 use lib.Seq.{split-at, take-set-lt, drop-set-lt, set-split, getD-take, length-take-le, take-append-le, drop-append-le, take-take}
+use Rattle.polygons.specs.Lists.{any}
 use Rattle.geometry.specs.declared.rect.Cell.{Cell}
 use Rattle.geometry.specs.declared.rect.Rect.{Rect}
 use Rattle.geometry.specs.Cells.{hasCell, anyHas, valid, allValid, noRect}
-use Rattle.geometry.specs.Refine.{firstFrom, anyOf, within, strictlyWithin, contained, firstContained, dropped, stacked, abreast, joinable, union, joins, partner, hasPartner, firstJoin, joined, refineStep, refineSteps, refine}
+use Rattle.geometry.specs.Refine.{firstFrom, within, strictlyWithin, contained, firstContained, dropped, stacked, abreast, joinable, union, joins, partner, hasPartner, firstJoin, joined, refineStep, refineSteps, refine}
 use Rattle.geometry.proofs.Booleans.{same, either, neither, or-left, or-right, both, split-and, all4}
-use Rattle.geometry.proofs.CellLaws.{In, in-of, of-in, valid-of, of-valid, within-cells, has-append, has-split, valid-append, valid-take, valid-drop, valid-at}
+use Rattle.geometry.proofs.CellLaws.{In, in-of, of-in, valid-of, of-valid, within-cells, has-cons, has-append, has-split, valid-append, valid-take, valid-drop, valid-at}
 
 module _ (p : ℕ → Bool) where
   -- the first number that passes is not below the start
@@ -127,16 +128,16 @@ unfolding refineSteps
 stays zero l e = refl
 stays (suc n) l e = rw e (stays n l e)
 
-any-append : (p : Rect → Bool) (l m : List Rect) → anyOf p (l ++ m) ≡ anyOf p l || anyOf p m
-unfolding anyOf
+any-append : (p : Rect → Bool) (l m : List Rect) → any p (l ++ m) ≡ any p l || any p m
+unfolding any
 any-append p [] m = refl
 any-append p (r ∷ l) m = rw (any-append p l m, or-assoc)
 
-any-without : (p : Rect → Bool) (l m : List Rect) (r : Rect) → anyOf p (l ++ (r ∷ m)) ≡ false → anyOf p (l ++ m) ≡ false
-unfolding anyOf
+any-without : (p : Rect → Bool) (l m : List Rect) (r : Rect) → any p (l ++ (r ∷ m)) ≡ false → any p (l ++ m) ≡ false
+unfolding any
 any-without p l m r e =
-    let f = neither (anyOf p l) (p r || anyOf p m) (sym (any-append p l (r ∷ m)) ∙ e) in
-    any-append p l m ∙ rw (f .0, neither (p r) (anyOf p m) (f .1) .1)
+    let f = neither (any p l) (p r || any p m) (sym (any-append p l (r ∷ m)) ∙ e) in
+    any-append p l m ∙ rw (f .0, neither (p r) (any p m) (f .1) .1)
 
 -- dropping one cannot make an earlier one contained
 pub contained-dropped : (l : List Rect) (i k : ℕ) → k < i → i < length l → contained l k ≡ false → contained (dropped l i) k ≡ false
@@ -149,7 +150,7 @@ contained-dropped l i k g h e =
     let d : k ≤ i = omega arith in
     let q : drop (k + 1) l ≡ drop (k + 1) (take i l) ++ (getD l i noRect ∷ drop (i + 1) l) =
     rw (add-one i) (ap (drop (k + 1)) (split-at l i noRect h) ∙ drop-append-le (k + 1) (take i l) _ c) in
-    let f = neither (anyOf (within (getD l k noRect)) (take k l)) (anyOf (strictlyWithin (getD l k noRect)) (drop (k + 1) l)) e in
+    let f = neither (any (within (getD l k noRect)) (take k l)) (any (strictlyWithin (getD l k noRect)) (drop (k + 1) l)) e in
     rw (
       List·getD-append (take i l) (drop (i + 1) l) noRect k a,
       getD-take i l k noRect g,
@@ -159,16 +160,16 @@ contained-dropped l i k g h e =
       f .0,
     )
     (any-without (strictlyWithin (getD l k noRect)) (drop (k + 1) (take i l)) (drop (i + 1) l) (getD l i noRect)
-    (sym (ap (anyOf (strictlyWithin (getD l k noRect))) q) ∙ f .1))
+    (sym (ap (any (strictlyWithin (getD l k noRect))) q) ∙ f .1))
 
 -- whatever passes contains r, and some rectangle of the list passes: the list has r's cells
 any-cells : (p : Rect → Bool) (r : Rect) (l : List Rect) (c : Cell) → ((s : Rect) → p s ≡ true → within r s ≡ true)
-    → anyOf p l ≡ true → hasCell r c ≡ true → anyHas l c ≡ true
-unfolding anyOf anyHas
+    → any p l ≡ true → hasCell r c ≡ true → anyHas l c ≡ true
+unfolding any anyHas
 any-cells p r [] c f e t = absurd (false≢true e)
 any-cells p r (s ∷ l) c f e t =
     let ih = any-cells p r l c f in
-    ⊎-elim (λ w. or-left _ _ (within-cells r s c (f s w) t)) (λ w. or-right (hasCell s c) _ (ih w t)) (either (p s) (anyOf p l) e)
+    ⊎-elim (λ w. or-left _ _ (within-cells r s c (f s w) t)) (λ w. or-right (hasCell s c) _ (ih w t)) (either (p s) (any p l) e)
 
 drop-middle : (a b c : Bool) → (b ≡ true → a || c ≡ true) → a || c ≡ a || (b || c)
 drop-middle true b c f = refl
@@ -185,7 +186,7 @@ dropped-cells l i c h e =
     (λ t. ⊎-elim
     (λ w. or-left _ _ (any-cells (within r) r (take i l) c (λ s k. k) w t))
     (λ w. or-right (anyHas (take i l) c) _ (any-cells (strictlyWithin r) r (drop (i + 1) l) c (λ s k. split-and (within r s) (not (within s r)) k .0) w t))
-    (either (anyOf (within r) (take i l)) (anyOf (strictlyWithin r) (drop (i + 1) l)) e)))
+    (either (any (within r) (take i l)) (any (strictlyWithin r) (drop (i + 1) l)) e)))
 
 module _ (r s : Rect) (c : Cell) where
   -- one of the two has the cell where their union has it
@@ -231,7 +232,6 @@ regroup false false false m q = refl
 -- joining keeps the cells
 pub joined-cells : (l : List Rect) (i j : ℕ) (c : Cell) → i < j → j < length l → joinable (getD l i noRect) (getD l j noRect) ≡ true
     → anyHas (joined l i j) c ≡ anyHas l c
-unfolding anyHas
 joined-cells l i j c g h e =
     let u = union (getD l i noRect) (getD l j noRect) in
     let k : length (take j l) ≡ j = length-take-le j l (omega arith) in
@@ -244,6 +244,7 @@ joined-cells l i j c g h e =
       has-append,
       set-split (take j l) i u m,
       has-append,
+      has-cons,
       has-split l j c h,
       has-split (take j l) i c m,
       a,
@@ -302,7 +303,7 @@ unfolding refine
 refine-length l = steps-length (length l) l
 
 one-stays : (r : Rect) → refineStep (r ∷ []) ≡ r ∷ []
-unfolding refineStep firstContained firstJoin firstFrom hasPartner partner contained anyOf
+unfolding refineStep firstContained firstJoin firstFrom hasPartner partner contained any
 one-stays r = refl
 
 step-some : (l : List Rect) → 1 ≤ length l → 1 ≤ length (refineStep l)

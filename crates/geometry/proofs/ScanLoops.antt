@@ -8,33 +8,34 @@ use native.Mathlib.Nat.{sub-zero}
 use lib.ListN.{length, drop, getD}
 use lib.Dec.{ltb}
 use borrow.Author.Tests.{lt-ltb, le-ltb}
+use Rattle.polygons.specs.Lists.{any}
 use Rattle.geometry.specs.declared.rect.Rect.{Rect}
 use Rattle.geometry.specs.Cells.{noRect, valid, allValid}
 use Rattle.geometry.specs.Numbers.{rectAt, rectsIn}
-use Rattle.geometry.specs.Refine.{firstFrom, anyOf, within, strictlyWithin, contained, firstContained, joinable, joins, partner, hasPartner, firstJoin}
+use Rattle.geometry.specs.Refine.{firstFrom, within, strictlyWithin, contained, firstContained, joinable, joins, partner, hasPartner, firstJoin}
 use Rattle.geometry.proofs.NumberLaws.{length-rects, rects-at, rects-take, rects-next, rects-end}
 
 -- Whether some rectangle passes is w, and it is settled by those from the i-th on.
 pub record Scan (p : Rect → Bool) (m : List ℕ) (n i : ℕ) (w : Bool) : Type 0 where
   pub i-le : i ≤ n
   pub fits : 4 * n ≤ length m
-  pub rest : w ≡ anyOf p (drop i (rectsIn m n))
+  pub rest : w ≡ any p (drop i (rectsIn m n))
 
 module _ (p : Rect → Bool) (m : List ℕ) (n i : ℕ) where
-  pub scan-start : i ≤ n → 4 * n ≤ length m → Scan p m n i (anyOf p (drop i (rectsIn m n)))
+  pub scan-start : i ≤ n → 4 * n ≤ length m → Scan p m n i (any p (drop i (rectsIn m n)))
   scan-start a b = record { i-le = a; fits = b; rest = refl }
 
-  pub scan-all : 4 * n ≤ length m → Scan p m n 0 (anyOf p (rectsIn m n))
+  pub scan-all : 4 * n ≤ length m → Scan p m n 0 (any p (rectsIn m n))
   scan-all b = record { i-le = omega arith; fits = b; rest = refl }
 
   module _ (w : Bool) (v : Scan p m n i w) where
     pub scan-end : n ≤ i → false ≡ w
-    unfolding anyOf
+    unfolding any
     scan-end h = rw (v .rest, rects-end m n i h)
 
     module _ (s : Rect) (b : Bool) (h : i < n) (e : s ≡ rectAt m i) (f : b ≡ p s) where
-      next : w ≡ b || anyOf p (drop (i + 1) (rectsIn m n))
-      unfolding anyOf
+      next : w ≡ b || any p (drop (i + 1) (rectsIn m n))
+      unfolding any
       next = v .rest ∙ rw (rects-next m n i h, ← e, ← f)
 
       pub scan-hit : b ≡ true → true ≡ w
@@ -103,7 +104,7 @@ first-skip p i (suc j) m f =
     rw (g, f i (omega arith) (omega arith), e) ih
 
 -- the i-th of n rectangles is contained in another
-module _ (m : List ℕ) (n i : ℕ) (h : i < n) (r : Rect) (e : r ≡ rectAt m i) (k : Bool) (f : k ≡ anyOf (within r) (rectsIn m i)) where
+module _ (m : List ℕ) (n i : ℕ) (h : i < n) (r : Rect) (e : r ≡ rectAt m i) (k : Bool) (f : k ≡ any (within r) (rectsIn m i)) where
   at : getD (rectsIn m n) i noRect ≡ r
   at = rects-at m n i h ∙ sym e
 
@@ -111,7 +112,7 @@ module _ (m : List ℕ) (n i : ℕ) (h : i < n) (r : Rect) (e : r ≡ rectAt m i
   unfolding contained
   contained-before g = rw (at, rects-take m n i (omega arith), ← f, g)
 
-  pub contained-after : (b : Bool) → k ≡ false → b ≡ anyOf (strictlyWithin r) (drop (i + 1) (rectsIn m n)) → b ≡ contained (rectsIn m n) i
+  pub contained-after : (b : Bool) → k ≡ false → b ≡ any (strictlyWithin r) (drop (i + 1) (rectsIn m n)) → b ≡ contained (rectsIn m n) i
   unfolding contained
   contained-after b g q = rw (at, rects-take m n i (omega arith), ← f, g) q
 

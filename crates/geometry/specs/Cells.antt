@@ -1,8 +1,9 @@
 -- Document 01, 'Grid, rectangles, polygons': cells, rectangles, the cells of a list of rectangles, area.
 use Prim.Native.Nat.{ℕ, _*_, _-_}
-use mathlib.Core.Bool.{Bool, true, false, _&&_, _||_}
+use mathlib.Core.Bool.{Bool, true, _&&_}
 use mathlib.Core.List.{List, [], _∷_}
 use lib.Dec.{ltb, leb}
+use Rattle.polygons.specs.Rules.{unionHas}
 use Rattle.geometry.specs.declared.rect.Cell.{Cell}
 use Rattle.geometry.specs.declared.rect.Rect.{Rect}
 
@@ -29,8 +30,7 @@ allValid (r ∷ l) = valid r && allValid l
 
 -- 'its cells are their union': some rectangle of the list has the cell
 unfoldable pub anyHas : List Rect → Cell → Bool
-anyHas [] c = false
-anyHas (r ∷ l) c = hasCell r c || anyHas l c
+anyHas l c = unionHas hasCell l c
 
 -- 'area counts cells'
 unfoldable pub area : Rect → ℕ

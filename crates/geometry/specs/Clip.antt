@@ -1,8 +1,9 @@
 -- Document 01, 'Splitting clips the polygon's rectangles to each side, in order, and refines them.'
 use Prim.Native.Nat.{min, max}
 use mathlib.Core.Bool.{Bool, not}
-use mathlib.Core.List.{List, flatMap}
+use mathlib.Core.List.{List}
 use lib.Dec.{ltb}
+use Rattle.polygons.specs.Rules.{clipEach, clipRefine}
 use Rattle.geometry.specs.declared.rect.Cell.{Cell}
 use Rattle.geometry.specs.declared.rect.Rect.{Rect}
 use Rattle.geometry.specs.declared.rect.Line.{Line}
@@ -35,8 +36,8 @@ clipRect s r = unlessEmpty (sidePart s r)
 
 -- 'clips the polygon's rectangles to each side, in order'
 unfoldable pub clip : Side → List Rect → List Rect
-clip s p = flatMap (clipRect s) p
+clip s p = clipEach (clipRect s) p
 
 -- 'and refines them'
 unfoldable pub clipRefined : Side → List Rect → List Rect
-clipRefined s p = refine (clip s p)
+clipRefined s p = clipRefine (clipRect s) refine p

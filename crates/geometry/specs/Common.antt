@@ -1,7 +1,8 @@
 -- Document 01, 'Common part'.
 use Prim.Native.Nat.{min, max}
 use mathlib.Core.Bool.{Bool, cond}
-use mathlib.Core.List.{List, [], _∷_, flatMap}
+use mathlib.Core.List.{List, [], _∷_}
+use Rattle.polygons.specs.Rules.{commonsWith, commons}
 use Rattle.geometry.specs.declared.rect.Rect.{Rect}
 use Rattle.geometry.specs.declared.rect.Common.{Common}
 use Rattle.geometry.specs.declared.rect.Common.the-variants.{Part, Nothing}
@@ -34,8 +35,8 @@ common r s = unlessEmpty (overlap r s)
 
 -- the common parts of one rectangle with each of a list, in order
 unfoldable pub commonWith : List Rect → Rect → List Rect
-commonWith p r = flatMap (common r) p
+commonWith p r = commonsWith common p r
 
 -- Insertion's step 2: 'replace each piece by its common parts with the parent's rectangles ..., in order'
 unfoldable pub commonParts : List Rect → List Rect → List Rect
-commonParts l p = flatMap (commonWith p) l
+commonParts l p = commons common l p

@@ -1,11 +1,12 @@
 -- Document 01, 'Cut R by S'.
 use mathlib.Core.Bool.{cond}
-use mathlib.Core.List.{List, [], _∷_, _++_, flatMap}
-use mathlib.Core.Option.{Option, some, bind}
+use mathlib.Core.List.{List, [], _∷_, _++_}
+use mathlib.Core.Option.{Option}
+use Rattle.polygons.specs.Limits.{atMost, mostPieces}
+use Rattle.polygons.specs.Rules.{cutPieces, cutEach}
 use Rattle.geometry.specs.declared.rect.Rect.{Rect}
 use Rattle.geometry.specs.Cells.{nonEmpty}
 use Rattle.geometry.specs.Common.{overlap, unlessEmpty, commonParts}
-use Rattle.geometry.specs.Limits.{mostPieces, atMost}
 
 -- 'x ceiling: x from S.ur to R.ur, y as R'
 unfoldable pub xCeiling : Rect → Rect → Rect
@@ -23,20 +24,17 @@ yCeiling r s = record { llx = overlap r s .llx; lly = s .ury; urx = overlap r s 
 unfoldable pub yFloor : Rect → Rect → Rect
 yFloor r s = record { llx = overlap r s .llx; lly = r .lly; urx = overlap r s .urx; ury = s .lly }
 
--- 'if they share no cell, the list is R alone. Else, in this order and leaving out empty ones'
-unfoldable pub cut : Rect → Rect → List Rect
-cut r s =
-    cond (nonEmpty (overlap r s))
-    (unlessEmpty (xCeiling r s) ++ unlessEmpty (xFloor r s) ++ unlessEmpty (yCeiling r s) ++ unlessEmpty (yFloor r s))
-    (r ∷ [])
+-- the four pieces, 'in this order and leaving out empty ones'
+unfoldable pub pieces : Rect → Rect → List Rect
+pieces r s = unlessEmpty (xCeiling r s) ++ unlessEmpty (xFloor r s) ++ unlessEmpty (yCeiling r s) ++ unlessEmpty (yFloor r s)
 
--- one piece cut by S, S first
-unfoldable pub cutBy : Rect → Rect → List Rect
-cutBy s r = cut r s
+-- 'if they share no cell, the list is R alone. Else' the pieces
+unfoldable pub cut : Rect → Rect → List Rect
+cut r s = cond (nonEmpty (overlap r s)) (pieces r s) (r ∷ [])
 
 -- 'A list is cut by S piece by piece, in order.'
 unfoldable pub cutList : List Rect → Rect → List Rect
-cutList l s = flatMap (cutBy s) l
+cutList l s = cutPieces cut l s
 
 -- 'Cutting by a polygon applies its rectangles one after another.' Without a limit:
 unfoldable pub cutAll : List Rect → List Rect → List Rect
@@ -44,9 +42,8 @@ cutAll l [] = l
 cutAll l (s ∷ p) = cutAll (cutList l s) p
 
 -- and with it: none as soon as the list is 'over 256 after a single cut'
-unfoldable pub cutLimited : List Rect → List Rect → Option (List Rect)
-cutLimited l [] = some l
-cutLimited l (s ∷ p) = bind (atMost mostPieces (cutList l s)) (λ m. cutLimited m p)
+abbrev pub cutLimited : List Rect → List Rect → Option (List Rect)
+cutLimited l p = cutEach cut l p
 
 -- step 2's common parts with their limit
 unfoldable pub commonLimited : List Rect → List Rect → Option (List Rect)

@@ -1,7 +1,6 @@
 pub mod Cells
 pub mod Common
 pub mod Grow
-pub mod Limits
 pub mod Cut
 pub mod Refine
 pub mod Clip

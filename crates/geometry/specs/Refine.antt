@@ -1,9 +1,10 @@
 -- Document 01, 'Refine'.
 use Prim.Native.Nat.{ℕ, zero, suc, _+_, _-_, min, max}
-use mathlib.Core.Bool.{Bool, false, _&&_, _||_, not, cond}
-use mathlib.Core.List.{List, [], _∷_, _++_}
+use mathlib.Core.Bool.{Bool, _&&_, _||_, not, cond}
+use mathlib.Core.List.{List, _++_}
 use lib.Dec.{ltb, leb, eqb}
 use lib.ListN.{take, drop, length, getD, set}
+use Rattle.polygons.specs.Lists.{any}
 use Rattle.geometry.specs.declared.rect.Rect.{Rect}
 use Rattle.geometry.specs.Cells.{noRect}
 
@@ -11,11 +12,6 @@ use Rattle.geometry.specs.Cells.{noRect}
 unfoldable pub firstFrom : (ℕ → Bool) → ℕ → ℕ → ℕ
 firstFrom p i zero = i
 firstFrom p i (suc m) = let later = firstFrom p (i + 1) m in cond (p i) i later
-
--- some rectangle of the list passes the test
-unfoldable pub anyOf : (Rect → Bool) → List Rect → Bool
-anyOf p [] = false
-anyOf p (s ∷ l) = p s || anyOf p l
 
 -- r is contained in s
 unfoldable pub within : Rect → Rect → Bool
@@ -28,7 +24,7 @@ strictlyWithin r s = within r s && not (within s r)
 -- the i-th is 'contained in another (of equal ones the later counts as contained)'
 unfoldable pub contained : List Rect → ℕ → Bool
 contained l i =
-    anyOf (within (getD l i noRect)) (take i l) || anyOf (strictlyWithin (getD l i noRect)) (drop (i + 1) l)
+    any (within (getD l i noRect)) (take i l) || any (strictlyWithin (getD l i noRect)) (drop (i + 1) l)
 
 -- the first contained rectangle; the length where there is none
 unfoldable pub firstContained : List Rect → ℕ

@@ -2,18 +2,16 @@
 ghost use mathlib.Core.Path.{_≡_};
 ghost use Prim.Native.Nat.{_+_, _*_, _≤_};
 ghost use lib.ListN.{length};
-ghost use mathlib.Core.List.{_++_};
-ghost use Rattle.geometry.specs.Common.{overlap, unlessEmpty, sharesWith};
-ghost use Rattle.geometry.specs.Cut.{xCeiling, xFloor, yCeiling, yFloor, cut, cutList, cutLimited};
-ghost use Rattle.geometry.specs.Refine.{anyOf};
-ghost use Rattle.geometry.specs.Limits.{atMost, mostPieces};
+ghost use Rattle.polygons.specs.Limits.{atMost, mostPieces};
+ghost use Rattle.polygons.specs.Lists.{any};
+ghost use Rattle.geometry.specs.Common.{unlessEmpty, sharesWith};
+ghost use Rattle.geometry.specs.Cut.{pieces, cut, cutList, cutLimited};
 ghost use Rattle.geometry.specs.Numbers.{rectsIn, rectsOf, Appended, Written};
 use crate::limits::MOST_PIECES;
 use crate::numbers::copy;
 use crate::numbers::put_rect;
 use crate::numbers::rect_at;
 use crate::polygon::Polygon;
-use crate::rect::Common;
 use crate::rect::Rect;
 
 // How many rectangles were written, or that the list is over 256.
@@ -37,39 +35,15 @@ pub fn put_unless_empty(list: &mut [u32], n: usize, r: Rect) -> usize
     n + 1
 }
 
-// Writes the pieces of r outside s behind the first n rectangles; u is their common part.
-fn put_pieces(list: &mut [u32], n: usize, r: Rect, s: Rect, u: Rect) -> usize
-    requires { ⌜ (4 * n + 16 ≤ length (now list)) × (u ≡ overlap r s) ⌝ }
-    ensures { λ m. ⌜ Appended (now (list .entry)) n (unlessEmpty (xCeiling r s) ++ unlessEmpty (xFloor r s) ++ unlessEmpty (yCeiling r s) ++ unlessEmpty (yFloor r s)) 4 (now (list .exit)) m ⌝ }
+// Writes the pieces of r outside s behind the first n rectangles, in order, empty ones left out.
+fn put_pieces(list: &mut [u32], n: usize, r: Rect, s: Rect) -> usize
+    requires { ⌜ 4 * n + 16 ≤ length (now list) ⌝ }
+    ensures { λ m. ⌜ Appended (now (list .entry)) n (pieces r s) 4 (now (list .exit)) m ⌝ }
 {
-    let x_ceiling = Rect {
-        llx: s.urx,
-        lly: r.lly,
-        urx: r.urx,
-        ury: r.ury,
-    };
-    let a = put_unless_empty(list, n, x_ceiling);
-    let x_floor = Rect {
-        llx: r.llx,
-        lly: r.lly,
-        urx: s.llx,
-        ury: r.ury,
-    };
-    let b = put_unless_empty(list, a, x_floor);
-    let y_ceiling = Rect {
-        llx: u.llx,
-        lly: s.ury,
-        urx: u.urx,
-        ury: r.ury,
-    };
-    let c = put_unless_empty(list, b, y_ceiling);
-    let y_floor = Rect {
-        llx: u.llx,
-        lly: r.lly,
-        urx: u.urx,
-        ury: s.lly,
-    };
-    put_unless_empty(list, c, y_floor)
+    let a = put_unless_empty(list, n, r.x_ceiling(s));
+    let b = put_unless_empty(list, a, r.x_floor(s));
+    let c = put_unless_empty(list, b, r.y_ceiling(s));
+    put_unless_empty(list, c, r.y_floor(s))
 }
 
 // Writes the cut of r by s behind the first n rectangles: at most four pieces.
@@ -77,13 +51,11 @@ fn put_cut(list: &mut [u32], n: usize, r: Rect, s: Rect) -> usize
     requires { ⌜ 4 * n + 16 ≤ length (now list) ⌝ }
     ensures { λ m. ⌜ Appended (now (list .entry)) n (cut r s) 4 (now (list .exit)) m ⌝ }
 {
-    match r.common(s) {
-        Common::Part(u) => put_pieces(list, n, r, s, u),
-        Common::Nothing => {
-            put_rect(list, n, r);
-            n + 1
-        }
+    if r.shares(s) {
+        return put_pieces(list, n, r, s);
     }
+    put_rect(list, n, r);
+    n + 1
 }
 
 // Writes the first n rectangles of a list, cut by s, to another list.
@@ -107,7 +79,7 @@ pub fn cut_list(list: &[u32], n: usize, s: Rect, out: &mut [u32]) -> Count
 // Whether one of the first n rectangles shares a cell with s.
 pub fn any_shares(list: &[u32], n: usize, s: Rect) -> bool
     requires { ⌜ 4 * n ≤ length (now list) ⌝ }
-    ensures { λ b. ⌜ b ≡ anyOf (sharesWith s) (rectsIn (now (list .entry)) n) ⌝ }
+    ensures { λ b. ⌜ b ≡ any (sharesWith s) (rectsIn (now (list .entry)) n) ⌝ }
 {
     let mut i = 0;
     while i < n {

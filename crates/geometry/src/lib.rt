@@ -4,6 +4,7 @@ mod common;
 mod cut;
 mod limits;
 mod numbers;
+mod pieces;
 mod polygon;
 mod rect;
 mod refine;

@@ -3,8 +3,9 @@ ghost use mathlib.Core.Path.{_≡_};
 ghost use Prim.Native.Nat.{ℕ, _+_, _-_, _*_, _≤_, _<_};
 ghost use mathlib.Core.Bool.{false};
 ghost use lib.ListN.{length, drop};
+ghost use Rattle.polygons.specs.Lists.{any};
 ghost use Rattle.geometry.specs.Numbers.{rectsIn, Dropped, Joined, Stepped, Refined};
-ghost use Rattle.geometry.specs.Refine.{anyOf, within, strictlyWithin, contained, firstContained, partner, firstJoin};
+ghost use Rattle.geometry.specs.Refine.{within, strictlyWithin, contained, firstContained, partner, firstJoin};
 use crate::numbers::put_rect;
 use crate::numbers::rect_at;
 use crate::rect::Rect;
@@ -12,7 +13,7 @@ use crate::rect::Rect;
 // Whether r is contained in one of the first n rectangles.
 pub fn is_within_any(list: &[u32], n: usize, r: Rect) -> bool
     requires { ⌜ 4 * n ≤ length (now list) ⌝ }
-    ensures { λ b. ⌜ b ≡ anyOf (within r) (rectsIn (now (list .entry)) n) ⌝ }
+    ensures { λ b. ⌜ b ≡ any (within r) (rectsIn (now (list .entry)) n) ⌝ }
 {
     let mut j = 0;
     while j < n {
@@ -28,7 +29,7 @@ pub fn is_within_any(list: &[u32], n: usize, r: Rect) -> bool
 // Whether r is contained in, and not equal to, one of the rectangles from the given one to the n-th.
 fn is_strictly_within_any(list: &[u32], from: usize, n: usize, r: Rect) -> bool
     requires { ⌜ (from ≤ n) × (4 * n ≤ length (now list)) ⌝ }
-    ensures { λ b. ⌜ b ≡ anyOf (strictlyWithin r) (drop from (rectsIn (now (list .entry)) n)) ⌝ }
+    ensures { λ b. ⌜ b ≡ any (strictlyWithin r) (drop from (rectsIn (now (list .entry)) n)) ⌝ }
 {
     let mut j = from;
     while j < n {

@@ -3,11 +3,11 @@
 use mathlib.Core.List.{List, [], _∷_, flatMap}
 use mathlib.Core.Option.{none, bind}
 use mathlib.Core.Path.{_≡_, refl}
+use Rattle.polygons.specs.Lists.{any}
 use Rattle.geometry.specs.Cells.{onGrid, valid, hasCell, nonEmpty}
 use Rattle.geometry.specs.Common.{overlap, sharesWith}
 use Rattle.geometry.specs.Grow.{grown}
 use Rattle.tree.specs.Lists.{keep, total}
-use Rattle.tree.specs.Search.{any}
 use Rattle.tree.specs.Boxes.{anyHas}
 use Rattle.tree.specs.Nodes.{held, nodes}
 use Rattle.tree.specs.Split.{split}

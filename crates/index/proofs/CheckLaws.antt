@@ -15,7 +15,8 @@ use Rattle.tree.specs.Lists.{total}
 use Rattle.tree.specs.Nodes.{Item, nodes}
 use Rattle.plane.specs.Plane.{planeSpace}
 use Rattle.memory.specs.Layout.{part, rectCount, polygonIn, childrenIn, nodeFits, rectNumbers}
-use Rattle.memory.specs.SoundTest.{allPass, pairsPass, insideOf, apart, polygonFits, countTest, apartTest, itemTest}
+use Rattle.cover.specs.Tests.{allPass, pairsPass, insideOf, apart}
+use Rattle.memory.specs.SoundTest.{polygonFits, countTest, apartTest, itemTest}
 use Rattle.memory.specs.Reading.{readRow, readNode, branchOf}
 use Rattle.memory.proofs.ReadingLaws.{row-none, row-parts, row-length, FitsAs, fits-as, leaf-parts, node-parts, children-length}
 use Rattle.memory.specs.Fanout.{fanout}

@@ -16,14 +16,15 @@ use Rattle.tree.specs.Lists.{total}
 use Rattle.tree.specs.Nodes.{Item, nodes}
 use Rattle.plane.specs.Plane.{planeSpace}
 use Rattle.memory.specs.Layout.{partsOf, part, rectCount, itemCount, polygonIn, entriesIn, childrenIn, nodeFits, rectNumbers}
-use Rattle.memory.specs.SoundTest.{allPass, pairsPass, insideOf, apart, polygonFits, countTest, apartTest, itemTest}
+use Rattle.cover.specs.Tests.{allPass, pairsPass, insideOf, apart}
+use Rattle.memory.specs.SoundTest.{polygonFits, countTest, apartTest, itemTest}
 use Rattle.memory.specs.Reading.{readRow, readNode}
 use Rattle.memory.proofs.ReadingLaws.{fits-as, leaf-parts, node-parts, nodes-range, entries-length, part-length, RightLength, children-length}
 use Rattle.memory.specs.Fanout.{fanout}
 use Rattle.layout.specs.Nodes.{PartIn, NodePart, PolygonPart}
 use Rattle.index.specs.Check.{nodeTest, checked, checkedAt, partsApart, PolygonParts}
 use Rattle.layout.proofs.NodeLaws.{lent-polygon}
-use Rattle.index.proofs.PassLoops.{Passing, passing-end, passing-stop, passing-on, Pairing, pairing-start, pairing-end, pairing-stop, pairing-on}
+use Rattle.cover.proofs.PassLoops.{Passing, passing-end, passing-stop, passing-on, Pairing, pairing-start, pairing-end, pairing-stop, pairing-on}
 use Rattle.index.proofs.CheckLaws.{found, rowSum, rowChecked, low-row, high-row, lost-row, found-row, checked-node, node-part, leaf-nodes, fits-polygon, count-fits, later-first, none-or-none}
 
 -- tests on the polygons at two parts

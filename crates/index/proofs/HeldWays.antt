@@ -5,9 +5,9 @@ use mathlib.Core.Bool.{Bool, true, false, not, cond, _||_}
 use mathlib.Core.List.{List, [], _∷_, head?}
 use mathlib.Core.Option.{Option, none, some}
 use borrow.Author.Tests.{not-true, not-false}
+use Rattle.polygons.specs.Lists.{any}
 use Rattle.geometry.specs.declared.rect.Cell.{Cell}
 use Rattle.tree.specs.Lists.{keep}
-use Rattle.tree.specs.Search.{any}
 use Rattle.tree.specs.Tree.{entries}
 use Rattle.tree.specs.Query.{ofCell}
 use Rattle.plane.specs.Lines.{CellEntry}

@@ -1,8 +1,8 @@
 -- A leaf's entries: what the code's scans say of the tests.
 use mathlib.Core.Path.{_≡_, refl, sym, ap, _∙_}
-use mathlib.Core.Bool.{Bool, true, false, _||_}
+use mathlib.Core.Bool.{Bool, true, false}
 use mathlib.Core.List.{List, [], _∷_, _++_}
-use Prim.Native.Nat.{ℕ, zero, suc, _+_, _*_, _-_, _<_, _≤_}
+use Prim.Native.Nat.{ℕ, zero, suc, _+_, _<_, _≤_}
 use native.Mathlib.Omega.{arith}
 use native.Mathlib.Decide.{decLt}
 use native.Mathlib.Numerals.{add-one}
@@ -10,40 +10,16 @@ use borrow.Author.Tests.{eq-eqb, ne-eqb}
 use lib.ListN.{length, drop, getD, drop-of-length-le, List·getD-append}
 use lib.Seq.{drop-cons, getD-at}
 use Rattle.geometry.specs.declared.rect.Cell.{Cell}
-use Rattle.geometry.specs.declared.rect.Rect.{Rect}
-use Rattle.geometry.specs.Cells.{hasCell, anyHas}
-use Rattle.geometry.specs.Numbers.{rectAt, rectsIn}
-use Rattle.geometry.specs.Refine.{anyOf}
-use Rattle.geometry.proofs.ScanLoops.{Scan, scan-all, scan-hit, scan-miss}
+use Rattle.geometry.specs.Cells.{anyHas}
+use Rattle.geometry.specs.Numbers.{rectsIn}
+use Rattle.cover.specs.Tests.{allPass, pairsPass}
+use Rattle.cover.proofs.PassLoops.{Passing, passing-start, passing-end, passing-stop, passing-on, Pairing, pairing-start, pairing-end, pairing-stop, pairing-on}
 use Rattle.plane.specs.Lines.{CellEntry}
 use Rattle.memory.specs.Layout.{rectCount, itemCount, polygonIn, entryIn, entriesIn, rectNumbers}
-use Rattle.memory.specs.SoundTest.{allPass, pairsPass, apartTest, itemTest}
+use Rattle.memory.specs.SoundTest.{apartTest, itemTest}
 use Rattle.memory.proofs.ReadingLaws.{entries-length}
 use Rattle.memory.specs.Fanout.{fanout}
 use Rattle.layout.specs.Nodes.{NodePart}
-use Rattle.index.proofs.PassLoops.{Passing, passing-start, passing-end, passing-stop, passing-on, Pairing, pairing-start, pairing-end, pairing-stop, pairing-on}
-
--- a rectangle has the cell, the cell first
-unfoldable pub cellIn : Cell → Rect → Bool
-cellIn c r = hasCell r c
-
-any-cell : (l : List Rect) (c : Cell) → anyHas l c ≡ anyOf (cellIn c) l
-unfolding anyHas anyOf cellIn
-any-cell [] c = refl
-any-cell (r ∷ l) c = ap (λ b. hasCell r c || b) (any-cell l c)
-
-module _ (m : List ℕ) (n : ℕ) (c : Cell) where
-  pub has-start : 4 * n ≤ length m → Scan (cellIn c) m n 0 (anyHas (rectsIn m n) c)
-  has-start h = rw (any-cell (rectsIn m n) c) (scan-all (cellIn c) m n 0 h)
-
-  module _ (i : ℕ) (w : Bool) (v : Scan (cellIn c) m n i w) (r : Rect) (b : Bool) (h : i < n) (e : r ≡ rectAt m i) (f : b ≡ hasCell r c) where
-    pub has-hit : b ≡ true → true ≡ w
-    unfolding cellIn
-    has-hit = scan-hit (cellIn c) m n i w v r b h e f
-
-    pub has-miss : b ≡ false → Scan (cellIn c) m n (i + 1) w
-    unfolding cellIn
-    has-miss = scan-miss (cellIn c) m n i w v r b h e f
 
 -- any entry
 abbrev none : CellEntry

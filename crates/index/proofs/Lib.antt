@@ -1,5 +1,3 @@
-pub mod PassLoops
-pub mod CoverLaws
 pub mod LeafLaws
 pub mod CheckLaws
 pub mod CheckLoops

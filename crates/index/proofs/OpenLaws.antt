@@ -15,7 +15,8 @@ use Rattle.tree.specs.Nodes.{Item, nodes}
 use Rattle.tree.specs.Tree.{Tree, top}
 use Rattle.plane.specs.Plane.{planeSpace}
 use Rattle.memory.specs.Layout.{partsOf, rightLength, part, bitsSet, heightIn, rootIn, allZero, rectCount, othersZero, rectNumbers}
-use Rattle.memory.specs.SoundTest.{allPass, pairsPass, polygonFits, countTest, apartTest, itemTest, soundTest}
+use Rattle.cover.specs.Tests.{allPass, pairsPass}
+use Rattle.memory.specs.SoundTest.{polygonFits, countTest, apartTest, itemTest, soundTest}
 use Rattle.memory.specs.Reading.{readNode, treeOf, reading}
 use Rattle.memory.proofs.ReadingLaws.{length-right, ReadAs, read-as, read-empty, make-reading, zeros-read, zero-at, level-range}
 use Rattle.memory.specs.Fanout.{fanout}

@@ -3,13 +3,12 @@ use Prim.Native.Nat.{ℕ}
 use mathlib.Core.Path.{_≡_, refl, sym, ap, _∙_}
 use mathlib.Core.Bool.{Bool, _||_}
 use mathlib.Core.List.{List, [], _∷_}
+use Rattle.polygons.specs.Lists.{any}
 use Rattle.geometry.specs.declared.rect.Cell.{Cell}
 use Rattle.geometry.specs.declared.rect.Rect.{Rect}
 use Rattle.geometry.specs.Cells.{anyHas}
 use Rattle.geometry.specs.Common.{sharesWith}
 use Rattle.geometry.specs.Numbers.{rectsIn}
-use Rattle.geometry.specs.Refine.{anyOf}
-use Rattle.tree.specs.Search.{any}
 use Rattle.plane.specs.Windows.{meets}
 use Rattle.memory.specs.Layout.{part, rectCount, polygonIn, rectNumbers}
 use Rattle.memory.proofs.SoundTested.{has-is}
@@ -17,8 +16,8 @@ use Rattle.memory.specs.Fanout.{fanout}
 use Rattle.layout.proofs.NodeLaws.{lent-polygon}
 use Rattle.index.specs.Walks.{hasTest, meetsTest}
 
-any-of : (p : Rect → Bool) (l : List Rect) → anyOf p l ≡ any p l
-unfolding anyOf any
+any-of : (p : Rect → Bool) (l : List Rect) → any p l ≡ any p l
+unfolding any
 any-of p [] = refl
 any-of p (r ∷ l) = ap (λ b. p r || b) (any-of p l)
 
@@ -28,6 +27,6 @@ module _ (m : List ℕ) (k : ℕ) (p l : List ℕ) (r : ℕ) (p-is : p ≡ part 
   unfolding hasTest
   polygon-has c e = e ∙ ap (λ q. anyHas q c) (lent-polygon m k p l r p-is l-is r-is) ∙ sym (has-is fanout (polygonIn (part m k)) c)
 
-  pub polygon-meets : (w : Rect) → b ≡ anyOf (sharesWith w) (rectsIn l r) → b ≡ meetsTest w (polygonIn (part m k))
+  pub polygon-meets : (w : Rect) → b ≡ any (sharesWith w) (rectsIn l r) → b ≡ meetsTest w (polygonIn (part m k))
   unfolding meetsTest meets
-  polygon-meets w e = e ∙ ap (anyOf (sharesWith w)) (lent-polygon m k p l r p-is l-is r-is) ∙ any-of (sharesWith w) (polygonIn (part m k))
+  polygon-meets w e = e ∙ ap (any (sharesWith w)) (lent-polygon m k p l r p-is l-is r-is) ∙ any-of (sharesWith w) (polygonIn (part m k))

@@ -1,17 +1,15 @@
 -- The soundness test as the code takes it: a node with all below it.
-use Prim.Native.Nat.{ℕ, suc, _≤_, _<_}
+use Prim.Native.Nat.{ℕ, suc, _<_}
 use mathlib.Core.Bool.{Bool, _&&_, cond}
 use mathlib.Core.List.{List}
-use mathlib.Core.Path.{_≡_}
 use mathlib.Core.Option.{Option, none, some}
-use lib.ListN.{length, drop, getD}
-use Rattle.geometry.specs.declared.rect.Rect.{Rect}
-use Rattle.geometry.specs.Numbers.{rectsIn}
+use lib.ListN.{length, getD}
+use Rattle.cover.specs.Tests.{allPass, pairsPass, apart}
 use Rattle.tree.specs.Nodes.{Item, nodes}
 use Rattle.plane.specs.Plane.{planeSpace}
 use Rattle.memory.specs.Fanout.{fanout}
 use Rattle.memory.specs.Layout.{part, polygonIn}
-use Rattle.memory.specs.SoundTest.{allPass, pairsPass, coveredBy, apart, polygonFits, countTest, apartTest, itemTest}
+use Rattle.memory.specs.SoundTest.{polygonFits, countTest, apartTest, itemTest}
 use Rattle.memory.specs.Reading.{readNode}
 use Rattle.layout.specs.Nodes.{PolygonPart}
 
@@ -37,9 +35,3 @@ partsApart m i j = apart (polygonIn (part m i)) (polygonIn (part m j))
 -- each of some parts is one of the memory's, and its polygon has at most 16 rectangles
 pub record PolygonParts (m : List ℕ) (ks : List ℕ) : Type 0 where
   pub each : (i : ℕ) → i < length ks → PolygonPart m (getD ks i 0)
-
--- the rectangles from the i-th to before the j-th of n cut nothing of r
-pub record Skipped (m : List ℕ) (n : ℕ) (r : Rect) (i j : ℕ) : Type 0 where
-  pub from : i ≤ j
-  pub to : j ≤ n
-  pub same : coveredBy (drop i (rectsIn m n)) r ≡ coveredBy (drop j (rectsIn m n)) r

@@ -1,35 +1,17 @@
 // A leaf's entries: inside its polygon, and no two in one cell.
 ghost use mathlib.Core.Path.{_≡_};
-ghost use Prim.Native.Nat.{_+_, _*_, _≤_, _<_};
-ghost use lib.ListN.{length, drop};
-ghost use Rattle.geometry.specs.Cells.{anyHas};
-ghost use Rattle.geometry.specs.Numbers.{rectsIn};
+ghost use Prim.Native.Nat.{_+_, _≤_, _<_};
+ghost use lib.ListN.{drop};
+ghost use Rattle.cover.specs.Tests.{allPass, pairsPass};
 ghost use Rattle.memory.specs.Layout.{itemCount, polygonIn, entryIn, entriesIn};
-ghost use Rattle.memory.specs.SoundTest.{allPass, pairsPass, apartTest, itemTest};
+ghost use Rattle.memory.specs.SoundTest.{apartTest, itemTest};
 ghost use Rattle.memory.specs.Fanout.{fanout};
 ghost use Rattle.layout.specs.Nodes.{IsPart, NodePart};
-use geometry::Cell;
-use geometry::rect_at;
+use cover::any_has;
 use layout::entry_cell;
 use layout::item_count;
 use layout::rect_count;
 use layout::rects;
-
-// Whether one of the first n rectangles has the cell.
-pub fn any_has(list: &[u32], n: usize, c: Cell) -> bool
-    requires { ⌜ 4 * n ≤ length (now list) ⌝ }
-    ensures { λ b. ⌜ b ≡ anyHas (rectsIn (now (list .entry)) n) c ⌝ }
-{
-    let mut i = 0;
-    while i < n {
-        let r = rect_at(list, i);
-        if r.has_cell(c) {
-            return true;
-        }
-        i += 1;
-    }
-    false
-}
 
 // Whether the polygon of a leaf's part contains its entries.
 pub fn entries_inside(p: &[u32]) -> bool

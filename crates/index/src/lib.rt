@@ -3,7 +3,6 @@ mod answer;
 mod check;
 mod clearing;
 mod count;
-mod cover;
 mod holding;
 mod leaf;
 mod opening;

@@ -4,7 +4,7 @@ ghost use Prim.Native.Nat.{_+_, _≤_};
 ghost use Rattle.memory.specs.Layout.{part, polygonIn};
 ghost use Rattle.layout.specs.Nodes.{PolygonPart};
 ghost use Rattle.index.specs.Walks.{hasTest, meetsTest, joined};
-use crate::leaf::any_has;
+use cover::any_has;
 use geometry::Cell;
 use geometry::Rect;
 use geometry::any_shares;

@@ -9,6 +9,7 @@ use mir.Syntax.{w32}
 use mir.Val.{Fits}
 use borrow.Author.Tests.{le-leb}
 use lib.ListN.{length, take}
+use Rattle.polygons.specs.Lists.{any}
 use Rattle.geometry.specs.declared.rect.Cell.{Cell}
 use Rattle.geometry.specs.declared.rect.Rect.{Rect}
 use Rattle.geometry.specs.declared.polygon.Polygon.{Polygon}
@@ -16,7 +17,6 @@ use Rattle.geometry.specs.Cells.{onGrid}
 use Rattle.geometry.specs.Numbers.{rectsOf, PolygonOf}
 use Rattle.geometry.proofs.CellLaws.{grid-of}
 use Rattle.tree.specs.Nodes.{held, nodes}
-use Rattle.tree.specs.Search.{any}
 use Rattle.tree.specs.Lists.{total}
 use Rattle.tree.specs.Tree.{Tree, top, nodeCount, SoundTree}
 use Rattle.tree.specs.Insert.{refused, accepted, limited, insertTree}

@@ -1,9 +1,9 @@
 -- Demand 3 of the calls for C and Rust. A step is a call of one of them that has returned: its lifetimes, its arguments, its number and what
--- it was lent when it returned, with the function's own contract of these (`Post`), quoted and not restated.
+-- it was lent when it returned, with the function's own contract of these (`Post`), quoted and not restated. The claim speaks of the number
+-- returned and the values stored (`made`), not of what a definition says that they should be.
 use Prim.Native.Nat.{ℕ, _≤_}
 use mathlib.Core.Path.{_≡_, refl}
 use mathlib.Core.List.{List, [], _∷_, map}
-use lib.ListN.{length}
 use contract.Lifetimes.{Lfts}
 use denote.Ref.{now}
 use borrow.Fn.Kinds.{endedOf}
@@ -13,12 +13,24 @@ use Rattle.tree.specs.Lists.{All}
 use Rattle.tree.specs.Calls.{insertCall, removeCall, clearCall, pointCall, windowCall}
 use Rattle.index.specs.Answers.{insertAnswer, removeAnswer, clearAnswer, pointAnswer, windowAnswer}
 use Rattle.index.specs.Changes.{entryOf}
-use Rattle.index.specs.Numbers.{insertTold, removeTold, clearTold, pointTold, windowTold}
+use Rattle.index.specs.Numbers as A
+use Rattle.index.specs.Numbers.{insertTold, removeTold, clearTold}
+use Rattle.index.specs.declared.answer.Inserted.{Inserted}
+use Rattle.index.specs.declared.answer.Inserted.the-variants as I
+use Rattle.index.specs.declared.answer.Removed.{Removed}
+use Rattle.index.specs.declared.answer.Removed.the-variants as R
+use Rattle.index.specs.declared.answer.Cleared.{Cleared}
+use Rattle.index.specs.declared.answer.Cleared.the-variants as C
+use Rattle.index.specs.declared.answer.PointFound.{PointFound}
+use Rattle.index.specs.declared.answer.PointFound.the-variants as P
+use Rattle.index.specs.declared.answer.WindowFound.{WindowFound}
+use Rattle.index.specs.declared.answer.WindowFound.the-variants as W
 use Rattle.history.specs.Calls.{Made, freshMemory, Linked}
 use Rattle.history.specs.Contract.{Kept}
 use Rattle.history.specs.Claim.{HistoryClaim}
 use Rattle.history.proofs.History.{kept-history}
-use Rattle.lintzoger.specs.Exports.{cellOf, rectOf}
+use Rattle.lintzoger.specs.Exports.{stored, cellOf, rectOf}
+use Rattle.lintzoger.specs.Told.{changeTold, pointTold, windowTold}
 use Rattle.lintzoger.proofs.exports.lintzoger_insert as insert-fn
 use Rattle.lintzoger.proofs.exports.lintzoger_insert.Reads as insert
 use Rattle.lintzoger.proofs.exports.lintzoger_insert.Kinds as insert-kinds
@@ -82,62 +94,141 @@ pub data Step : Type 0 where
   points : Point → Step
   windows : Window → Step
 
--- What a step was handed, and what came of it.
+-- The number and the values stored are those of the answer: one law for each kind of call, by the cases of its answer.
+insert-tells : (r : Inserted) (n held held′ : ℕ) → n ≡ insertTold r .number → held′ ≡ stored (insertTold r) 0 held
+    → changeTold n held′ ≡ insertTold r
+insert-tells (I.Accepted k) n held held′ p q = rw (p, q)
+insert-tells I.WrongLength n held held′ p q = rw p
+insert-tells I.WrongWorkLength n held held′ p q = rw p
+insert-tells I.OffGrid n held held′ p q = rw p
+insert-tells I.NoTree n held held′ p q = rw p
+insert-tells I.CellHeld n held held′ p q = rw p
+insert-tells I.PolygonLimit n held held′ p q = rw p
+insert-tells I.NodeLimit n held held′ p q = rw p
+
+remove-tells : (r : Removed) (n held held′ : ℕ) → n ≡ removeTold r .number → held′ ≡ stored (removeTold r) 0 held
+    → changeTold n held′ ≡ removeTold r
+remove-tells (R.Accepted k) n held held′ p q = rw (p, q)
+remove-tells R.WrongLength n held held′ p q = rw p
+remove-tells R.OffGrid n held held′ p q = rw p
+remove-tells R.NoTree n held held′ p q = rw p
+remove-tells R.CellNotHeld n held held′ p q = rw p
+
+clear-tells : (r : Cleared) (n held held′ : ℕ) → n ≡ clearTold r .number → held′ ≡ stored (clearTold r) 0 held
+    → changeTold n held′ ≡ clearTold r
+clear-tells (C.Accepted k) n held held′ p q = rw (p, q)
+clear-tells C.WrongLength n held held′ p q = rw p
+
+point-tells : (r : PointFound) (n held visits tag held′ visits′ tag′ : ℕ) → n ≡ A.pointTold r .number
+    → held′ ≡ stored (A.pointTold r) 0 held → visits′ ≡ stored (A.pointTold r) 1 visits → tag′ ≡ stored (A.pointTold r) 2 tag
+    → pointTold n held′ visits′ tag′ ≡ A.pointTold r
+point-tells (P.Held x y) n held visits tag held′ visits′ tag′ p q a b = rw (p, q, a, b)
+point-tells (P.NotHeld y) n held visits tag held′ visits′ tag′ p q a b = rw (p, q, a)
+point-tells P.WrongLength n held visits tag held′ visits′ tag′ p q a b = rw p
+point-tells P.OffGrid n held visits tag held′ visits′ tag′ p q a b = rw p
+point-tells P.NoTree n held visits tag held′ visits′ tag′ p q a b = rw p
+
+window-tells : (r : WindowFound) (n matches visits matches′ visits′ : ℕ) → n ≡ A.windowTold r .number
+    → matches′ ≡ stored (A.windowTold r) 0 matches → visits′ ≡ stored (A.windowTold r) 1 visits
+    → windowTold n matches′ visits′ ≡ A.windowTold r
+window-tells (W.Found x y) n matches visits matches′ visits′ p q a = rw (p, q, a)
+window-tells W.WrongLength n matches visits matches′ visits′ p q a = rw p
+window-tells W.BadWindow n matches visits matches′ visits′ p q a = rw p
+window-tells W.NoTree n matches visits matches′ visits′ p q a = rw p
+window-tells (W.ShortList x) n matches visits matches′ visits′ p q a = rw (p, q)
+
+-- What a step was handed, and what came of it: the lists and places as they were at the return, and the number returned.
 abbrev pub made : Step → Made
 made (inserts s) =
-    let m = now (s .args .0) in
-    let w = now (s .args .1 .0) in
-    let e = entryOf (cellOf (s .args .1 .1 .0) (s .args .1 .1 .1 .0)) (s .args .1 .1 .1 .1 .0) in
-    record { call = insertCall e; before = m; after = now (s .exits .0); lent = w; left = now (s .exits .1 .0); told = insertTold (insertAnswer m (length w) e) }
+    let a = s .args in
+    let z = s .exits in
+    record {
+      call = insertCall (entryOf (cellOf (a .1 .1 .0) (a .1 .1 .1 .0)) (a .1 .1 .1 .1 .0));
+      before = now (a .0);
+      after = now (z .0);
+      lent = now (a .1 .0);
+      left = now (z .1 .0);
+      told = changeTold (s .out) (now (z .1 .1 .1 .1 .1 .0));
+    }
 made (removes s) =
-    let m = now (s .args .0) in
-    let c = cellOf (s .args .1 .0) (s .args .1 .1 .0) in
-    record { call = removeCall c; before = m; after = now (s .exits .0); lent = []; left = []; told = removeTold (removeAnswer m c) }
+    let a = s .args in
+    let z = s .exits in
+    record {
+      call = removeCall (cellOf (a .1 .0) (a .1 .1 .0));
+      before = now (a .0);
+      after = now (z .0);
+      lent = [];
+      left = [];
+      told = changeTold (s .out) (now (z .1 .1 .1 .0));
+    }
 made (clears s) =
-    let m = now (s .args .0) in
-    record { call = clearCall; before = m; after = now (s .exits .0); lent = []; left = []; told = clearTold (clearAnswer m) }
+    let z = s .exits in
+    record {
+      call = clearCall;
+      before = now (s .args .0);
+      after = now (z .0);
+      lent = [];
+      left = [];
+      told = changeTold (s .out) (now (z .1 .0));
+    }
 made (points s) =
-    let m = now (s .args .0) in
-    let c = cellOf (s .args .1 .0) (s .args .1 .1 .0) in
-    record { call = pointCall c; before = m; after = m; lent = []; left = []; told = pointTold (pointAnswer m c) }
+    let a = s .args in
+    let z = s .exits in
+    record {
+      call = pointCall (cellOf (a .1 .0) (a .1 .1 .0));
+      before = now (a .0);
+      after = now (a .0);
+      lent = [];
+      left = [];
+      told = pointTold (s .out) (now (z .1 .1 .1 .0)) (now (z .1 .1 .1 .1 .0)) (now (z .1 .1 .1 .1 .1 .0));
+    }
 made (windows s) =
-    let m = now (s .args .0) in
-    let w = rectOf (s .args .1 .0) (s .args .1 .1 .0) (s .args .1 .1 .1 .0) (s .args .1 .1 .1 .1 .0) in
-    let l = now (s .args .1 .1 .1 .1 .1 .0) in
-    record { call = windowCall w; before = m; after = m; lent = l; left = now (s .exits .1 .1 .1 .1 .1 .0); told = windowTold (windowAnswer m w (length l)) }
-
--- the number that a step returned
-abbrev pub returned : Step → ℕ
-returned (inserts s) = s .out
-returned (removes s) = s .out
-returned (clears s) = s .out
-returned (points s) = s .out
-returned (windows s) = s .out
-
--- The number returned is the one told. The values told are stored, each in its place: the other fields of the contracts.
-pub exported-number : (s : Step) → returned s ≡ made s .told .number
-exported-number (inserts s) = s .meets .number
-exported-number (removes s) = s .meets .number
-exported-number (clears s) = s .meets .number
-exported-number (points s) = s .meets .number
-exported-number (windows s) = s .meets .number
+    let a = s .args in
+    let z = s .exits in
+    record {
+      call = windowCall (rectOf (a .1 .0) (a .1 .1 .0) (a .1 .1 .1 .0) (a .1 .1 .1 .1 .0));
+      before = now (a .0);
+      after = now (a .0);
+      lent = now (a .1 .1 .1 .1 .1 .0);
+      left = now (z .1 .1 .1 .1 .1 .0);
+      told = windowTold (s .out) (now (z .1 .1 .1 .1 .1 .1 .0)) (now (z .1 .1 .1 .1 .1 .1 .1 .0));
+    }
 
 -- A step's own contract is what the claim rests on.
 kept : (s : Step) → Kept (made s)
-kept (inserts s) = record {
-  result = _;
-  told = refl;
-  contract = record { answer = refl; memory = s .meets .memory; memory-length = s .meets .memory-length; work = s .meets .work };
-}
-kept (removes s) = record {
-  result = _;
-  told = refl;
-  contract = record { answer = refl; memory = s .meets .memory; memory-length = s .meets .memory-length };
-  list = refl;
-}
-kept (clears s) = record { told = refl; memory = s .meets .memory; list = refl }
-kept (points s) = record { told = refl; memory = refl; list = refl }
-kept (windows s) = record { result = _; told = refl; contract = record { answer = refl; list = s .meets .list-is }; memory = refl }
+kept (inserts s) =
+    let v = s .meets in
+    record {
+      result = _;
+      told = insert-tells (insertAnswer _ _ _) (s .out) _ _ (v .number) (v .held-is);
+      contract = record { answer = refl; memory = v .memory; memory-length = v .memory-length; work = v .work };
+    }
+kept (removes s) =
+    let v = s .meets in
+    record {
+      result = _;
+      told = remove-tells (removeAnswer _ _) (s .out) _ _ (v .number) (v .held-is);
+      contract = record { answer = refl; memory = v .memory; memory-length = v .memory-length };
+      list = refl;
+    }
+kept (clears s) =
+    let v = s .meets in
+    record { told = clear-tells (clearAnswer _) (s .out) _ _ (v .number) (v .held-is); memory = v .memory; list = refl }
+kept (points s) =
+    let v = s .meets in
+    record {
+      told = point-tells (pointAnswer _ _) (s .out) _ _ _ _ _ _ (v .number) (v .held-is) (v .visits-is) (v .tag-is);
+      memory = refl;
+      list = refl;
+    }
+kept (windows s) =
+    let v = s .meets in
+    record {
+      result = _;
+      told = window-tells (windowAnswer _ _ _) (s .out) _ _ _ _ (v .number) (v .matches-is) (v .visits-is);
+      contract = record { answer = refl; list = v .list-is };
+      memory = refl;
+    }
 
 all-kept : (ss : List Step) → All Kept (map made ss)
 unfolding All
@@ -145,5 +236,6 @@ all-kept [] = tt
 all-kept (s ∷ ss) = (kept s, all-kept ss)
 
 -- Demand 3: for every N from 1 to 256, every list of these calls from a fresh memory, each handed the memory that the last one left.
-pub exported-history : (N : ℕ) → 1 ≤ N → N ≤ 256 → (ss : List Step) (m : List ℕ) → Linked (freshMemory N) (map made ss) m → HistoryClaim N (map made ss) m
+pub exported-history : (N : ℕ) → 1 ≤ N → N ≤ 256 → (ss : List Step) (m : List ℕ) → Linked (freshMemory N) (map made ss) m
+    → HistoryClaim N (map made ss) m
 exported-history N a b ss m l = kept-history N a b (map made ss) m (all-kept ss) l

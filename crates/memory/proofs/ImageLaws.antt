@@ -15,7 +15,8 @@ use Rattle.tree.specs.Nodes.{Item, nodes}
 use Rattle.tree.specs.Tree.{Tree, top}
 use Rattle.plane.specs.Plane.{planeSpace}
 use Rattle.memory.specs.Layout.{partsOf, rightLength, rootIn, othersZero}
-use Rattle.memory.specs.SoundTest.{allPass, pairsPass, countTest, apartTest, itemTest, soundTest}
+use Rattle.cover.specs.Tests.{allPass, pairsPass}
+use Rattle.memory.specs.SoundTest.{countTest, apartTest, itemTest, soundTest}
 use Rattle.memory.specs.Reading.{readNode, readTree, restFits, reading}
 use Rattle.memory.specs.Image.{emitNode, image}
 use Rattle.memory.proofs.NodeImage.{Sized, NodeOk, all5, count-ok, length-node, node-sized, node-reads}

@@ -7,6 +7,7 @@ use Prim.Native.Nat.{ℕ, zero, suc, _+_, _*_, _-_, _^_, _≤_, _<_, min}
 use native.Mathlib.Omega.{arith}
 use lib.ListN.{length, replicate, length-append}
 use lib.Pow.{pow-pos, pow-mono}
+use Rattle.polygons.specs.Lists.{any}
 use Rattle.geometry.specs.declared.rect.Cell.{Cell}
 use Rattle.geometry.specs.declared.rect.Rect.{Rect}
 use Rattle.geometry.specs.Cells.{hasCell, valid, allValid, anyHas}
@@ -21,7 +22,8 @@ use Rattle.tree.proofs.Lists.{all-append, all-first, all-second, all-map, all-f
 use Rattle.plane.specs.Best.{upFrom}
 use Rattle.plane.specs.Lines.{CellEntry}
 use Rattle.plane.specs.Plane.{planeSpace}
-use Rattle.memory.specs.SoundTest.{allPass, itemTest, soundTest}
+use Rattle.cover.specs.Tests.{allPass}
+use Rattle.memory.specs.SoundTest.{itemTest, soundTest}
 use Rattle.memory.specs.Image.{padded, entryNumbers, nodePart, bitsWord, headNumbers, memoryOf, emitRow, emitNode, image}
 use Rattle.memory.proofs.NodeImage.{NodeOk, item-ok, length-node, some-parts}
 use Rattle.memory.proofs.ImageLaws.{root-ok}
@@ -38,7 +40,7 @@ abbrev pub Tagged : CellEntry → Type 0
 Tagged e = Word (e .tag)
 
 -- zeros
-zero-words : (n : ℕ) → Words (replicate n 0)
+pub zero-words : (n : ℕ) → Words (replicate n 0)
 unfolding All
 zero-words zero = tt
 zero-words (suc n) = (omega arith, zero-words n)
@@ -59,7 +61,7 @@ rect-words (r ∷ p) h =
 
 -- a cell of a valid polygon is on the grid
 cell-on : (p : List Rect) (c : Cell) → allValid p ≡ true → anyHas p c ≡ true → OnGrid c
-unfolding allValid anyHas
+unfolding allValid anyHas any
 cell-on [] c v h = absurd (false≢true h)
 cell-on (r ∷ p) c v h = go (either (hasCell r c) (anyHas p c) h) (split-and (valid r) (allValid p) v) (cell-on p c)
   where

@@ -7,3 +7,4 @@ pub mod NodeImage
 pub mod MemoryImage
 pub mod ImageLaws
 pub mod ImageWords
+pub mod AcceptedImage

@@ -18,7 +18,8 @@ use Rattle.tree.specs.Nodes.{EntryOf, Item, nodes}
 use Rattle.tree.proofs.Lists.{all-append}
 use Rattle.plane.specs.Plane.{planeSpace}
 use Rattle.memory.specs.Layout.{partsOf, part, inUse, nodeFits}
-use Rattle.memory.specs.SoundTest.{allPass, pairsPass, insideOf, polygonFits, countTest, apartTest, itemTest}
+use Rattle.cover.specs.Tests.{allPass, pairsPass, insideOf}
+use Rattle.memory.specs.SoundTest.{polygonFits, countTest, apartTest, itemTest}
 use Rattle.memory.specs.Reading.{readRow, readNode}
 use Rattle.memory.specs.Image.{nodePart, entryNumbers, emitRow, emitNode}
 use Rattle.memory.proofs.PartImage.{part-length, part-polygon, part-children, part-rest, part-counts, part-entries, length-entries}

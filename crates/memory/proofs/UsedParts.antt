@@ -13,11 +13,11 @@ use lib.Dec.{eqb}
 use lib.ListN.{length, take, getD}
 use lib.Pow.{shr-shr}
 use lib.Seq.{take-suc}
+use Rattle.polygons.specs.Lists.{any}
 use Rattle.geometry.proofs.Booleans.{neither, both, split-and}
 use Rattle.tree.specs.Lists.{All, Pairs}
 use Rattle.tree.specs.Tree.{Tree, top}
 use Rattle.tree.proofs.Lists.{all-map, all-both}
-use Rattle.tree.specs.Search.{any}
 use Rattle.plane.specs.Plane.{planeSpace}
 use Rattle.memory.specs.Layout.{partsOf, inUse, onesOf, rootIn}
 use Rattle.memory.specs.Reading.{reading}

@@ -5,8 +5,8 @@ use mathlib.Core.List.{List, [], _∷_, _++_}
 use lib.Count.{ones}
 use lib.Dec.{leb, ltb, eqb}
 use lib.ListN.{length, take, drop, getD}
+use Rattle.polygons.specs.Limits.{mostOfPolygon}
 use Rattle.geometry.specs.declared.rect.Rect.{Rect}
-use Rattle.geometry.specs.Limits.{mostOfPolygon}
 use Rattle.geometry.specs.Numbers.{rectsIn}
 use Rattle.plane.specs.Lines.{CellEntry}
 

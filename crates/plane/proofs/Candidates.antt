@@ -1,4 +1,4 @@
--- Law 15: the best of the candidate lines is the line of the definition.
+-- The best of the candidate lines is the line of the definition.
 use Prim.Native.Nat.{ℕ, _<_, _≤_}
 use mathlib.Core.Bool.{true}
 use mathlib.Core.Path.{_≡_, sym, ap, _∙_, fun-ext}

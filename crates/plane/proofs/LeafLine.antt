@@ -1,4 +1,4 @@
--- Law 13: the line of a leaf has entries on both sides, and lies in the grid.
+-- The line of a leaf has entries on both sides, and lies in the grid.
 use Prim.Native.Nat.{ℕ, zero, _*_, _-_, _<_, _≤_}
 use mathlib.Core.Bool.{Bool, true, false, not, cond}
 use mathlib.Core.Path.{_≡_, refl}

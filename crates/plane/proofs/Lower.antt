@@ -1,4 +1,4 @@
--- Law 15: a line moved down to the next candidate has the same branches on its sides.
+-- A line moved down to the next candidate has the same branches on its sides.
 use Prim.Native.Nat.{ℕ, _+_, _<_, _≤_, max}
 use mathlib.Core.Bool.{Bool, true, false, cond, _&&_}
 use mathlib.Core.Path.{_≡_, refl, sym, _∙_, subst}

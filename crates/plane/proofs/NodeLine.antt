@@ -1,4 +1,4 @@
--- Law 14: where some line fits a routing node, the chosen one does.
+-- Where some line fits a routing node, the chosen one does.
 use Prim.Native.Nat.{ℕ, zero, suc, _+_, _<_, _≤_}
 use mathlib.Core.Bool.{Bool, true, not}
 use mathlib.Core.Path.{_≡_, subst}

@@ -7,6 +7,7 @@ use lib.Dec.{eqb}
 use lib.ListN.{length, getD}
 use native.Mathlib.Omega.{arith}
 use borrow.Author.Tests.{eqb-true, eq-eqb}
+use Rattle.polygons.specs.Lists.{any}
 use Rattle.geometry.specs.declared.rect.Cell.{Cell}
 use Rattle.geometry.specs.declared.rect.Rect.{Rect}
 use Rattle.geometry.specs.declared.rect.Line.{Line}
@@ -26,17 +27,10 @@ use Rattle.geometry.proofs.ClipLaws.{side-cells, clip-valid}
 use Rattle.tree.specs.Lists.{All}
 use Rattle.tree.specs.Space.{Side, left, right}
 use Rattle.tree.specs.Nodes.{on}
-use Rattle.tree.specs.Search.{any}
 use Rattle.tree.proofs.Laws.{Laws}
 use Rattle.tree.proofs.BoxLaws.{BoxLaws}
 use Rattle.tree.proofs.BoxSpace.{space-laws}
 use Rattle.plane.specs.Plane.{rectSide, extraOf, plane, planeSpace}
-
--- the cells of a list, as boxes and as rectangles
-pub any-has : (l : List Rect) (c : Cell) → any (λ q. hasCell q c) l ≡ anyHas l c
-unfolding any anyHas
-any-has [] c = refl
-any-has (r ∷ l) c = ap (λ b. hasCell r c || b) (any-has l c)
 
 -- valid lists, as boxes and as rectangles
 pub all-valid : (l : List Rect) → allValid l ≡ true → All (λ q. valid q ≡ true) l
@@ -60,10 +54,9 @@ on-side fanout (left l) c = refl
 on-side fanout (right l) c = refl
 
 clip-cells : (fanout : ℕ) (s : Side Line) (r : Rect) (c : Cell) → any (λ q. hasCell q c) (clipRect (rectSide s) r) ≡ hasCell r c && on (planeSpace fanout) s c
-unfolding clipRect
+unfolding clipRect anyHas
 clip-cells fanout s r c =
-    any-has (unlessEmpty (sidePart (rectSide s) r)) c
-    ∙ has-unless-empty (sidePart (rectSide s) r) c
+    has-unless-empty (sidePart (rectSide s) r) c
     ∙ side-cells (rectSide s) r c
     ∙ ap (λ (b : Bool). hasCell r c && b) (on-side fanout s c)
 
@@ -87,11 +80,12 @@ same-cell c d h =
 
 -- the laws of boxes
 pub plane-laws : (fanout : ℕ) → BoxLaws (plane fanout)
+unfolding anyHas
 plane-laws fanout = record {
   clip-cells = clip-cells fanout;
-  common-cells = λ r s c. any-has (common r s) c ∙ common-cells r s c;
-  cut-cells = λ r s c. any-has (cut r s) c ∙ cut-cells r s c;
-  refine-cells = λ l c. any-has (refine l) c ∙ refine-cells l c ∙ sym (any-has l c);
+  common-cells = common-cells;
+  cut-cells = cut-cells;
+  refine-cells = refine-cells;
   common-valid = common-all-valid;
   refine-valid = λ l h. all-valid (refine l) (refine-valid l (valid-all l h));
   clip-one = clip-one;

@@ -5,6 +5,7 @@ use mathlib.Core.Path.{_≡_, refl, _∙_}
 use mathlib.Core.List.{List, [], _∷_}
 use mathlib.Core.Logic.{⊎-elim}
 use native.Mathlib.Omega.{arith}
+use Rattle.polygons.specs.Lists.{any}
 use Rattle.geometry.specs.declared.rect.Cell.{Cell}
 use Rattle.geometry.specs.declared.rect.Rect.{Rect}
 use Rattle.geometry.specs.Cells.{hasCell, nonEmpty}
@@ -13,7 +14,6 @@ use Rattle.geometry.proofs.Booleans.{either, or-left, or-right, both}
 use Rattle.geometry.proofs.CellLaws.{in-of, of-some, corner}
 use Rattle.geometry.proofs.CommonLaws.{overlap-cells, common-some}
 use Rattle.tree.specs.Lists.{notEmpty}
-use Rattle.tree.specs.Search.{any}
 use Rattle.tree.specs.BoxSpace.{windowOf}
 use Rattle.tree.proofs.Any.{any-same}
 use Rattle.tree.specs.Boxes.{anyHas}

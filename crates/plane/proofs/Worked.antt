@@ -3,11 +3,13 @@ use Prim.Native.Nat.{ℕ}
 use mathlib.Core.Path.{_≡_, refl}
 use mathlib.Core.List.{[], _∷_, flatMap}
 use mathlib.Core.Option.{some, bind}
+use Rattle.polygons.specs.Limits.{atMost}
+use Rattle.polygons.specs.Lists.{any}
 use Rattle.geometry.specs.Cells.{hasCell, nonEmpty, area}
 use Rattle.geometry.specs.Common.{overlap, unlessEmpty, common}
 use Rattle.geometry.specs.Grow.{grown, extraArea}
 use Rattle.geometry.specs.Cut.{cut, xCeiling, xFloor, yCeiling, yFloor}
-use Rattle.geometry.specs.Refine.{firstFrom, anyOf, within, strictlyWithin, contained, firstContained, stacked, abreast, joinable, union, joins, partner, hasPartner, firstJoin, refineStep, refineSteps, refine}
+use Rattle.geometry.specs.Refine.{firstFrom, within, strictlyWithin, contained, firstContained, stacked, abreast, joinable, union, joins, partner, hasPartner, firstJoin, refineStep, refineSteps, refine}
 use Rattle.geometry.specs.Clip.{below, sidePart, clipRect}
 use Rattle.geometry.proofs.Cases.{rect, cell}
 use Rattle.tree.specs.Lists.{total}
@@ -15,8 +17,9 @@ use Rattle.tree.specs.Split.{half, split}
 use Rattle.tree.specs.Insert.{insertAt, insertTree}
 use Rattle.tree.specs.Tree.{Tree}
 use Rattle.tree.specs.Boxes.{anyHas}
-use Rattle.tree.specs.Search.{any, first, least, atMost}
-use Rattle.tree.specs.Step2.{choose, grownPoly, cutEach}
+use Rattle.tree.specs.Search.{first, least}
+use Rattle.polygons.specs.Rules.{cutEach}
+use Rattle.tree.specs.Step2.{choose, grownPoly}
 use Rattle.plane.specs.Lines.{CellEntry, leafLine}
 use Rattle.plane.specs.Plane.{planeSpace, planeRoot, extraOf}
 
@@ -38,7 +41,7 @@ after = record {
 }
 
 pub ninth : insertTree (planeSpace 8) (planeRoot 8) (some before) (entry 8 5 8) ≡ some after
-unfolding insertTree insertAt bind split half flatMap leafLine total below sidePart clipRect unlessEmpty nonEmpty grown refine refineSteps refineStep firstFrom anyOf contained partner hasPartner firstContained firstJoin
+unfolding insertTree insertAt bind split half flatMap leafLine total below sidePart clipRect unlessEmpty nonEmpty grown refine refineSteps refineStep firstFrom any contained partner hasPartner firstContained firstJoin
 ninth = refl
 
 -- a tenth, into the left half, which grows by step 2
@@ -52,5 +55,5 @@ grownAfter = record {
 }
 
 pub tenth : insertTree (planeSpace 8) (planeRoot 8) (some after) (entry 3 7 9) ≡ some grownAfter
-unfolding insertTree insertAt bind split half flatMap leafLine total choose grownPoly cutEach atMost anyHas any first least hasCell extraOf extraArea area grown overlap common cut xCeiling xFloor yCeiling yFloor unlessEmpty nonEmpty within strictlyWithin stacked abreast joinable union joins refine refineSteps refineStep firstFrom anyOf contained partner hasPartner firstContained firstJoin
+unfolding insertTree insertAt bind split half flatMap leafLine total choose grownPoly cutEach atMost anyHas any first least hasCell extraOf extraArea area grown overlap common cut xCeiling xFloor yCeiling yFloor unlessEmpty nonEmpty within strictlyWithin stacked abreast joinable union joins refine refineSteps refineStep firstFrom contained partner hasPartner firstContained firstJoin
 tenth = refl

@@ -2,11 +2,11 @@
 use Prim.Native.Nat.{ℕ}
 use mathlib.Core.Bool.{Bool}
 use mathlib.Core.List.{List}
+use Rattle.polygons.specs.Lists.{any}
 use Rattle.geometry.specs.declared.rect.Cell.{Cell}
 use Rattle.geometry.specs.declared.rect.Rect.{Rect}
 use Rattle.geometry.specs.Cells.{hasCell}
 use Rattle.geometry.specs.Common.{sharesWith}
-use Rattle.tree.specs.Search.{any}
 use Rattle.tree.specs.Query.{Window}
 use Rattle.plane.specs.Plane.{planeSpace}
 

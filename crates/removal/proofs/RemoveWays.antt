@@ -5,9 +5,9 @@ use mathlib.Core.Bool.{Bool, true, false, not}
 use mathlib.Core.List.{List}
 use mathlib.Core.Option.{none, some}
 use borrow.Author.Tests.{not-true, not-false}
+use Rattle.polygons.specs.Lists.{any}
 use Rattle.geometry.specs.declared.rect.Cell.{Cell}
 use Rattle.geometry.specs.Cells.{onGrid}
-use Rattle.tree.specs.Search.{any}
 use Rattle.memory.specs.Layout.{rightLength}
 use Rattle.memory.specs.Reading.{reading}
 use Rattle.memory.specs.Fanout.{fanout}

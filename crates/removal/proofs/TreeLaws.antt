@@ -7,8 +7,8 @@ use native.Mathlib.Omega.{arith}
 use native.Mathlib.Decide.{decLt}
 use native.Mathlib.Numerals.{add-one}
 use lib.ListN.{length, getD, take, drop}
+use Rattle.polygons.specs.Lists.{any}
 use Rattle.tree.specs.Lists.{All, Pairs, total}
-use Rattle.tree.specs.Search.{any}
 use Rattle.tree.specs.Space.{Space}
 use Rattle.tree.specs.Nodes.{Item, held, itemHas}
 use Rattle.tree.specs.Sound.{SoundItem, Apart}

@@ -4,10 +4,10 @@ use mathlib.Core.Bool.{Bool, true, false}
 use mathlib.Core.List.{List, [], _∷_}
 use mathlib.Core.Option.{some}
 use mathlib.Core.Path.{_≡_}
+use Rattle.polygons.specs.Lists.{any}
 use Rattle.geometry.specs.declared.rect.Cell.{Cell}
 use Rattle.geometry.specs.declared.rect.Rect.{Rect}
 use Rattle.tree.specs.Lists.{total, notEmpty}
-use Rattle.tree.specs.Search.{any}
 use Rattle.tree.specs.Nodes.{Item, held, nodes}
 use Rattle.tree.specs.Sound.{SoundItem}
 use Rattle.tree.specs.Query.{ofCell}

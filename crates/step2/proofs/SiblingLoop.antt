@@ -6,6 +6,7 @@ use mathlib.Core.Option.{bind}
 use native.Mathlib.Omega.{arith}
 use lib.ListN.{length, take, drop, getD}
 use lib.Seq.{take-all}
+use Rattle.polygons.specs.Rules.{cutEach}
 use Rattle.geometry.specs.declared.rect.Rect.{Rect}
 use Rattle.geometry.specs.declared.polygon.Polygon.{Polygon}
 use Rattle.geometry.specs.declared.cut.Count.{Count}
@@ -51,7 +52,7 @@ module _ (m : List ℕ) (k from to : ℕ) (list₀ : List ℕ) (n : ℕ) (spare�
 
   module _ (list spare : List ℕ) (left i : ℕ) (v : CuttingBy m k from to list₀ n spare₀ list spare left i) where
     pub cut-end : to ≤ i → Written list₀ (cutLimited (rectsIn list₀ n) (rectsAll (drop from (take to (polygonsIn m k))))) (Rects left) list
-    unfolding counted cutLimited rectsAll flatMap
+    unfolding counted cutEach rectsAll flatMap
     cut-end h =
         let c = v .branches .count in
         let t = v .to-le in

@@ -3,11 +3,11 @@ use Prim.Native.Nat.{ℕ, _+_}
 use mathlib.Core.List.{List, [], _∷_, _++_, flatMap}
 use mathlib.Core.Option.{Option, bind}
 use lib.ListN.{take, drop, getD}
+use Rattle.polygons.specs.Limits.{atMost, mostOfPolygon}
 use Rattle.geometry.specs.declared.rect.Cell.{Cell}
 use Rattle.geometry.specs.declared.rect.Rect.{Rect}
 use Rattle.geometry.specs.Cells.{noRect}
 use Rattle.geometry.specs.Cut.{cutLimited, commonLimited}
-use Rattle.geometry.specs.Limits.{atMost, mostOfPolygon}
 use Rattle.geometry.specs.Refine.{refine}
 use Rattle.tree.specs.Search.{Focus}
 use Rattle.tree.specs.Step2.{grownPoly}

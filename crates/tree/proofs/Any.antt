@@ -1,15 +1,13 @@
--- Lemmas on any, first, atMost and bind.
-use Prim.Native.Nat.{ℕ, _≤_}
+-- Lemmas on any, first and bind.
+use Prim.Native.Nat.{ℕ}
 use mathlib.Core.Bool.{Bool, true, false, _&&_, _||_, or-assoc, or-true, false≢true, cond}
 use mathlib.Core.Path.{_≡_, refl, sym, ap, _∙_}
 use mathlib.Core.List.{List, [], _∷_, _++_, flatMap}
 use mathlib.Core.Option.{bind, Option, none, some}
-use lib.ListN.{length}
-use lib.Dec.{leb}
 use native.Mathlib.Omega.{arith}
-use borrow.Author.Tests.{leb-true}
+use Rattle.polygons.specs.Lists.{any}
 use Rattle.tree.specs.Lists.{All}
-use Rattle.tree.specs.Search.{Focus, pushed, any, atMost, first}
+use Rattle.tree.specs.Search.{Focus, pushed, first}
 
 pub any-append : {A : Type 0} (t : A → Bool) (l m : List A) → any t (l ++ m) ≡ any t l || any t m
 unfolding any
@@ -72,14 +70,6 @@ first-some {A = A} t (a ∷ l) f h = go (t a) refl (first t l) (first-some t l) 
         let q : f ≡ record { before = a ∷ g .before; at = g .at; after = g .after } = cc in
         let i = k g refl in
         rw q (record { list = ap (λ x. a ∷ x) (i .list); passes = i .passes })
-
-pub at-most : {A : Type 0} (n : ℕ) (l m : List A) → atMost n l ≡ some m → (m ≡ l) × (length m ≤ n)
-unfolding atMost
-at-most n l m h = go (leb (length l) n) refl h
-  where
-    go : (b : Bool) → leb (length l) n ≡ b → cond b (some l) none ≡ some m → (m ≡ l) × (length m ≤ n)
-    go true e h = let q : m ≡ l = cc in (q, rw q (leb-true (length l) n e))
-    go false e h = let z : _≡_ {A = ℕ} 0 1 = cc in absurd (omega arith)
 
 pub any-none : {A : Type 0} (t : A → Bool) (l : List A) → All (λ a. t a ≡ false) l → any t l ≡ false
 unfolding any All

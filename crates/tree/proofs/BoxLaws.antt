@@ -4,11 +4,11 @@ use mathlib.Core.Bool.{true, _&&_, not}
 use mathlib.Core.Path.{_≡_}
 use mathlib.Core.List.{List}
 use lib.ListN.{length}
+use Rattle.polygons.specs.Lists.{any}
 use Rattle.tree.specs.Lists.{All}
 use Rattle.tree.specs.Space.{Side}
 use Rattle.tree.specs.Nodes.{on}
 use Rattle.tree.specs.Boxes.{Boxes}
-use Rattle.tree.specs.Search.{any}
 use Rattle.tree.specs.BoxSpace.{spaceOf}
 
 -- The cells of each rule, that valid rectangles stay valid, and that lists do not grow: clipping, common part, cut and refine by their cells; growing keeps the old cells and takes the new one in.

@@ -4,8 +4,8 @@ use mathlib.Core.Path.{_≡_, refl, sym, ap, _∙_}
 use mathlib.Core.List.{List, [], _∷_, map}
 use lib.ListN.{length, length-map}
 use native.Mathlib.Omega.{arith}
+use Rattle.polygons.specs.Lists.{any}
 use Rattle.tree.specs.Lists.{All, notEmpty}
-use Rattle.tree.specs.Search.{any}
 use Rattle.tree.specs.Boxes.{Boxes, Poly, anyHas}
 use Rattle.tree.specs.BoxSpace.{spaceOf, rootOf, windowOf}
 use Rattle.tree.proofs.Laws.{RootLaws, WindowLaws}

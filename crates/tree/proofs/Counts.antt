@@ -5,8 +5,8 @@ use mathlib.Core.Path.{_≡_, refl, ap, _∙_}
 use mathlib.Core.List.{List, [], _∷_, _++_, flatMap}
 use lib.ListN.{length, length-append}
 use native.Mathlib.Omega.{arith}
+use Rattle.polygons.specs.Lists.{any}
 use Rattle.tree.specs.Lists.{keep, total, All, Pairs, countOf}
-use Rattle.tree.specs.Search.{any}
 use Rattle.tree.proofs.Lists.{keep-append, all-map, all-both-map}
 
 pub flatMap-none : {A B : Type 0} (f : A → List B) (l : List A) → All (λ a. f a ≡ []) l → flatMap f l ≡ []

@@ -6,17 +6,20 @@ use mathlib.Core.List.{[], _∷_, _++_, flatMap}
 use mathlib.Core.Option.{some}
 use lib.ListN.{length}
 use native.Mathlib.Omega.{arith}
+use Rattle.polygons.specs.Limits.{atMost, mostOfPolygon, mostPieces}
+use Rattle.polygons.specs.Lists.{any}
+use Rattle.polygons.proofs.LimitLaws.{at-most-is, at-most-length}
 use Rattle.tree.specs.Lists.{All}
 use Rattle.tree.specs.Space.{Side}
 use Rattle.tree.specs.Nodes.{on}
-use Rattle.tree.specs.Limits.{piecesLimit, polygonLimit}
 use Rattle.tree.specs.Boxes.{Boxes, anyHas, GoodPolygon, clipPoly, Poly}
-use Rattle.tree.specs.Search.{Focus, any, atMost}
-use Rattle.tree.specs.Step2.{cutEach, commons, grownPoly}
+use Rattle.tree.specs.Search.{Focus}
+use Rattle.polygons.specs.Rules.{cutEach, commons}
+use Rattle.tree.specs.Step2.{grownPoly}
 use Rattle.tree.specs.BoxSpace.{spaceOf}
 use Rattle.tree.proofs.BoxLaws.{BoxLaws}
 use Rattle.tree.proofs.Lists.{all-append, all-first, all-second, all-map, all-any, all-flatMap, all-tail}
-use Rattle.tree.proofs.Any.{bind-some, any-append, any-flatMap, any-same, any-and, any-left, at-most}
+use Rattle.tree.proofs.Any.{bind-some, any-append, any-flatMap, any-same, any-and, any-left}
 use Rattle.tree.proofs.Booleans.{not-true}
 
 cut-more : (a b c : Bool) → (a && not b) && not c ≡ a && not (b || c)
@@ -31,27 +34,27 @@ and-true false = refl
 module _ (B : Boxes) (W : BoxLaws B) where
   -- the cells of a clipped polygon
   pub clip-poly : (s : Side (B .Line)) (p : Poly B) (c : B .Cell) → anyHas B (clipPoly B s p) c ≡ anyHas B p c && on (spaceOf B) s c
-  unfolding anyHas
+  unfolding anyHas any
   clip-poly s p c =
       W .refine-cells (flatMap (B .clip s) p) c ∙ any-flatMap (λ q. B .has q c) (B .clip s) p
       ∙ any-same (λ r. any (λ q. B .has q c) (B .clip s r)) (λ r. B .has r c && on (spaceOf B) s c) p (λ r. W .clip-cells s r c)
       ∙ any-and (λ r. B .has r c) (on (spaceOf B) s c) p
 
   -- the cells of a list cut by rectangles, one after another
-  pub cut-each : (l ss m : Poly B) (c : B .Cell) → cutEach B l ss ≡ some m → anyHas B m c ≡ anyHas B l c && not (anyHas B ss c)
+  pub cut-each : (l ss m : Poly B) (c : B .Cell) → cutEach (B .cut) l ss ≡ some m → anyHas B m c ≡ anyHas B l c && not (anyHas B ss c)
   unfolding cutEach anyHas any
   cut-each l [] m c h = let e : m ≡ l = cc in rw e (and-true (any (λ r. B .has r c) l))
   cut-each l (s ∷ ss) m c h =
-      let f = bind-some (atMost piecesLimit (flatMap (λ r. B .cut r s) l)) _ m h in
-      let g = at-most piecesLimit (flatMap (λ r. B .cut r s) l) (f .0) (f .1) in
+      let f = bind-some (atMost mostPieces (flatMap (λ r. B .cut r s) l)) _ m h in
+      let g = at-most-is mostPieces (flatMap (λ r. B .cut r s) l) (f .0) (f .1) in
       cut-each (f .0) ss m c (f .2)
-      ∙ ap (λ (x : Poly B). any (λ r. B .has r c) x && not (any (λ r. B .has r c) ss)) (g .0)
+      ∙ ap (λ (x : Poly B). any (λ r. B .has r c) x && not (any (λ r. B .has r c) ss)) g
       ∙ ap (λ (x : Bool). x && not (any (λ r. B .has r c) ss)) (any-flatMap (λ q. B .has q c) (λ r. B .cut r s) l ∙ any-same (λ r. any (λ q. B .has q c) (B .cut r s)) (λ r. B .has r c && not (B .has s c)) l (λ r. W .cut-cells r s c) ∙ any-and (λ r. B .has r c) (not (B .has s c)) l)
       ∙ cut-more (any (λ r. B .has r c) l) (B .has s c) (any (λ r. B .has r c) ss)
 
   -- the cells of the common parts
-  pub commons-cells : (l p : Poly B) (c : B .Cell) → anyHas B (commons B l p) c ≡ anyHas B l c && anyHas B p c
-  unfolding anyHas
+  pub commons-cells : (l p : Poly B) (c : B .Cell) → anyHas B (commons (B .common) l p) c ≡ anyHas B l c && anyHas B p c
+  unfolding anyHas any
   commons-cells l p c =
       any-flatMap (λ q. B .has q c) (λ r. flatMap (B .common r) p) l
       ∙ any-same (λ r. any (λ q. B .has q c) (flatMap (B .common r) p)) (λ r. B .has r c && any (λ q. B .has q c) p) l
@@ -63,13 +66,13 @@ module _ (B : Boxes) (W : BoxLaws B) where
       → (d : B .Cell) → anyHas B q d ≡ anyHas B (k .before) d || (((B .has (B .grow (k .at) c) d && not (anyHas B ss d)) && anyHas B p d) || anyHas B (k .after) d)
   unfolding grownPoly
   grown-cells p ss k c q h d =
-      let f = bind-some (cutEach B (B .grow (k .at) c ∷ []) ss) _ q h in
-      let g = bind-some (atMost piecesLimit (commons B (f .0) p)) _ q (f .2) in
-      let a = at-most piecesLimit (commons B (f .0) p) (g .0) (g .1) in
-      let b = at-most polygonLimit (B .refine (k .before ++ (g .0 ++ k .after))) q (g .2) in
-      steps q (f .0) (g .0) (b .0) (a .0) (cut-each (B .grow (k .at) c ∷ []) ss (f .0) d (f .1))
+      let f = bind-some (cutEach (B .cut) (B .grow (k .at) c ∷ []) ss) _ q h in
+      let g = bind-some (atMost mostPieces (commons (B .common) (f .0) p)) _ q (f .2) in
+      let a = at-most-is mostPieces (commons (B .common) (f .0) p) (g .0) (g .1) in
+      let b = at-most-is mostOfPolygon (B .refine (k .before ++ (g .0 ++ k .after))) q (g .2) in
+      steps q (f .0) (g .0) b a (cut-each (B .grow (k .at) c ∷ []) ss (f .0) d (f .1))
     where
-      steps : (q l m : Poly B) → q ≡ B .refine (k .before ++ (m ++ k .after)) → m ≡ commons B l p → anyHas B l d ≡ anyHas B (B .grow (k .at) c ∷ []) d && not (anyHas B ss d)
+      steps : (q l m : Poly B) → q ≡ B .refine (k .before ++ (m ++ k .after)) → m ≡ commons (B .common) l p → anyHas B l d ≡ anyHas B (B .grow (k .at) c ∷ []) d && not (anyHas B ss d)
           → anyHas B q d ≡ anyHas B (k .before) d || (((B .has (B .grow (k .at) c) d && not (anyHas B ss d)) && anyHas B p d) || anyHas B (k .after) d)
       steps q l m e₁ e₂ e₃ =
           rw (e₁, all-cells (k .before ++ (m ++ k .after)), cells-append (k .before), cells-append m, e₂, commons-cells l p d, e₃, one-cell (B .grow (k .at) c))
@@ -87,17 +90,18 @@ module _ (B : Boxes) (W : BoxLaws B) where
   Valid p = All (λ q. B .valid q ≡ true) p
 
   -- the new polygon's boxes
-  grown-fine : (p ss : Poly B) (k : Focus (B .Box)) (c : B .Cell) (q : Poly B) → grownPoly B p ss k c ≡ some q → Valid p → Valid (k .before) → Valid (k .after) → Valid q × (length q ≤ polygonLimit)
+  grown-fine : (p ss : Poly B) (k : Focus (B .Box)) (c : B .Cell) (q : Poly B) → grownPoly B p ss k c ≡ some q → Valid p → Valid (k .before) → Valid (k .after) → Valid q × (length q ≤ mostOfPolygon)
   unfolding grownPoly
   grown-fine p ss k c q h vp vb va =
-      let f = bind-some (cutEach B (B .grow (k .at) c ∷ []) ss) _ q h in
-      let g = bind-some (atMost piecesLimit (commons B (f .0) p)) _ q (f .2) in
-      let a = at-most piecesLimit (commons B (f .0) p) (g .0) (g .1) in
-      let b = at-most polygonLimit (B .refine (k .before ++ (g .0 ++ k .after))) q (g .2) in
-      let inner : Valid (g .0) = subst (λ (x : Poly B). Valid x) (sym (a .0)) (commons-valid (f .0)) in
-      (subst (λ (x : Poly B). Valid x) (sym (b .0)) (W .refine-valid (k .before ++ (g .0 ++ k .after)) (all-append (λ r. B .valid r ≡ true) (k .before) (g .0 ++ k .after) vb (all-append (λ r. B .valid r ≡ true) (g .0) (k .after) inner va))), b .1)
+      let f = bind-some (cutEach (B .cut) (B .grow (k .at) c ∷ []) ss) _ q h in
+      let g = bind-some (atMost mostPieces (commons (B .common) (f .0) p)) _ q (f .2) in
+      let a = at-most-is mostPieces (commons (B .common) (f .0) p) (g .0) (g .1) in
+      let b = at-most-is mostOfPolygon (B .refine (k .before ++ (g .0 ++ k .after))) q (g .2) in
+      let few = at-most-length mostOfPolygon (B .refine (k .before ++ (g .0 ++ k .after))) q (g .2) in
+      let inner : Valid (g .0) = subst (λ (x : Poly B). Valid x) (sym a) (commons-valid (f .0)) in
+      (subst (λ (x : Poly B). Valid x) (sym b) (W .refine-valid (k .before ++ (g .0 ++ k .after)) (all-append (λ r. B .valid r ≡ true) (k .before) (g .0 ++ k .after) vb (all-append (λ r. B .valid r ≡ true) (g .0) (k .after) inner va))), few)
     where
-      commons-valid : (l : Poly B) → Valid (commons B l p)
+      commons-valid : (l : Poly B) → Valid (commons (B .common) l p)
       commons-valid l =
           all-flatMap (λ r. B .valid r ≡ true) (λ r. flatMap (B .common r) p) l
           (all-any (λ r. Valid (flatMap (B .common r) p)) l (λ r. all-flatMap (λ q. B .valid q ≡ true) (B .common r) p (all-map (λ q. B .valid q ≡ true) (λ q. Valid (B .common r q)) p (λ q. W .common-valid r q) vp)))
@@ -181,5 +185,5 @@ module _ (B : Boxes) (W : BoxLaws B) where
       valid-old : Valid (k .before ++ (k .at ∷ k .after))
       valid-old = subst (λ (l : Poly B). Valid l) e (fo .valid)
 
-      all : Valid q × (length q ≤ polygonLimit)
+      all : Valid q × (length q ≤ mostOfPolygon)
       all = grown-fine p ss k c q h (fp .valid) (all-first (λ r. B .valid r ≡ true) (k .before) (k .at ∷ k .after) valid-old) (all-tail (λ r. B .valid r ≡ true) (k .at) (k .after) (all-second (λ r. B .valid r ≡ true) (k .before) (k .at ∷ k .after) valid-old))

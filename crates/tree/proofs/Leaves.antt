@@ -4,8 +4,8 @@ use mathlib.Core.Bool.{Bool, true, false, cond}
 use mathlib.Core.Path.{_≡_, refl, sym, ap, _∙_}
 use mathlib.Core.List.{List, [], _∷_, flatMap}
 use mathlib.Core.Option.{none, some}
+use Rattle.polygons.specs.Lists.{any}
 use Rattle.tree.specs.Lists.{keep, total, All, countOf}
-use Rattle.tree.specs.Search.{any}
 use Rattle.tree.specs.Space.{Space}
 use Rattle.tree.specs.Nodes.{EntryOf, Item, itemHas, held}
 use Rattle.tree.specs.Sound.{Apart, SoundItem}

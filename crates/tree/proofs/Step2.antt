@@ -4,10 +4,11 @@ use mathlib.Core.Path.{_≡_, refl, _∙_, subst}
 use mathlib.Core.List.{List, _∷_, _++_}
 use mathlib.Core.Option.{Option, none, some}
 use lib.Dec.{eqb}
+use Rattle.polygons.specs.Lists.{any}
 use Rattle.tree.specs.Lists.{All, Pairs}
 use Rattle.tree.specs.Space.{Branch, Chosen}
 use Rattle.tree.specs.Boxes.{Boxes, anyHas, GoodPolygon, Poly}
-use Rattle.tree.specs.Search.{first, Focus, any, least, orElse}
+use Rattle.tree.specs.Search.{first, Focus, least, orElse}
 use Rattle.tree.specs.Step2.{grownPoly, allBoxes, chosen, whole, growing, choose}
 use Rattle.tree.specs.BoxSpace.{spaceOf}
 use Rattle.tree.proofs.BoxLaws.{BoxLaws}
@@ -47,18 +48,18 @@ module _ (B : Boxes) (W : BoxLaws B) where
 
     -- the boxes of the siblings
     ss-none : (l : List (Branch (Poly B) A)) (d : B .Cell) → All (λ b. anyHas B (b .poly) d ≡ false) l → anyHas B (allBoxes B l) d ≡ false
-    unfolding anyHas
+    unfolding anyHas any
     ss-none l d h = any-flatMap (λ r. B .has r d) (λ b. b .poly) l ∙ any-none (λ b. any (λ r. B .has r d) (b .poly)) l h
 
     ss-has : (l : List (Branch (Poly B) A)) → All (λ b. (d : B .Cell) → anyHas B (b .poly) d ≡ true → anyHas B (allBoxes B l) d ≡ true) l
-    unfolding anyHas
+    unfolding anyHas any
     ss-has l =
         all-map (λ b. (d : B .Cell) → any (λ r. B .has r d) (b .poly) ≡ true → any (λ a. any (λ r. B .has r d) (a .poly)) l ≡ true) (λ b. (d : B .Cell) → any (λ r. B .has r d) (b .poly) ≡ true → any (λ r. B .has r d) (allBoxes B l) ≡ true) l
         (λ b h d t. any-flatMap (λ r. B .has r d) (λ a. a .poly) l ∙ h d t)
         (any-has (λ (d : B .Cell) b. any (λ r. B .has r d) (b .poly)) l)
 
     ss-from : (l : List (Branch (Poly B) A)) (d : B .Cell) (P : Type 0) → All (λ b. anyHas B (b .poly) d ≡ true → P) l → anyHas B (allBoxes B l) d ≡ true → P
-    unfolding anyHas
+    unfolding anyHas any
     ss-from l d P h t = any-from (λ b. any (λ r. B .has r d) (b .poly)) P l h (rw (any-flatMap (λ r. B .has r d) (λ b. b .poly) l) at t)
 
     grown-chose : (f : Focus (Branch (Poly B) A)) (k : Focus (B .Box)) (q : Poly B) → bs ≡ f .before ++ (f .at ∷ f .after) → f .at .poly ≡ k .before ++ (k .at ∷ k .after)

@@ -5,8 +5,8 @@ use mathlib.Core.Path.{_≡_, refl, sym, ap, _∙_, subst}
 use mathlib.Core.List.{flatMap}
 use mathlib.Core.Option.{none, some}
 use native.Mathlib.Omega.{arith}
+use Rattle.polygons.specs.Lists.{any}
 use Rattle.tree.specs.Lists.{keep, total, countOf}
-use Rattle.tree.specs.Search.{any}
 use Rattle.tree.specs.Space.{Space}
 use Rattle.tree.specs.Nodes.{Item, itemHas, held}
 use Rattle.tree.specs.Sound.{Apart, SoundItem}

@@ -2,8 +2,8 @@
 use mathlib.Core.List.{List, [], _∷_, map}
 use mathlib.Core.Path.{_≡_}
 use lib.ListN.{length}
+use Rattle.polygons.specs.Lists.{any}
 use Rattle.tree.specs.Lists.{notEmpty}
-use Rattle.tree.specs.Search.{any}
 use Rattle.tree.specs.Space.{Space}
 use Rattle.tree.specs.Root.{Root}
 use Rattle.tree.specs.Query.{Window}

@@ -1,12 +1,12 @@
 -- The rectangle rules as the tree uses them, and polygons as lists of rectangles.
 use Prim.Native.Nat.{ℕ, _≤_}
 use mathlib.Core.Bool.{Bool, true}
-use mathlib.Core.List.{List, flatMap}
+use mathlib.Core.List.{List}
 use mathlib.Core.Path.{_≡_}
 use lib.ListN.{length}
-use Rattle.tree.specs.Limits.{polygonLimit}
+use Rattle.polygons.specs.Limits.{mostOfPolygon}
+use Rattle.polygons.specs.Rules.{unionHas, clipRefine}
 use Rattle.tree.specs.Lists.{All}
-use Rattle.tree.specs.Search.{any}
 use Rattle.tree.specs.Space.{Side, Entry}
 
 -- Rectangles (boxes, for any number of dimensions) with their rules, the lines of splits, and the fanout.
@@ -48,14 +48,14 @@ module _ (B : Boxes) where
 
   -- "its cells are their union"
   unfoldable pub anyHas : Poly → B .Cell → Bool
-  anyHas p c = any (λ r. B .has r c) p
+  anyHas p c = unionHas (B .has) p c
 
   -- "1 to 16 rectangles", "A rectangle has ll < ur in both dimensions"
   pub record GoodPolygon (p : Poly) : Type 0 where
     pub lower : 1 ≤ length p
-    pub upper : length p ≤ polygonLimit
+    pub upper : length p ≤ mostOfPolygon
     pub valid : All (λ r. B .valid r ≡ true) p
 
   -- "Splitting clips the polygon's rectangles to each side, in order, and refines them."
   abbrev pub clipPoly : Side (B .Line) → Poly → Poly
-  clipPoly s p = B .refine (flatMap (B .clip s) p)
+  clipPoly s p = clipRefine (B .clip s) (B .refine) p

@@ -5,8 +5,8 @@ use mathlib.Core.List.{List, [], _∷_, map}
 use mathlib.Core.Option.{none, some}
 use mathlib.Core.Path.{_≡_}
 use lib.ListN.{length}
+use Rattle.polygons.specs.Lists.{any}
 use Rattle.tree.specs.Lists.{All, countOf, nth}
-use Rattle.tree.specs.Search.{any}
 use Rattle.tree.specs.Space.{Space}
 use Rattle.tree.specs.Nodes.{EntryOf, Item}
 use Rattle.tree.specs.Root.{Root}

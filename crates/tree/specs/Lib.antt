@@ -1,6 +1,5 @@
 pub mod Lists
 pub mod Search
-pub mod Limits
 pub mod Space
 pub mod Nodes
 pub mod Sound

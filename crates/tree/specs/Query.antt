@@ -3,8 +3,8 @@ use Prim.Native.Nat.{ℕ}
 use mathlib.Core.Bool.{Bool}
 use mathlib.Core.List.{List, head?}
 use mathlib.Core.Option.{Option}
+use Rattle.polygons.specs.Lists.{any}
 use Rattle.tree.specs.Lists.{keep, countOf}
-use Rattle.tree.specs.Search.{any}
 use Rattle.tree.specs.Space.{Space}
 use Rattle.tree.specs.Nodes.{EntryOf}
 use Rattle.tree.specs.Tree.{Index, entries}

@@ -1,10 +1,8 @@
--- Finding in lists: the first element that passes a test, the least number, a limit on the length.
+-- Finding in lists: the first element that passes a test, the least number.
 use Prim.Native.Nat.{ℕ, min}
-use mathlib.Core.Bool.{Bool, false, cond, _||_}
+use mathlib.Core.Bool.{Bool, cond}
 use mathlib.Core.List.{List, [], _∷_}
 use mathlib.Core.Option.{Option, none, some}
-use lib.Dec.{leb}
-use lib.ListN.{length}
 
 -- An element with what stands before and after it.
 pub record Focus (A : Type 0) : Type 0 where
@@ -22,20 +20,11 @@ unfoldable pub first : {A : Type 0} → (A → Bool) → List A → Option (Focu
 first t [] = none
 first t (a ∷ l) = cond (t a) (some (record { before = []; at = a; after = l })) (pushed a (first t l))
 
--- Whether some element passes the test.
-unfoldable pub any : {A : Type 0} → (A → Bool) → List A → Bool
-any t [] = false
-any t (a ∷ l) = t a || any t l
-
 -- The least number that the elements give; 0 for the empty list.
 unfoldable pub least : {A : Type 0} → (A → ℕ) → List A → ℕ
 least f [] = 0
 least f (a ∷ []) = f a
 least f (a ∷ b ∷ l) = min (f a) (least f (b ∷ l))
-
--- The list, or nothing where it is longer than n.
-unfoldable pub atMost : {A : Type 0} → ℕ → List A → Option (List A)
-atMost n l = cond (leb (length l) n) (some l) none
 
 -- The first answer, or the second where the first is nothing.
 abbrev pub orElse : {A : Type 0} → Option A → Option A → Option A

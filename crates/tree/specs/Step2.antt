@@ -2,27 +2,20 @@
 use mathlib.Core.List.{List, [], _∷_, _++_, flatMap}
 use mathlib.Core.Option.{Option, none, some, bind}
 use lib.Dec.{eqb}
-use Rattle.tree.specs.Limits.{polygonLimit, piecesLimit}
-use Rattle.tree.specs.Search.{Focus, first, any, least, atMost, orElse}
+use Rattle.polygons.specs.Rules.{cutEach, commons}
+use Rattle.polygons.specs.Limits.{atMost, mostOfPolygon, mostPieces}
+use Rattle.polygons.specs.Lists.{any}
+use Rattle.tree.specs.Search.{Focus, first, least, orElse}
 use Rattle.tree.specs.Space.{Branch, Chosen}
 use Rattle.tree.specs.Boxes.{Boxes, Poly, anyHas}
 
 module _ (B : Boxes) where
-  -- "cut the grown one by every sibling's polygon in order": a list cut by rectangles, one after another; nothing (refusal 7) where there are "pieces over 256 after a cut by one rectangle".
-  unfoldable pub cutEach : Poly B → Poly B → Option (Poly B)
-  cutEach l [] = some l
-  cutEach l (s ∷ ss) = bind (atMost piecesLimit (flatMap (λ r. B .cut r s) l)) λ m. cutEach m ss
-
-  -- "replace each piece by its common parts with the parent's rectangles .., in order"
-  abbrev pub commons : Poly B → Poly B → Poly B
-  commons l p = flatMap (λ r. flatMap (B .common r) p) l
-
   -- The polygon with one rectangle k grown to the cell: "Grow it; cut the grown one ..; replace each piece ..; put the pieces where the chosen rectangle stood; refine." p is the parent's polygon. Nothing where there are pieces over 256, or "the refined polygon over 16".
   unfoldable pub grownPoly : Poly B → Poly B → Focus (B .Box) → B .Cell → Option (Poly B)
   grownPoly p siblings k c =
-      bind (cutEach (B .grow (k .at) c ∷ []) siblings) λ pieces.
-      bind (atMost piecesLimit (commons pieces p)) λ inner.
-      atMost polygonLimit (B .refine (k .before ++ (inner ++ k .after)))
+      bind (cutEach (B .cut) (B .grow (k .at) c ∷ []) siblings) λ pieces.
+      bind (atMost mostPieces (commons (B .common) pieces p)) λ inner.
+      atMost mostOfPolygon (B .refine (k .before ++ (inner ++ k .after)))
 
   -- The rectangles of the branches, in order.
   abbrev pub allBoxes : {A : Type 0} → List (Branch (Poly B) A) → Poly B

@@ -38,11 +38,6 @@ module _ (S : Space) where
   nodeCount none = 0
   nodeCount (some t) = 1 + total (nodes S (t .level)) (t .items)
 
-  -- The root's polygon.
-  abbrev pub rootPolygon : Index → Option (S .Poly)
-  rootPolygon none = none
-  rootPolygon (some t) = some (t .root)
-
 module _ (S : Space) (R : Root S) where
   -- "Sound means: all the above; ..", of a tree that is not empty.
   pub record SoundTree (t : Tree S) : Type 0 where

@@ -1,7 +1,7 @@
 -- `answer_all` meets its contract; its loop is in AnswerLoop.
 use Prim.Native.Nat.{_-_}
 use lib.ListN.{length}
-use Rattle.bench.proofs.AnswerLoop.{AllAnswered, all-start, all-again, all-less}
+use Rattle.bench.proofs.AnswerLoop.{AllAnswered, all-start, all-again, all-failed, all-done, all-less}
 use borrow.Author.Needs.{needs}
 use Rattle.bench.proofs.answer_all.Statement.{statement}
 use Rattle.bench.proofs.answer_all.Tie as tie
@@ -18,17 +18,8 @@ loop-holds c = search all-start
 answer-lines-requires : tie.Need-answer-lines-requires Inv-loop μ-loop
 answer-lines-requires c κs = search needs
 
-sub-write-all : tie.Need-sub-write-all Inv-loop μ-loop
-sub-write-all c = search needs
-
-part-write-all-start : tie.Need-part-write-all-start Inv-loop μ-loop
-part-write-all-start c = search needs
-
-part-write-all-end : tie.Need-part-write-all-end Inv-loop μ-loop
-part-write-all-end c = search needs
-
-write-all-requires : tie.Need-write-all-requires Inv-loop μ-loop
-write-all-requires c κs = search needs
+write-answers-requires : tie.Need-write-answers-requires Inv-loop μ-loop
+write-answers-requires c κs = search needs
 
 same-length : tie.Need-same-length Inv-loop μ-loop
 same-length c = search needs
@@ -43,7 +34,7 @@ same-length-4 : tie.Need-same-length-4 Inv-loop μ-loop
 same-length-4 c = search needs
 
 returns : tie.Need-returns Inv-loop μ-loop
-returns c = search needs
+returns c = search all-failed
 
 same-length-5 : tie.Need-same-length-5 Inv-loop μ-loop
 same-length-5 c = search needs
@@ -58,7 +49,7 @@ same-length-8 : tie.Need-same-length-8 Inv-loop μ-loop
 same-length-8 c = search needs
 
 returns-2 : tie.Need-returns-2 Inv-loop μ-loop
-returns-2 c = search needs
+returns-2 c = search all-done
 
 loop-less : tie.Need-loop-less Inv-loop μ-loop
 loop-less c = search all-less
@@ -74,10 +65,7 @@ answer-all-spec =
     μ-loop
     loop-holds
     answer-lines-requires
-    sub-write-all
-    part-write-all-start
-    part-write-all-end
-    write-all-requires
+    write-answers-requires
     same-length
     same-length-2
     same-length-3

@@ -1,32 +1,32 @@
 -- `read_some` meets its contract; the laws that it needs are in TurnLoop.
-use Rattle.bench.proofs.TurnLoop.{rest-within}
+use Rattle.bench.proofs.TurnLoop.{read-failed, read-ended, read-served}
 use borrow.Author.Needs.{needs}
 use Rattle.bench.proofs.read_some.Statement.{statement}
 use Rattle.bench.proofs.read_some.Tie as tie
 
-sub-read : tie.Need-sub-read
-sub-read c = search needs
+sub-read-once : tie.Need-sub-read-once
+sub-read-once c = search needs
 
-part-read-start : tie.Need-part-read-start
-part-read-start c = search needs
+part-read-once-start : tie.Need-part-read-once-start
+part-read-once-start c = search needs
 
-part-read-end : tie.Need-part-read-end
-part-read-end c = search needs
+part-read-once-end : tie.Need-part-read-once-end
+part-read-once-end c = search needs
 
-read-requires : tie.Need-read-requires
-read-requires c κs = search needs
+read-once-requires : tie.Need-read-once-requires
+read-once-requires c κs = search needs
 
 same-length : tie.Need-same-length
 same-length c = search needs
 
 returns : tie.Need-returns
-returns c = search needs
+returns c = search read-failed
 
 same-length-2 : tie.Need-same-length-2
 same-length-2 c = search needs
 
 returns-2 : tie.Need-returns-2
-returns-2 c = search needs
+returns-2 c = search read-ended
 
 sub-count : tie.Need-sub-count
 sub-count c = search needs
@@ -43,20 +43,8 @@ count-requires c κs = search needs
 add-to : tie.Need-add-to
 add-to c = search needs
 
-sub-answer-all : tie.Need-sub-answer-all
-sub-answer-all c = search needs
-
-part-answer-all-start : tie.Need-part-answer-all-start
-part-answer-all-start c = search needs
-
-part-answer-all-end : tie.Need-part-answer-all-end
-part-answer-all-end c = search needs
-
-answer-all-requires : tie.Need-answer-all-requires
-answer-all-requires c κs = search needs
-
-enum-told : tie.Need-enum-told
-enum-told c = search needs
+answer-first-requires : tie.Need-answer-first-requires
+answer-first-requires c κs = search needs
 
 same-length-3 : tie.Need-same-length-3
 same-length-3 c = search needs
@@ -74,40 +62,16 @@ same-length-7 : tie.Need-same-length-7
 same-length-7 c = search needs
 
 returns-3 : tie.Need-returns-3
-returns-3 c = search needs
-
-enum-known-rest : tie.Need-enum-known-rest
-enum-known-rest c = search needs
-
-keep-rest-requires : tie.Need-keep-rest-requires
-keep-rest-requires c κs = (rest-within _ _ _ _ (c .before .before .rest .given .1) (c .before .before .before .before .before .before .before .before .before .before .before .before .answer-all .ensures), search needs)
-
-same-length-8 : tie.Need-same-length-8
-same-length-8 c = search needs
-
-same-length-9 : tie.Need-same-length-9
-same-length-9 c = search needs
-
-same-length-10 : tie.Need-same-length-10
-same-length-10 c = search needs
-
-same-length-11 : tie.Need-same-length-11
-same-length-11 c = search needs
-
-same-length-12 : tie.Need-same-length-12
-same-length-12 c = search needs
-
-returns-4 : tie.Need-returns-4
-returns-4 c = search needs
+returns-3 c = search read-served
 
 pub read-some-spec : {M : Type 1} → statement M
 read-some-spec =
     tie.close
     (tie.spec
-    sub-read
-    part-read-start
-    part-read-end
-    read-requires
+    sub-read-once
+    part-read-once-start
+    part-read-once-end
+    read-once-requires
     same-length
     returns
     same-length-2
@@ -117,22 +81,10 @@ read-some-spec =
     part-count-end
     count-requires
     add-to
-    sub-answer-all
-    part-answer-all-start
-    part-answer-all-end
-    answer-all-requires
-    enum-told
+    answer-first-requires
     same-length-3
     same-length-4
     same-length-5
     same-length-6
     same-length-7
-    returns-3
-    enum-known-rest
-    keep-rest-requires
-    same-length-8
-    same-length-9
-    same-length-10
-    same-length-11
-    same-length-12
-    returns-4)
+    returns-3)

@@ -1,5 +1,5 @@
 -- `run` meets its contract; its loop is in TurnLoop.
-use Rattle.bench.proofs.TurnLoop.{Turning, turn-start, turn-long, turn-again}
+use Rattle.bench.proofs.TurnLoop.{Turning, turn-start, turn-long, turn-again, turns-over, turn-failed, turn-last, last-made}
 use borrow.Author.Needs.{needs}
 use Rattle.bench.proofs.run.Statement.{statement}
 use Rattle.bench.proofs.run.Tie as tie
@@ -41,7 +41,7 @@ same-length-5 : tie.Need-same-length-5 Inv-loop μ-loop
 same-length-5 c = search needs
 
 returns : tie.Need-returns Inv-loop μ-loop
-returns c = search needs
+returns c = search (turn-last, last-made)
 
 enum-told-2 : tie.Need-enum-told-2 Inv-loop μ-loop
 enum-told-2 c = search needs
@@ -62,7 +62,7 @@ same-length-10 : tie.Need-same-length-10 Inv-loop μ-loop
 same-length-10 c = search needs
 
 returns-2 : tie.Need-returns-2 Inv-loop μ-loop
-returns-2 c = search needs
+returns-2 c = search turn-failed
 
 sub-turns : tie.Need-sub-turns Inv-loop μ-loop
 sub-turns c = search needs
@@ -89,7 +89,7 @@ same-length-15 : tie.Need-same-length-15 Inv-loop μ-loop
 same-length-15 c = search needs
 
 returns-3 : tie.Need-returns-3 Inv-loop μ-loop
-returns-3 c = search needs
+returns-3 c = search turns-over
 
 pub run-spec : {M : Type 1} → statement M
 run-spec =

@@ -23,101 +23,50 @@ abbrev put-digits-below : ℕ → In 1 put-digits-kinds.ps
 put-digits-below t =
     and 1 put-digits-kinds.ps (falls 1 put-digits-kinds.ps _<_ μ-put-digits t) put-digits.Pre
 
-put-digits-cast-put-byte : (t : ℕ) → put-digits-lts.Need-cast-put-byte (
-  put-byte-reads.Asked,
-  put-byte-reads.Learnt,
-  put-digits-below t,
-  put-digits.Post,
-) (put-digits-at t) put-digits.Post
-put-digits-cast-put-byte t c = search needs
-
-put-digits-add-put-byte : (t : ℕ) → put-digits-lts.Need-add-put-byte (
-  put-byte-reads.Asked,
-  put-byte-reads.Learnt,
-  put-digits-below t,
-  put-digits.Post,
-) (put-digits-at t) put-digits.Post
-put-digits-add-put-byte t c = search needs
-
-put-digits-put-byte-requires : (t : ℕ) → put-digits-lts.Need-put-byte-requires (
-  put-byte-reads.Asked,
-  put-byte-reads.Learnt,
-  put-digits-below t,
-  put-digits.Post,
-) (put-digits-at t) put-digits.Post
-put-digits-put-byte-requires t c κs = search room-digit
-
-put-digits-same-length : (t : ℕ) → put-digits-lts.Need-same-length (
-  put-byte-reads.Asked,
-  put-byte-reads.Learnt,
-  put-digits-below t,
-  put-digits.Post,
-) (put-digits-at t) put-digits.Post
-put-digits-same-length t c = search needs
-
-put-digits-returns : (t : ℕ) → put-digits-lts.Need-returns (
-  put-byte-reads.Asked,
-  put-byte-reads.Learnt,
-  put-digits-below t,
-  put-digits.Post,
-) (put-digits-at t) put-digits.Post
-put-digits-returns t c = search put-digit
-
-put-digits-put-digits-requires : (t : ℕ) → put-digits-lts.Need-put-digits-requires (
-  put-byte-reads.Asked,
-  put-byte-reads.Learnt,
-  put-digits-below t,
-  put-digits.Post,
-) (put-digits-at t) put-digits.Post
-put-digits-put-digits-requires t c κs = (omega arith, search room-tenth)
-
-put-digits-cast-put-byte-2 : (t : ℕ) → put-digits-lts.Need-cast-put-byte-2 (
-  put-byte-reads.Asked,
-  put-byte-reads.Learnt,
-  put-digits-below t,
-  put-digits.Post,
-) (put-digits-at t) put-digits.Post
-put-digits-cast-put-byte-2 t c = search needs
-
-put-digits-add-put-byte-2 : (t : ℕ) → put-digits-lts.Need-add-put-byte-2 (
-  put-byte-reads.Asked,
-  put-byte-reads.Learnt,
-  put-digits-below t,
-  put-digits.Post,
-) (put-digits-at t) put-digits.Post
-put-digits-add-put-byte-2 t c = search needs
-
-put-digits-put-byte-requires-2 : (t : ℕ) → put-digits-lts.Need-put-byte-requires-2 (
-  put-byte-reads.Asked,
-  put-byte-reads.Learnt,
-  put-digits-below t,
-  put-digits.Post,
-) (put-digits-at t) put-digits.Post
-put-digits-put-byte-requires-2 t c κs = search room-last
-
-put-digits-same-length-2 : (t : ℕ) → put-digits-lts.Need-same-length-2 (
-  put-byte-reads.Asked,
-  put-byte-reads.Learnt,
-  put-digits-below t,
-  put-digits.Post,
-) (put-digits-at t) put-digits.Post
-put-digits-same-length-2 t c = search needs
-
-put-digits-returns-2 : (t : ℕ) → put-digits-lts.Need-returns-2 (
-  put-byte-reads.Asked,
-  put-byte-reads.Learnt,
-  put-digits-below t,
-  put-digits.Post,
-) (put-digits-at t) put-digits.Post
-put-digits-returns-2 t c = search put-last
-
-pub +put-digits-spec : {M : Type 1} → statement M
-+put-digits-spec = close μ-put-digits λ t. put-digits-lts.spec (
+-- what the proof knows of the functions that `put_digits` calls, itself below t among them
+abbrev put-digits-claims : ℕ → put-digits-lts.Claims
+put-digits-claims t = (
   put-byte-reads.Asked,
   put-byte-reads.Learnt,
   put-digits-below t,
   put-digits.Post,
 )
+
+put-digits-cast-put-byte : (t : ℕ) → put-digits-lts.Need-cast-put-byte (put-digits-claims t) (put-digits-at t) put-digits.Post
+put-digits-cast-put-byte t c = search needs
+
+put-digits-add-put-byte : (t : ℕ) → put-digits-lts.Need-add-put-byte (put-digits-claims t) (put-digits-at t) put-digits.Post
+put-digits-add-put-byte t c = search needs
+
+put-digits-put-byte-requires : (t : ℕ) → put-digits-lts.Need-put-byte-requires (put-digits-claims t) (put-digits-at t) put-digits.Post
+put-digits-put-byte-requires t c κs = search room-digit
+
+put-digits-same-length : (t : ℕ) → put-digits-lts.Need-same-length (put-digits-claims t) (put-digits-at t) put-digits.Post
+put-digits-same-length t c = search needs
+
+put-digits-returns : (t : ℕ) → put-digits-lts.Need-returns (put-digits-claims t) (put-digits-at t) put-digits.Post
+put-digits-returns t c = search put-digit
+
+put-digits-put-digits-requires : (t : ℕ) → put-digits-lts.Need-put-digits-requires (put-digits-claims t) (put-digits-at t) put-digits.Post
+put-digits-put-digits-requires t c κs = (omega arith, search room-tenth)
+
+put-digits-cast-put-byte-2 : (t : ℕ) → put-digits-lts.Need-cast-put-byte-2 (put-digits-claims t) (put-digits-at t) put-digits.Post
+put-digits-cast-put-byte-2 t c = search needs
+
+put-digits-add-put-byte-2 : (t : ℕ) → put-digits-lts.Need-add-put-byte-2 (put-digits-claims t) (put-digits-at t) put-digits.Post
+put-digits-add-put-byte-2 t c = search needs
+
+put-digits-put-byte-requires-2 : (t : ℕ) → put-digits-lts.Need-put-byte-requires-2 (put-digits-claims t) (put-digits-at t) put-digits.Post
+put-digits-put-byte-requires-2 t c κs = search room-last
+
+put-digits-same-length-2 : (t : ℕ) → put-digits-lts.Need-same-length-2 (put-digits-claims t) (put-digits-at t) put-digits.Post
+put-digits-same-length-2 t c = search needs
+
+put-digits-returns-2 : (t : ℕ) → put-digits-lts.Need-returns-2 (put-digits-claims t) (put-digits-at t) put-digits.Post
+put-digits-returns-2 t c = search put-last
+
+pub +put-digits-spec : {M : Type 1} → statement M
++put-digits-spec = close μ-put-digits λ t. put-digits-lts.spec (put-digits-claims t)
     (put-digits-at t)
     put-digits.Post
     (put-digits-cast-put-byte t)

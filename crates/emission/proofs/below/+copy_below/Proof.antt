@@ -37,488 +37,9 @@ copy-below-Inv-loop m level lo k work₀ next node n copy₀ free₀ low₀ i₀
 abbrev copy-below-μ-loop : copy-below-lts.MeasureT-loop
 copy-below-μ-loop m level lo k work₀ next node n copy₀ free₀ low₀ i₀ work copy free low i = n - i
 
-copy-below-part-at-requires : (t : ℕ) → copy-below-lts.Need-part-at-requires (
-  part-at-reads.Asked,
-  part-at-reads.Learnt,
-  copy-part-reads.Asked,
-  copy-part-reads.Learnt,
-  node-at-reads.Asked,
-  node-at-reads.Learnt,
-  empty-reads.Asked,
-  empty-reads.Learnt,
-  child-reads.Asked,
-  child-reads.Learnt,
-  copy-below-below t,
-  copy-below.Post,
-  add-child-reads.Asked,
-  add-child-reads.Learnt,
-  copy-node-reads.Asked,
-  copy-node-reads.Learnt,
-) (copy-below-at t) copy-below.Post copy-below-Inv-loop copy-below-μ-loop
-copy-below-part-at-requires t c κs = search needs
-
-copy-below-copy-part-requires : (t : ℕ) → copy-below-lts.Need-copy-part-requires (
-  part-at-reads.Asked,
-  part-at-reads.Learnt,
-  copy-part-reads.Asked,
-  copy-part-reads.Learnt,
-  node-at-reads.Asked,
-  node-at-reads.Learnt,
-  empty-reads.Asked,
-  empty-reads.Learnt,
-  child-reads.Asked,
-  child-reads.Learnt,
-  copy-below-below t,
-  copy-below.Post,
-  add-child-reads.Asked,
-  add-child-reads.Learnt,
-  copy-node-reads.Asked,
-  copy-node-reads.Learnt,
-) (copy-below-at t) copy-below.Post copy-below-Inv-loop copy-below-μ-loop
-copy-below-copy-part-requires t c κs = (search needs, search copy-leaf-room)
-
-copy-below-add-result : (t : ℕ) → copy-below-lts.Need-add-result (
-  part-at-reads.Asked,
-  part-at-reads.Learnt,
-  copy-part-reads.Asked,
-  copy-part-reads.Learnt,
-  node-at-reads.Asked,
-  node-at-reads.Learnt,
-  empty-reads.Asked,
-  empty-reads.Learnt,
-  child-reads.Asked,
-  child-reads.Learnt,
-  copy-below-below t,
-  copy-below.Post,
-  add-child-reads.Asked,
-  add-child-reads.Learnt,
-  copy-node-reads.Asked,
-  copy-node-reads.Learnt,
-) (copy-below-at t) copy-below.Post copy-below-Inv-loop copy-below-μ-loop
-copy-below-add-result t c = search needs
-
-copy-below-same-length : (t : ℕ) → copy-below-lts.Need-same-length (
-  part-at-reads.Asked,
-  part-at-reads.Learnt,
-  copy-part-reads.Asked,
-  copy-part-reads.Learnt,
-  node-at-reads.Asked,
-  node-at-reads.Learnt,
-  empty-reads.Asked,
-  empty-reads.Learnt,
-  child-reads.Asked,
-  child-reads.Learnt,
-  copy-below-below t,
-  copy-below.Post,
-  add-child-reads.Asked,
-  add-child-reads.Learnt,
-  copy-node-reads.Asked,
-  copy-node-reads.Learnt,
-) (copy-below-at t) copy-below.Post copy-below-Inv-loop copy-below-μ-loop
-copy-below-same-length t c = search needs
-
-copy-below-returns : (t : ℕ) → copy-below-lts.Need-returns (
-  part-at-reads.Asked,
-  part-at-reads.Learnt,
-  copy-part-reads.Asked,
-  copy-part-reads.Learnt,
-  node-at-reads.Asked,
-  node-at-reads.Learnt,
-  empty-reads.Asked,
-  empty-reads.Learnt,
-  child-reads.Asked,
-  child-reads.Learnt,
-  copy-below-below t,
-  copy-below.Post,
-  add-child-reads.Asked,
-  add-child-reads.Learnt,
-  copy-node-reads.Asked,
-  copy-node-reads.Learnt,
-) (copy-below-at t) copy-below.Post copy-below-Inv-loop copy-below-μ-loop
-copy-below-returns t c = search copy-leaf
-
-copy-below-node-at-requires : (t : ℕ) → copy-below-lts.Need-node-at-requires (
-  part-at-reads.Asked,
-  part-at-reads.Learnt,
-  copy-part-reads.Asked,
-  copy-part-reads.Learnt,
-  node-at-reads.Asked,
-  node-at-reads.Learnt,
-  empty-reads.Asked,
-  empty-reads.Learnt,
-  child-reads.Asked,
-  child-reads.Learnt,
-  copy-below-below t,
-  copy-below.Post,
-  add-child-reads.Asked,
-  add-child-reads.Learnt,
-  copy-node-reads.Asked,
-  copy-node-reads.Learnt,
-) (copy-below-at t) copy-below.Post copy-below-Inv-loop copy-below-μ-loop
-copy-below-node-at-requires t c κs = search needs
-
-copy-below-cast-n : (t : ℕ) → copy-below-lts.Need-cast-n (
-  part-at-reads.Asked,
-  part-at-reads.Learnt,
-  copy-part-reads.Asked,
-  copy-part-reads.Learnt,
-  node-at-reads.Asked,
-  node-at-reads.Learnt,
-  empty-reads.Asked,
-  empty-reads.Learnt,
-  child-reads.Asked,
-  child-reads.Learnt,
-  copy-below-below t,
-  copy-below.Post,
-  add-child-reads.Asked,
-  add-child-reads.Learnt,
-  copy-node-reads.Asked,
-  copy-node-reads.Learnt,
-) (copy-below-at t) copy-below.Post copy-below-Inv-loop copy-below-μ-loop
-copy-below-cast-n t c = search needs
-
-copy-below-empty-requires : (t : ℕ) → copy-below-lts.Need-empty-requires (
-  part-at-reads.Asked,
-  part-at-reads.Learnt,
-  copy-part-reads.Asked,
-  copy-part-reads.Learnt,
-  node-at-reads.Asked,
-  node-at-reads.Learnt,
-  empty-reads.Asked,
-  empty-reads.Learnt,
-  child-reads.Asked,
-  child-reads.Learnt,
-  copy-below-below t,
-  copy-below.Post,
-  add-child-reads.Asked,
-  add-child-reads.Learnt,
-  copy-node-reads.Asked,
-  copy-node-reads.Learnt,
-) (copy-below-at t) copy-below.Post copy-below-Inv-loop copy-below-μ-loop
-copy-below-empty-requires t c κs = search needs
-
-copy-below-loop-holds : (t : ℕ) → copy-below-lts.Need-loop-holds (
-  part-at-reads.Asked,
-  part-at-reads.Learnt,
-  copy-part-reads.Asked,
-  copy-part-reads.Learnt,
-  node-at-reads.Asked,
-  node-at-reads.Learnt,
-  empty-reads.Asked,
-  empty-reads.Learnt,
-  child-reads.Asked,
-  child-reads.Learnt,
-  copy-below-below t,
-  copy-below.Post,
-  add-child-reads.Asked,
-  add-child-reads.Learnt,
-  copy-node-reads.Asked,
-  copy-node-reads.Learnt,
-) (copy-below-at t) copy-below.Post copy-below-Inv-loop copy-below-μ-loop
-copy-below-loop-holds t c = search (copy-start, walk-count)
-
-copy-below-child-requires : (t : ℕ) → copy-below-lts.Need-child-requires (
-  part-at-reads.Asked,
-  part-at-reads.Learnt,
-  copy-part-reads.Asked,
-  copy-part-reads.Learnt,
-  node-at-reads.Asked,
-  node-at-reads.Learnt,
-  empty-reads.Asked,
-  empty-reads.Learnt,
-  child-reads.Asked,
-  child-reads.Learnt,
-  copy-below-below t,
-  copy-below.Post,
-  add-child-reads.Asked,
-  add-child-reads.Learnt,
-  copy-node-reads.Asked,
-  copy-node-reads.Learnt,
-) (copy-below-at t) copy-below.Post copy-below-Inv-loop copy-below-μ-loop
-copy-below-child-requires t c κs = search walk-nine
-
-copy-below-sub-copy-below : (t : ℕ) → copy-below-lts.Need-sub-copy-below (
-  part-at-reads.Asked,
-  part-at-reads.Learnt,
-  copy-part-reads.Asked,
-  copy-part-reads.Learnt,
-  node-at-reads.Asked,
-  node-at-reads.Learnt,
-  empty-reads.Asked,
-  empty-reads.Learnt,
-  child-reads.Asked,
-  child-reads.Learnt,
-  copy-below-below t,
-  copy-below.Post,
-  add-child-reads.Asked,
-  add-child-reads.Learnt,
-  copy-node-reads.Asked,
-  copy-node-reads.Learnt,
-) (copy-below-at t) copy-below.Post copy-below-Inv-loop copy-below-μ-loop
-copy-below-sub-copy-below t c = search needs
-
-copy-below-copy-below-requires : (t : ℕ) → copy-below-lts.Need-copy-below-requires (
-  part-at-reads.Asked,
-  part-at-reads.Learnt,
-  copy-part-reads.Asked,
-  copy-part-reads.Learnt,
-  node-at-reads.Asked,
-  node-at-reads.Learnt,
-  empty-reads.Asked,
-  empty-reads.Learnt,
-  child-reads.Asked,
-  child-reads.Learnt,
-  copy-below-below t,
-  copy-below.Post,
-  add-child-reads.Asked,
-  add-child-reads.Learnt,
-  copy-node-reads.Asked,
-  copy-node-reads.Learnt,
-) (copy-below-at t) copy-below.Post copy-below-Inv-loop copy-below-μ-loop
-copy-below-copy-below-requires t c κs = (omega arith, (search (copy-walk, walk-child), search (copy-child-room, walk-child)))
-
-copy-below-sub-add-child : (t : ℕ) → copy-below-lts.Need-sub-add-child (
-  part-at-reads.Asked,
-  part-at-reads.Learnt,
-  copy-part-reads.Asked,
-  copy-part-reads.Learnt,
-  node-at-reads.Asked,
-  node-at-reads.Learnt,
-  empty-reads.Asked,
-  empty-reads.Learnt,
-  child-reads.Asked,
-  child-reads.Learnt,
-  copy-below-below t,
-  copy-below.Post,
-  add-child-reads.Asked,
-  add-child-reads.Learnt,
-  copy-node-reads.Asked,
-  copy-node-reads.Learnt,
-) (copy-below-at t) copy-below.Post copy-below-Inv-loop copy-below-μ-loop
-copy-below-sub-add-child t c = search (copy-moved, walk-child)
-
-copy-below-add-child-requires : (t : ℕ) → copy-below-lts.Need-add-child-requires (
-  part-at-reads.Asked,
-  part-at-reads.Learnt,
-  copy-part-reads.Asked,
-  copy-part-reads.Learnt,
-  node-at-reads.Asked,
-  node-at-reads.Learnt,
-  empty-reads.Asked,
-  empty-reads.Learnt,
-  child-reads.Asked,
-  child-reads.Learnt,
-  copy-below-below t,
-  copy-below.Post,
-  add-child-reads.Asked,
-  add-child-reads.Learnt,
-  copy-node-reads.Asked,
-  copy-node-reads.Learnt,
-) (copy-below-at t) copy-below.Post copy-below-Inv-loop copy-below-μ-loop
-copy-below-add-child-requires t c κs = search copy-few
-
-copy-below-add-copy : (t : ℕ) → copy-below-lts.Need-add-copy (
-  part-at-reads.Asked,
-  part-at-reads.Learnt,
-  copy-part-reads.Asked,
-  copy-part-reads.Learnt,
-  node-at-reads.Asked,
-  node-at-reads.Learnt,
-  empty-reads.Asked,
-  empty-reads.Learnt,
-  child-reads.Asked,
-  child-reads.Learnt,
-  copy-below-below t,
-  copy-below.Post,
-  add-child-reads.Asked,
-  add-child-reads.Learnt,
-  copy-node-reads.Asked,
-  copy-node-reads.Learnt,
-) (copy-below-at t) copy-below.Post copy-below-Inv-loop copy-below-μ-loop
-copy-below-add-copy t c = search needs
-
-copy-below-add-low : (t : ℕ) → copy-below-lts.Need-add-low (
-  part-at-reads.Asked,
-  part-at-reads.Learnt,
-  copy-part-reads.Asked,
-  copy-part-reads.Learnt,
-  node-at-reads.Asked,
-  node-at-reads.Learnt,
-  empty-reads.Asked,
-  empty-reads.Learnt,
-  child-reads.Asked,
-  child-reads.Learnt,
-  copy-below-below t,
-  copy-below.Post,
-  add-child-reads.Asked,
-  add-child-reads.Learnt,
-  copy-node-reads.Asked,
-  copy-node-reads.Learnt,
-) (copy-below-at t) copy-below.Post copy-below-Inv-loop copy-below-μ-loop
-copy-below-add-low t c = search (deep-fits, walk-child)
-
-copy-below-add-i : (t : ℕ) → copy-below-lts.Need-add-i (
-  part-at-reads.Asked,
-  part-at-reads.Learnt,
-  copy-part-reads.Asked,
-  copy-part-reads.Learnt,
-  node-at-reads.Asked,
-  node-at-reads.Learnt,
-  empty-reads.Asked,
-  empty-reads.Learnt,
-  child-reads.Asked,
-  child-reads.Learnt,
-  copy-below-below t,
-  copy-below.Post,
-  add-child-reads.Asked,
-  add-child-reads.Learnt,
-  copy-node-reads.Asked,
-  copy-node-reads.Learnt,
-) (copy-below-at t) copy-below.Post copy-below-Inv-loop copy-below-μ-loop
-copy-below-add-i t c = search needs
-
-copy-below-loop-less : (t : ℕ) → copy-below-lts.Need-loop-less (
-  part-at-reads.Asked,
-  part-at-reads.Learnt,
-  copy-part-reads.Asked,
-  copy-part-reads.Learnt,
-  node-at-reads.Asked,
-  node-at-reads.Learnt,
-  empty-reads.Asked,
-  empty-reads.Learnt,
-  child-reads.Asked,
-  child-reads.Learnt,
-  copy-below-below t,
-  copy-below.Post,
-  add-child-reads.Asked,
-  add-child-reads.Learnt,
-  copy-node-reads.Asked,
-  copy-node-reads.Learnt,
-) (copy-below-at t) copy-below.Post copy-below-Inv-loop copy-below-μ-loop
-copy-below-loop-less t c = search needs
-
-copy-below-loop-again : (t : ℕ) → copy-below-lts.Need-loop-again (
-  part-at-reads.Asked,
-  part-at-reads.Learnt,
-  copy-part-reads.Asked,
-  copy-part-reads.Learnt,
-  node-at-reads.Asked,
-  node-at-reads.Learnt,
-  empty-reads.Asked,
-  empty-reads.Learnt,
-  child-reads.Asked,
-  child-reads.Learnt,
-  copy-below-below t,
-  copy-below.Post,
-  add-child-reads.Asked,
-  add-child-reads.Learnt,
-  copy-node-reads.Asked,
-  copy-node-reads.Learnt,
-) (copy-below-at t) copy-below.Post copy-below-Inv-loop copy-below-μ-loop
-copy-below-loop-again t c = search (copy-again, walk-child)
-
-copy-below-part-at-requires-2 : (t : ℕ) → copy-below-lts.Need-part-at-requires-2 (
-  part-at-reads.Asked,
-  part-at-reads.Learnt,
-  copy-part-reads.Asked,
-  copy-part-reads.Learnt,
-  node-at-reads.Asked,
-  node-at-reads.Learnt,
-  empty-reads.Asked,
-  empty-reads.Learnt,
-  child-reads.Asked,
-  child-reads.Learnt,
-  copy-below-below t,
-  copy-below.Post,
-  add-child-reads.Asked,
-  add-child-reads.Learnt,
-  copy-node-reads.Asked,
-  copy-node-reads.Learnt,
-) (copy-below-at t) copy-below.Post copy-below-Inv-loop copy-below-μ-loop
-copy-below-part-at-requires-2 t c κs = search needs
-
-copy-below-copy-node-requires : (t : ℕ) → copy-below-lts.Need-copy-node-requires (
-  part-at-reads.Asked,
-  part-at-reads.Learnt,
-  copy-part-reads.Asked,
-  copy-part-reads.Learnt,
-  node-at-reads.Asked,
-  node-at-reads.Learnt,
-  empty-reads.Asked,
-  empty-reads.Learnt,
-  child-reads.Asked,
-  child-reads.Learnt,
-  copy-below-below t,
-  copy-below.Post,
-  add-child-reads.Asked,
-  add-child-reads.Learnt,
-  copy-node-reads.Asked,
-  copy-node-reads.Learnt,
-) (copy-below-at t) copy-below.Post copy-below-Inv-loop copy-below-μ-loop
-copy-below-copy-node-requires t c κs = (search needs, search copy-room)
-
-copy-below-add-result-2 : (t : ℕ) → copy-below-lts.Need-add-result-2 (
-  part-at-reads.Asked,
-  part-at-reads.Learnt,
-  copy-part-reads.Asked,
-  copy-part-reads.Learnt,
-  node-at-reads.Asked,
-  node-at-reads.Learnt,
-  empty-reads.Asked,
-  empty-reads.Learnt,
-  child-reads.Asked,
-  child-reads.Learnt,
-  copy-below-below t,
-  copy-below.Post,
-  add-child-reads.Asked,
-  add-child-reads.Learnt,
-  copy-node-reads.Asked,
-  copy-node-reads.Learnt,
-) (copy-below-at t) copy-below.Post copy-below-Inv-loop copy-below-μ-loop
-copy-below-add-result-2 t c = search needs
-
-copy-below-same-length-2 : (t : ℕ) → copy-below-lts.Need-same-length-2 (
-  part-at-reads.Asked,
-  part-at-reads.Learnt,
-  copy-part-reads.Asked,
-  copy-part-reads.Learnt,
-  node-at-reads.Asked,
-  node-at-reads.Learnt,
-  empty-reads.Asked,
-  empty-reads.Learnt,
-  child-reads.Asked,
-  child-reads.Learnt,
-  copy-below-below t,
-  copy-below.Post,
-  add-child-reads.Asked,
-  add-child-reads.Learnt,
-  copy-node-reads.Asked,
-  copy-node-reads.Learnt,
-) (copy-below-at t) copy-below.Post copy-below-Inv-loop copy-below-μ-loop
-copy-below-same-length-2 t c = search needs
-
-copy-below-returns-2 : (t : ℕ) → copy-below-lts.Need-returns-2 (
-  part-at-reads.Asked,
-  part-at-reads.Learnt,
-  copy-part-reads.Asked,
-  copy-part-reads.Learnt,
-  node-at-reads.Asked,
-  node-at-reads.Learnt,
-  empty-reads.Asked,
-  empty-reads.Learnt,
-  child-reads.Asked,
-  child-reads.Learnt,
-  copy-below-below t,
-  copy-below.Post,
-  add-child-reads.Asked,
-  add-child-reads.Learnt,
-  copy-node-reads.Asked,
-  copy-node-reads.Learnt,
-) (copy-below-at t) copy-below.Post copy-below-Inv-loop copy-below-μ-loop
-copy-below-returns-2 t c = search copy-end
-
-pub +copy-below-spec : {M : Type 1} → statement M
-+copy-below-spec = close μ-copy-below λ t. copy-below-lts.spec (
+-- what the proof knows of the functions that `copy_below` calls, itself below t among them
+abbrev copy-below-claims : ℕ → copy-below-lts.Claims
+copy-below-claims t = (
   part-at-reads.Asked,
   part-at-reads.Learnt,
   copy-part-reads.Asked,
@@ -536,6 +57,81 @@ pub +copy-below-spec : {M : Type 1} → statement M
   copy-node-reads.Asked,
   copy-node-reads.Learnt,
 )
+
+copy-below-part-at-requires : (t : ℕ) → copy-below-lts.Need-part-at-requires (copy-below-claims t) (copy-below-at t) copy-below.Post copy-below-Inv-loop copy-below-μ-loop
+copy-below-part-at-requires t c κs = search needs
+
+copy-below-copy-part-requires : (t : ℕ) → copy-below-lts.Need-copy-part-requires (copy-below-claims t) (copy-below-at t) copy-below.Post copy-below-Inv-loop copy-below-μ-loop
+copy-below-copy-part-requires t c κs = (search needs, search copy-leaf-room)
+
+copy-below-add-result : (t : ℕ) → copy-below-lts.Need-add-result (copy-below-claims t) (copy-below-at t) copy-below.Post copy-below-Inv-loop copy-below-μ-loop
+copy-below-add-result t c = search needs
+
+copy-below-same-length : (t : ℕ) → copy-below-lts.Need-same-length (copy-below-claims t) (copy-below-at t) copy-below.Post copy-below-Inv-loop copy-below-μ-loop
+copy-below-same-length t c = search needs
+
+copy-below-returns : (t : ℕ) → copy-below-lts.Need-returns (copy-below-claims t) (copy-below-at t) copy-below.Post copy-below-Inv-loop copy-below-μ-loop
+copy-below-returns t c = search copy-leaf
+
+copy-below-node-at-requires : (t : ℕ) → copy-below-lts.Need-node-at-requires (copy-below-claims t) (copy-below-at t) copy-below.Post copy-below-Inv-loop copy-below-μ-loop
+copy-below-node-at-requires t c κs = search needs
+
+copy-below-cast-n : (t : ℕ) → copy-below-lts.Need-cast-n (copy-below-claims t) (copy-below-at t) copy-below.Post copy-below-Inv-loop copy-below-μ-loop
+copy-below-cast-n t c = search needs
+
+copy-below-empty-requires : (t : ℕ) → copy-below-lts.Need-empty-requires (copy-below-claims t) (copy-below-at t) copy-below.Post copy-below-Inv-loop copy-below-μ-loop
+copy-below-empty-requires t c κs = search needs
+
+copy-below-loop-holds : (t : ℕ) → copy-below-lts.Need-loop-holds (copy-below-claims t) (copy-below-at t) copy-below.Post copy-below-Inv-loop copy-below-μ-loop
+copy-below-loop-holds t c = search (copy-start, walk-count)
+
+copy-below-child-requires : (t : ℕ) → copy-below-lts.Need-child-requires (copy-below-claims t) (copy-below-at t) copy-below.Post copy-below-Inv-loop copy-below-μ-loop
+copy-below-child-requires t c κs = search walk-nine
+
+copy-below-sub-copy-below : (t : ℕ) → copy-below-lts.Need-sub-copy-below (copy-below-claims t) (copy-below-at t) copy-below.Post copy-below-Inv-loop copy-below-μ-loop
+copy-below-sub-copy-below t c = search needs
+
+copy-below-copy-below-requires : (t : ℕ) → copy-below-lts.Need-copy-below-requires (copy-below-claims t) (copy-below-at t) copy-below.Post copy-below-Inv-loop copy-below-μ-loop
+copy-below-copy-below-requires t c κs = (omega arith, (search (copy-walk, walk-child), search (copy-child-room, walk-child)))
+
+copy-below-sub-add-child : (t : ℕ) → copy-below-lts.Need-sub-add-child (copy-below-claims t) (copy-below-at t) copy-below.Post copy-below-Inv-loop copy-below-μ-loop
+copy-below-sub-add-child t c = search (copy-moved, walk-child)
+
+copy-below-add-child-requires : (t : ℕ) → copy-below-lts.Need-add-child-requires (copy-below-claims t) (copy-below-at t) copy-below.Post copy-below-Inv-loop copy-below-μ-loop
+copy-below-add-child-requires t c κs = search copy-few
+
+copy-below-add-copy : (t : ℕ) → copy-below-lts.Need-add-copy (copy-below-claims t) (copy-below-at t) copy-below.Post copy-below-Inv-loop copy-below-μ-loop
+copy-below-add-copy t c = search needs
+
+copy-below-add-low : (t : ℕ) → copy-below-lts.Need-add-low (copy-below-claims t) (copy-below-at t) copy-below.Post copy-below-Inv-loop copy-below-μ-loop
+copy-below-add-low t c = search (deep-fits, walk-child)
+
+copy-below-add-i : (t : ℕ) → copy-below-lts.Need-add-i (copy-below-claims t) (copy-below-at t) copy-below.Post copy-below-Inv-loop copy-below-μ-loop
+copy-below-add-i t c = search needs
+
+copy-below-loop-less : (t : ℕ) → copy-below-lts.Need-loop-less (copy-below-claims t) (copy-below-at t) copy-below.Post copy-below-Inv-loop copy-below-μ-loop
+copy-below-loop-less t c = search needs
+
+copy-below-loop-again : (t : ℕ) → copy-below-lts.Need-loop-again (copy-below-claims t) (copy-below-at t) copy-below.Post copy-below-Inv-loop copy-below-μ-loop
+copy-below-loop-again t c = search (copy-again, walk-child)
+
+copy-below-part-at-requires-2 : (t : ℕ) → copy-below-lts.Need-part-at-requires-2 (copy-below-claims t) (copy-below-at t) copy-below.Post copy-below-Inv-loop copy-below-μ-loop
+copy-below-part-at-requires-2 t c κs = search needs
+
+copy-below-copy-node-requires : (t : ℕ) → copy-below-lts.Need-copy-node-requires (copy-below-claims t) (copy-below-at t) copy-below.Post copy-below-Inv-loop copy-below-μ-loop
+copy-below-copy-node-requires t c κs = (search needs, search copy-room)
+
+copy-below-add-result-2 : (t : ℕ) → copy-below-lts.Need-add-result-2 (copy-below-claims t) (copy-below-at t) copy-below.Post copy-below-Inv-loop copy-below-μ-loop
+copy-below-add-result-2 t c = search needs
+
+copy-below-same-length-2 : (t : ℕ) → copy-below-lts.Need-same-length-2 (copy-below-claims t) (copy-below-at t) copy-below.Post copy-below-Inv-loop copy-below-μ-loop
+copy-below-same-length-2 t c = search needs
+
+copy-below-returns-2 : (t : ℕ) → copy-below-lts.Need-returns-2 (copy-below-claims t) (copy-below-at t) copy-below.Post copy-below-Inv-loop copy-below-μ-loop
+copy-below-returns-2 t c = search copy-end
+
+pub +copy-below-spec : {M : Type 1} → statement M
++copy-below-spec = close μ-copy-below λ t. copy-below-lts.spec (copy-below-claims t)
     (copy-below-at t)
     copy-below.Post
     copy-below-Inv-loop

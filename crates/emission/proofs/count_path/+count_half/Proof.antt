@@ -31,7 +31,9 @@ abbrev count-half-below : ℕ → In 3 count-half-kinds.ps
 count-half-below t =
     and 3 count-half-kinds.ps (falls 3 count-half-kinds.ps _<_ μ-count-half t) count-half.Pre
 
-count-half-count-path-leaf-requires : (t : ℕ) → count-half-lts.Need-count-path-leaf-requires (
+-- what the proof knows of the functions that `count_half` calls, itself below t among them
+abbrev count-half-claims : ℕ → count-half-lts.Claims
+count-half-claims t = (
   count-path-leaf-reads.Asked,
   count-path-leaf-reads.Learnt,
   count-beside-reads.Asked,
@@ -48,107 +50,24 @@ count-half-count-path-leaf-requires : (t : ℕ) → count-half-lts.Need-count-pa
   put-in-front-reads.Learnt,
   right-side-reads.Asked,
   right-side-reads.Learnt,
-) (count-half-at t) count-half.Post
+)
+
+count-half-count-path-leaf-requires : (t : ℕ) → count-half-lts.Need-count-path-leaf-requires (count-half-claims t) (count-half-at t) count-half.Post
 count-half-count-path-leaf-requires t c κs = path-leaf _ _ _ (c .if1 .taken) (c .before .before .before .before .pre .1 .0)
 
-count-half-returns : (t : ℕ) → count-half-lts.Need-returns (
-  count-path-leaf-reads.Asked,
-  count-path-leaf-reads.Learnt,
-  count-beside-reads.Asked,
-  count-beside-reads.Learnt,
-  count-half-below t,
-  count-half.Post,
-  capped-sum-reads.Asked,
-  capped-sum-reads.Learnt,
-  count-top-reads.Asked,
-  count-top-reads.Learnt,
-  left-side-reads.Asked,
-  left-side-reads.Learnt,
-  put-in-front-reads.Asked,
-  put-in-front-reads.Learnt,
-  right-side-reads.Asked,
-  right-side-reads.Learnt,
-) (count-half-at t) count-half.Post
+count-half-returns : (t : ℕ) → count-half-lts.Need-returns (count-half-claims t) (count-half-at t) count-half.Post
 count-half-returns t c = search half-leaf-count
 
-count-half-count-beside-requires : (t : ℕ) → count-half-lts.Need-count-beside-requires (
-  count-path-leaf-reads.Asked,
-  count-path-leaf-reads.Learnt,
-  count-beside-reads.Asked,
-  count-beside-reads.Learnt,
-  count-half-below t,
-  count-half.Post,
-  capped-sum-reads.Asked,
-  capped-sum-reads.Learnt,
-  count-top-reads.Asked,
-  count-top-reads.Learnt,
-  left-side-reads.Asked,
-  left-side-reads.Learnt,
-  put-in-front-reads.Asked,
-  put-in-front-reads.Learnt,
-  right-side-reads.Asked,
-  right-side-reads.Learnt,
-) (count-half-at t) count-half.Post
+count-half-count-beside-requires : (t : ℕ) → count-half-lts.Need-count-beside-requires (count-half-claims t) (count-half-at t) count-half.Post
 count-half-count-beside-requires t c κs = path-step _ _ _ (c .if1 .left) (c .before .before .before .before .pre .1 .0)
 
-count-half-sub-below : (t : ℕ) → count-half-lts.Need-sub-below (
-  count-path-leaf-reads.Asked,
-  count-path-leaf-reads.Learnt,
-  count-beside-reads.Asked,
-  count-beside-reads.Learnt,
-  count-half-below t,
-  count-half.Post,
-  capped-sum-reads.Asked,
-  capped-sum-reads.Learnt,
-  count-top-reads.Asked,
-  count-top-reads.Learnt,
-  left-side-reads.Asked,
-  left-side-reads.Learnt,
-  put-in-front-reads.Asked,
-  put-in-front-reads.Learnt,
-  right-side-reads.Asked,
-  right-side-reads.Learnt,
-) (count-half-at t) count-half.Post
+count-half-sub-below : (t : ℕ) → count-half-lts.Need-sub-below (count-half-claims t) (count-half-at t) count-half.Post
 count-half-sub-below t c = search needs
 
-count-half-cast-line : (t : ℕ) → count-half-lts.Need-cast-line (
-  count-path-leaf-reads.Asked,
-  count-path-leaf-reads.Learnt,
-  count-beside-reads.Asked,
-  count-beside-reads.Learnt,
-  count-half-below t,
-  count-half.Post,
-  capped-sum-reads.Asked,
-  capped-sum-reads.Learnt,
-  count-top-reads.Asked,
-  count-top-reads.Learnt,
-  left-side-reads.Asked,
-  left-side-reads.Learnt,
-  put-in-front-reads.Asked,
-  put-in-front-reads.Learnt,
-  right-side-reads.Asked,
-  right-side-reads.Learnt,
-) (count-half-at t) count-half.Post
+count-half-cast-line : (t : ℕ) → count-half-lts.Need-cast-line (count-half-claims t) (count-half-at t) count-half.Post
 count-half-cast-line t c = search needs
 
-count-half-mul-line : (t : ℕ) → count-half-lts.Need-mul-line (
-  count-path-leaf-reads.Asked,
-  count-path-leaf-reads.Learnt,
-  count-beside-reads.Asked,
-  count-beside-reads.Learnt,
-  count-half-below t,
-  count-half.Post,
-  capped-sum-reads.Asked,
-  capped-sum-reads.Learnt,
-  count-top-reads.Asked,
-  count-top-reads.Learnt,
-  left-side-reads.Asked,
-  left-side-reads.Learnt,
-  put-in-front-reads.Asked,
-  put-in-front-reads.Learnt,
-  right-side-reads.Asked,
-  right-side-reads.Learnt,
-) (count-half-at t) count-half.Post
+count-half-mul-line : (t : ℕ) → count-half-lts.Need-mul-line (count-half-claims t) (count-half-at t) count-half.Post
 count-half-mul-line t c =
     let b = c in
     let s = b .before .before .before .before .before .pre .1 in
@@ -156,24 +75,7 @@ count-half-mul-line t c =
     let r = path-room _ _ _ ne (s .0) in
     omega arith
 
-count-half-add-line : (t : ℕ) → count-half-lts.Need-add-line (
-  count-path-leaf-reads.Asked,
-  count-path-leaf-reads.Learnt,
-  count-beside-reads.Asked,
-  count-beside-reads.Learnt,
-  count-half-below t,
-  count-half.Post,
-  capped-sum-reads.Asked,
-  capped-sum-reads.Learnt,
-  count-top-reads.Asked,
-  count-top-reads.Learnt,
-  left-side-reads.Asked,
-  left-side-reads.Learnt,
-  put-in-front-reads.Asked,
-  put-in-front-reads.Learnt,
-  right-side-reads.Asked,
-  right-side-reads.Learnt,
-) (count-half-at t) count-half.Post
+count-half-add-line : (t : ℕ) → count-half-lts.Need-add-line (count-half-claims t) (count-half-at t) count-half.Post
 count-half-add-line t c =
     let b = c in
     let s = b .before .before .before .before .before .pre .1 in
@@ -181,24 +83,7 @@ count-half-add-line t c =
     let r = path-room _ _ _ ne (s .0) in
     omega arith
 
-count-half-mul-line-2 : (t : ℕ) → count-half-lts.Need-mul-line-2 (
-  count-path-leaf-reads.Asked,
-  count-path-leaf-reads.Learnt,
-  count-beside-reads.Asked,
-  count-beside-reads.Learnt,
-  count-half-below t,
-  count-half.Post,
-  capped-sum-reads.Asked,
-  capped-sum-reads.Learnt,
-  count-top-reads.Asked,
-  count-top-reads.Learnt,
-  left-side-reads.Asked,
-  left-side-reads.Learnt,
-  put-in-front-reads.Asked,
-  put-in-front-reads.Learnt,
-  right-side-reads.Asked,
-  right-side-reads.Learnt,
-) (count-half-at t) count-half.Post
+count-half-mul-line-2 : (t : ℕ) → count-half-lts.Need-mul-line-2 (count-half-claims t) (count-half-at t) count-half.Post
 count-half-mul-line-2 t c =
     let b = c in
     let s = b .before .before .before .before .before .pre .1 in
@@ -206,24 +91,7 @@ count-half-mul-line-2 t c =
     let r = path-room _ _ _ ne (s .0) in
     omega arith
 
-count-half-shared-slice-read-line : (t : ℕ) → count-half-lts.Need-shared-slice-read-line (
-  count-path-leaf-reads.Asked,
-  count-path-leaf-reads.Learnt,
-  count-beside-reads.Asked,
-  count-beside-reads.Learnt,
-  count-half-below t,
-  count-half.Post,
-  capped-sum-reads.Asked,
-  capped-sum-reads.Learnt,
-  count-top-reads.Asked,
-  count-top-reads.Learnt,
-  left-side-reads.Asked,
-  left-side-reads.Learnt,
-  put-in-front-reads.Asked,
-  put-in-front-reads.Learnt,
-  right-side-reads.Asked,
-  right-side-reads.Learnt,
-) (count-half-at t) count-half.Post
+count-half-shared-slice-read-line : (t : ℕ) → count-half-lts.Need-shared-slice-read-line (count-half-claims t) (count-half-at t) count-half.Post
 count-half-shared-slice-read-line t c =
     let b = c .before in
     let s = b .before .before .before .before .before .pre .1 in
@@ -231,134 +99,32 @@ count-half-shared-slice-read-line t c =
     let r = path-room _ _ _ ne (s .0) in
     omega arith
 
-count-half-count-half-requires : (t : ℕ) → count-half-lts.Need-count-half-requires (
-  count-path-leaf-reads.Asked,
-  count-path-leaf-reads.Learnt,
-  count-beside-reads.Asked,
-  count-beside-reads.Learnt,
-  count-half-below t,
-  count-half.Post,
-  capped-sum-reads.Asked,
-  capped-sum-reads.Learnt,
-  count-top-reads.Asked,
-  count-top-reads.Learnt,
-  left-side-reads.Asked,
-  left-side-reads.Learnt,
-  put-in-front-reads.Asked,
-  put-in-front-reads.Learnt,
-  right-side-reads.Asked,
-  right-side-reads.Learnt,
-) (count-half-at t) count-half.Post
+count-half-count-half-requires : (t : ℕ) → count-half-lts.Need-count-half-requires (count-half-claims t) (count-half-at t) count-half.Post
 count-half-count-half-requires t c κs =
     let b = c .before .before in
     let s = b .before .before .before .before .before .pre .1 in
     let ne = b .before .if1 .left in
     (omega arith, (path-down _ _ _ ne (s .0), omega arith))
 
-count-half-capped-sum-requires : (t : ℕ) → count-half-lts.Need-capped-sum-requires (
-  count-path-leaf-reads.Asked,
-  count-path-leaf-reads.Learnt,
-  count-beside-reads.Asked,
-  count-beside-reads.Learnt,
-  count-half-below t,
-  count-half.Post,
-  capped-sum-reads.Asked,
-  capped-sum-reads.Learnt,
-  count-top-reads.Asked,
-  count-top-reads.Learnt,
-  left-side-reads.Asked,
-  left-side-reads.Learnt,
-  put-in-front-reads.Asked,
-  put-in-front-reads.Learnt,
-  right-side-reads.Asked,
-  right-side-reads.Learnt,
-) (count-half-at t) count-half.Post
+count-half-capped-sum-requires : (t : ℕ) → count-half-lts.Need-capped-sum-requires (count-half-claims t) (count-half-at t) count-half.Post
 count-half-capped-sum-requires t c κs = (search needs, count-few _ _ _ (c .count-half .ensures))
 
-count-half-count-top-requires : (t : ℕ) → count-half-lts.Need-count-top-requires (
-  count-path-leaf-reads.Asked,
-  count-path-leaf-reads.Learnt,
-  count-beside-reads.Asked,
-  count-beside-reads.Learnt,
-  count-half-below t,
-  count-half.Post,
-  capped-sum-reads.Asked,
-  capped-sum-reads.Learnt,
-  count-top-reads.Asked,
-  count-top-reads.Learnt,
-  left-side-reads.Asked,
-  left-side-reads.Learnt,
-  put-in-front-reads.Asked,
-  put-in-front-reads.Learnt,
-  right-side-reads.Asked,
-  right-side-reads.Learnt,
-) (count-half-at t) count-half.Post
+count-half-count-top-requires : (t : ℕ) → count-half-lts.Need-count-top-requires (count-half-claims t) (count-half-at t) count-half.Post
 count-half-count-top-requires t c κs =
     let e = c .capped-sum .ensures in
     omega arith
 
-count-half-returns-2 : (t : ℕ) → count-half-lts.Need-returns-2 (
-  count-path-leaf-reads.Asked,
-  count-path-leaf-reads.Learnt,
-  count-beside-reads.Asked,
-  count-beside-reads.Learnt,
-  count-half-below t,
-  count-half.Post,
-  capped-sum-reads.Asked,
-  capped-sum-reads.Learnt,
-  count-top-reads.Asked,
-  count-top-reads.Learnt,
-  left-side-reads.Asked,
-  left-side-reads.Learnt,
-  put-in-front-reads.Asked,
-  put-in-front-reads.Learnt,
-  right-side-reads.Asked,
-  right-side-reads.Learnt,
-) (count-half-at t) count-half.Post
+count-half-returns-2 : (t : ℕ) → count-half-lts.Need-returns-2 (count-half-claims t) (count-half-at t) count-half.Post
 count-half-returns-2 t c =
     let b = c .before .before .before .before .before in
     let s = b .before .before .before .before .before .pre .1 in
     let ne = b .before .if1 .left in
     whole-count _ _ _ _ _ ne (s .0) _ (b .count-beside .ensures) _ _ _ (c .before .before .before .if2 .taken) (c .before .before .count-half .ensures) (c .before .capped-sum .ensures) (c .count-top .ensures)
 
-count-half-add-n : (t : ℕ) → count-half-lts.Need-add-n (
-  count-path-leaf-reads.Asked,
-  count-path-leaf-reads.Learnt,
-  count-beside-reads.Asked,
-  count-beside-reads.Learnt,
-  count-half-below t,
-  count-half.Post,
-  capped-sum-reads.Asked,
-  capped-sum-reads.Learnt,
-  count-top-reads.Asked,
-  count-top-reads.Learnt,
-  left-side-reads.Asked,
-  left-side-reads.Learnt,
-  put-in-front-reads.Asked,
-  put-in-front-reads.Learnt,
-  right-side-reads.Asked,
-  right-side-reads.Learnt,
-) (count-half-at t) count-half.Post
+count-half-add-n : (t : ℕ) → count-half-lts.Need-add-n (count-half-claims t) (count-half-at t) count-half.Post
 count-half-add-n t c = search needs
 
-count-half-left-side-requires : (t : ℕ) → count-half-lts.Need-left-side-requires (
-  count-path-leaf-reads.Asked,
-  count-path-leaf-reads.Learnt,
-  count-beside-reads.Asked,
-  count-beside-reads.Learnt,
-  count-half-below t,
-  count-half.Post,
-  capped-sum-reads.Asked,
-  capped-sum-reads.Learnt,
-  count-top-reads.Asked,
-  count-top-reads.Learnt,
-  left-side-reads.Asked,
-  left-side-reads.Learnt,
-  put-in-front-reads.Asked,
-  put-in-front-reads.Learnt,
-  right-side-reads.Asked,
-  right-side-reads.Learnt,
-) (count-half-at t) count-half.Post
+count-half-left-side-requires : (t : ℕ) → count-half-lts.Need-left-side-requires (count-half-claims t) (count-half-at t) count-half.Post
 count-half-left-side-requires t c κs =
     let b = c .before .before in
     let s = b .before .before .before .before .before .pre .1 in
@@ -386,84 +152,16 @@ count-half-slice-aggregate-put-in-front :
     ) (count-half-at t) count-half.Post
 count-half-slice-aggregate-put-in-front t c = search needs
 
-count-half-put-in-front-requires : (t : ℕ) → count-half-lts.Need-put-in-front-requires (
-  count-path-leaf-reads.Asked,
-  count-path-leaf-reads.Learnt,
-  count-beside-reads.Asked,
-  count-beside-reads.Learnt,
-  count-half-below t,
-  count-half.Post,
-  capped-sum-reads.Asked,
-  capped-sum-reads.Learnt,
-  count-top-reads.Asked,
-  count-top-reads.Learnt,
-  left-side-reads.Asked,
-  left-side-reads.Learnt,
-  put-in-front-reads.Asked,
-  put-in-front-reads.Learnt,
-  right-side-reads.Asked,
-  right-side-reads.Learnt,
-) (count-half-at t) count-half.Post
+count-half-put-in-front-requires : (t : ℕ) → count-half-lts.Need-put-in-front-requires (count-half-claims t) (count-half-at t) count-half.Post
 count-half-put-in-front-requires t c κs = search needs
 
-count-half-array-share-prefix-under : (t : ℕ) → count-half-lts.Need-array-share-prefix-under (
-  count-path-leaf-reads.Asked,
-  count-path-leaf-reads.Learnt,
-  count-beside-reads.Asked,
-  count-beside-reads.Learnt,
-  count-half-below t,
-  count-half.Post,
-  capped-sum-reads.Asked,
-  capped-sum-reads.Learnt,
-  count-top-reads.Asked,
-  count-top-reads.Learnt,
-  left-side-reads.Asked,
-  left-side-reads.Learnt,
-  put-in-front-reads.Asked,
-  put-in-front-reads.Learnt,
-  right-side-reads.Asked,
-  right-side-reads.Learnt,
-) (count-half-at t) count-half.Post
+count-half-array-share-prefix-under : (t : ℕ) → count-half-lts.Need-array-share-prefix-under (count-half-claims t) (count-half-at t) count-half.Post
 count-half-array-share-prefix-under t c = front-fits _ _ _ (c .before .put-in-front .ensures)
 
-count-half-slice-aggregate-count-half : (t : ℕ) → count-half-lts.Need-slice-aggregate-count-half (
-  count-path-leaf-reads.Asked,
-  count-path-leaf-reads.Learnt,
-  count-beside-reads.Asked,
-  count-beside-reads.Learnt,
-  count-half-below t,
-  count-half.Post,
-  capped-sum-reads.Asked,
-  capped-sum-reads.Learnt,
-  count-top-reads.Asked,
-  count-top-reads.Learnt,
-  left-side-reads.Asked,
-  left-side-reads.Learnt,
-  put-in-front-reads.Asked,
-  put-in-front-reads.Learnt,
-  right-side-reads.Asked,
-  right-side-reads.Learnt,
-) (count-half-at t) count-half.Post
+count-half-slice-aggregate-count-half : (t : ℕ) → count-half-lts.Need-slice-aggregate-count-half (count-half-claims t) (count-half-at t) count-half.Post
 count-half-slice-aggregate-count-half t c = front-taken _ _ _ (c .before .before .put-in-front .ensures)
 
-count-half-count-half-requires-2 : (t : ℕ) → count-half-lts.Need-count-half-requires-2 (
-  count-path-leaf-reads.Asked,
-  count-path-leaf-reads.Learnt,
-  count-beside-reads.Asked,
-  count-beside-reads.Learnt,
-  count-half-below t,
-  count-half.Post,
-  capped-sum-reads.Asked,
-  capped-sum-reads.Learnt,
-  count-top-reads.Asked,
-  count-top-reads.Learnt,
-  left-side-reads.Asked,
-  left-side-reads.Learnt,
-  put-in-front-reads.Asked,
-  put-in-front-reads.Learnt,
-  right-side-reads.Asked,
-  right-side-reads.Learnt,
-) (count-half-at t) count-half.Post
+count-half-count-half-requires-2 : (t : ℕ) → count-half-lts.Need-count-half-requires-2 (count-half-claims t) (count-half-at t) count-half.Post
 count-half-count-half-requires-2 t c κs =
     let b = c .before .before .before .before .before .before .before in
     let s = b .before .before .before .before .before .pre .1 in
@@ -471,68 +169,17 @@ count-half-count-half-requires-2 t c κs =
     let k = front-length _ _ _ (c .before .before .put-in-front .ensures) in
     (omega arith, (path-down _ _ _ ne (s .0), omega arith))
 
-count-half-right-side-requires : (t : ℕ) → count-half-lts.Need-right-side-requires (
-  count-path-leaf-reads.Asked,
-  count-path-leaf-reads.Learnt,
-  count-beside-reads.Asked,
-  count-beside-reads.Learnt,
-  count-half-below t,
-  count-half.Post,
-  capped-sum-reads.Asked,
-  capped-sum-reads.Learnt,
-  count-top-reads.Asked,
-  count-top-reads.Learnt,
-  left-side-reads.Asked,
-  left-side-reads.Learnt,
-  put-in-front-reads.Asked,
-  put-in-front-reads.Learnt,
-  right-side-reads.Asked,
-  right-side-reads.Learnt,
-) (count-half-at t) count-half.Post
+count-half-right-side-requires : (t : ℕ) → count-half-lts.Need-right-side-requires (count-half-claims t) (count-half-at t) count-half.Post
 count-half-right-side-requires t c κs =
     let b = c .before .before .before .before .before .before .before .before in
     let s = b .before .before .before .before .before .pre .1 in
     let ne = b .before .if1 .left in
     path-line _ _ _ ne (s .0)
 
-count-half-array-write-under : (t : ℕ) → count-half-lts.Need-array-write-under (
-  count-path-leaf-reads.Asked,
-  count-path-leaf-reads.Learnt,
-  count-beside-reads.Asked,
-  count-beside-reads.Learnt,
-  count-half-below t,
-  count-half.Post,
-  capped-sum-reads.Asked,
-  capped-sum-reads.Learnt,
-  count-top-reads.Asked,
-  count-top-reads.Learnt,
-  left-side-reads.Asked,
-  left-side-reads.Learnt,
-  put-in-front-reads.Asked,
-  put-in-front-reads.Learnt,
-  right-side-reads.Asked,
-  right-side-reads.Learnt,
-) (count-half-at t) count-half.Post
+count-half-array-write-under : (t : ℕ) → count-half-lts.Need-array-write-under (count-half-claims t) (count-half-at t) count-half.Post
 count-half-array-write-under t c = search needs
 
-count-half-array-share-prefix-under-2 : (t : ℕ) → count-half-lts.Need-array-share-prefix-under-2 (
-  count-path-leaf-reads.Asked,
-  count-path-leaf-reads.Learnt,
-  count-beside-reads.Asked,
-  count-beside-reads.Learnt,
-  count-half-below t,
-  count-half.Post,
-  capped-sum-reads.Asked,
-  capped-sum-reads.Learnt,
-  count-top-reads.Asked,
-  count-top-reads.Learnt,
-  left-side-reads.Asked,
-  left-side-reads.Learnt,
-  put-in-front-reads.Asked,
-  put-in-front-reads.Learnt,
-  right-side-reads.Asked,
-  right-side-reads.Learnt,
-) (count-half-at t) count-half.Post
+count-half-array-share-prefix-under-2 : (t : ℕ) → count-half-lts.Need-array-share-prefix-under-2 (count-half-claims t) (count-half-at t) count-half.Post
 count-half-array-share-prefix-under-2 t c = front-fits _ _ _ (front-set _ (c .right-side .result) _ _ (c .before .before .before .before .put-in-front .ensures))
 
 count-half-slice-aggregate-count-half-2 :
@@ -556,24 +203,7 @@ count-half-slice-aggregate-count-half-2 :
     ) (count-half-at t) count-half.Post
 count-half-slice-aggregate-count-half-2 t c = front-taken _ _ _ (front-set _ (c .before .right-side .result) _ _ (c .before .before .before .before .before .put-in-front .ensures))
 
-count-half-count-half-requires-3 : (t : ℕ) → count-half-lts.Need-count-half-requires-3 (
-  count-path-leaf-reads.Asked,
-  count-path-leaf-reads.Learnt,
-  count-beside-reads.Asked,
-  count-beside-reads.Learnt,
-  count-half-below t,
-  count-half.Post,
-  capped-sum-reads.Asked,
-  capped-sum-reads.Learnt,
-  count-top-reads.Asked,
-  count-top-reads.Learnt,
-  left-side-reads.Asked,
-  left-side-reads.Learnt,
-  put-in-front-reads.Asked,
-  put-in-front-reads.Learnt,
-  right-side-reads.Asked,
-  right-side-reads.Learnt,
-) (count-half-at t) count-half.Post
+count-half-count-half-requires-3 : (t : ℕ) → count-half-lts.Need-count-half-requires-3 (count-half-claims t) (count-half-at t) count-half.Post
 count-half-count-half-requires-3 t c κs =
     let b = c .before .before .before .before .before .before .before .before .before .before in
     let s = b .before .before .before .before .before .pre .1 in
@@ -581,89 +211,21 @@ count-half-count-half-requires-3 t c κs =
     let k = front-length _ _ _ (front-set _ (c .before .right-side .result) _ _ (c .before .before .before .before .before .put-in-front .ensures)) in
     (omega arith, (path-down _ _ _ ne (s .0), omega arith))
 
-count-half-capped-sum-requires-2 : (t : ℕ) → count-half-lts.Need-capped-sum-requires-2 (
-  count-path-leaf-reads.Asked,
-  count-path-leaf-reads.Learnt,
-  count-beside-reads.Asked,
-  count-beside-reads.Learnt,
-  count-half-below t,
-  count-half.Post,
-  capped-sum-reads.Asked,
-  capped-sum-reads.Learnt,
-  count-top-reads.Asked,
-  count-top-reads.Learnt,
-  left-side-reads.Asked,
-  left-side-reads.Learnt,
-  put-in-front-reads.Asked,
-  put-in-front-reads.Learnt,
-  right-side-reads.Asked,
-  right-side-reads.Learnt,
-) (count-half-at t) count-half.Post
+count-half-capped-sum-requires-2 : (t : ℕ) → count-half-lts.Need-capped-sum-requires-2 (count-half-claims t) (count-half-at t) count-half.Post
 count-half-capped-sum-requires-2 t c κs = (count-few _ _ _ (c .before .before .before .count-half2 .ensures), count-few _ _ _ (c .count-half3 .ensures))
 
-count-half-capped-sum-requires-3 : (t : ℕ) → count-half-lts.Need-capped-sum-requires-3 (
-  count-path-leaf-reads.Asked,
-  count-path-leaf-reads.Learnt,
-  count-beside-reads.Asked,
-  count-beside-reads.Learnt,
-  count-half-below t,
-  count-half.Post,
-  capped-sum-reads.Asked,
-  capped-sum-reads.Learnt,
-  count-top-reads.Asked,
-  count-top-reads.Learnt,
-  left-side-reads.Asked,
-  left-side-reads.Learnt,
-  put-in-front-reads.Asked,
-  put-in-front-reads.Learnt,
-  right-side-reads.Asked,
-  right-side-reads.Learnt,
-) (count-half-at t) count-half.Post
+count-half-capped-sum-requires-3 : (t : ℕ) → count-half-lts.Need-capped-sum-requires-3 (count-half-claims t) (count-half-at t) count-half.Post
 count-half-capped-sum-requires-3 t c κs =
     let d = c .before .before .before .before .before .before .before .before .before .before .before .before .count-beside .ensures in
     let e = c .capped-sum2 .ensures in
     (omega arith, omega arith)
 
-count-half-count-top-requires-2 : (t : ℕ) → count-half-lts.Need-count-top-requires-2 (
-  count-path-leaf-reads.Asked,
-  count-path-leaf-reads.Learnt,
-  count-beside-reads.Asked,
-  count-beside-reads.Learnt,
-  count-half-below t,
-  count-half.Post,
-  capped-sum-reads.Asked,
-  capped-sum-reads.Learnt,
-  count-top-reads.Asked,
-  count-top-reads.Learnt,
-  left-side-reads.Asked,
-  left-side-reads.Learnt,
-  put-in-front-reads.Asked,
-  put-in-front-reads.Learnt,
-  right-side-reads.Asked,
-  right-side-reads.Learnt,
-) (count-half-at t) count-half.Post
+count-half-count-top-requires-2 : (t : ℕ) → count-half-lts.Need-count-top-requires-2 (count-half-claims t) (count-half-at t) count-half.Post
 count-half-count-top-requires-2 t c κs =
     let e = c .capped-sum3 .ensures in
     omega arith
 
-count-half-returns-3 : (t : ℕ) → count-half-lts.Need-returns-3 (
-  count-path-leaf-reads.Asked,
-  count-path-leaf-reads.Learnt,
-  count-beside-reads.Asked,
-  count-beside-reads.Learnt,
-  count-half-below t,
-  count-half.Post,
-  capped-sum-reads.Asked,
-  capped-sum-reads.Learnt,
-  count-top-reads.Asked,
-  count-top-reads.Learnt,
-  left-side-reads.Asked,
-  left-side-reads.Learnt,
-  put-in-front-reads.Asked,
-  put-in-front-reads.Learnt,
-  right-side-reads.Asked,
-  right-side-reads.Learnt,
-) (count-half-at t) count-half.Post
+count-half-returns-3 : (t : ℕ) → count-half-lts.Need-returns-3 (count-half-claims t) (count-half-at t) count-half.Post
 count-half-returns-3 t c =
     let b = c .before .before .before .before .before .before .before .before .before .before .before .before .before .before in
     let s = b .before .before .before .before .before .pre .1 in
@@ -672,24 +234,7 @@ count-half-returns-3 t c =
     split-count _ _ _ _ _ ne (s .0) _ (b .count-beside .ensures) _ _ _ _ _ _ _ _ _ (c .before .before .before .before .before .before .before .before .before .before .before .before .if2 .left) (c .before .before .before .before .before .before .before .before .before .before .before .left-side .ensures) u (c .before .before .before .before .before .before .count-half2 .ensures) (c .before .before .before .before .before .right-side .ensures) (front-set _ _ _ _ u) (c .before .before .before .count-half3 .ensures) (c .before .before .capped-sum2 .ensures) (c .before .capped-sum3 .ensures) (c .count-top2 .ensures)
 
 pub +count-half-spec : {M : Type 1} → statement M
-+count-half-spec = close μ-count-half λ t. count-half-lts.spec (
-  count-path-leaf-reads.Asked,
-  count-path-leaf-reads.Learnt,
-  count-beside-reads.Asked,
-  count-beside-reads.Learnt,
-  count-half-below t,
-  count-half.Post,
-  capped-sum-reads.Asked,
-  capped-sum-reads.Learnt,
-  count-top-reads.Asked,
-  count-top-reads.Learnt,
-  left-side-reads.Asked,
-  left-side-reads.Learnt,
-  put-in-front-reads.Asked,
-  put-in-front-reads.Learnt,
-  right-side-reads.Asked,
-  right-side-reads.Learnt,
-)
++count-half-spec = close μ-count-half λ t. count-half-lts.spec (count-half-claims t)
     (count-half-at t)
     count-half.Post
     (count-half-count-path-leaf-requires t)

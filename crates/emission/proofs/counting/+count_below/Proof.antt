@@ -37,280 +37,9 @@ count-below-Inv-loop m level lo k sides node n nodes₀ low₀ i₀ nodes low i 
 abbrev count-below-μ-loop : count-below-lts.MeasureT-loop
 count-below-μ-loop m level lo k sides node n nodes₀ low₀ i₀ nodes low i = n - i
 
-count-below-part-at-requires : (t : ℕ) → count-below-lts.Need-part-at-requires (
-  part-at-reads.Asked,
-  part-at-reads.Learnt,
-  count-leaf-reads.Asked,
-  count-leaf-reads.Learnt,
-  node-at-reads.Asked,
-  node-at-reads.Learnt,
-  child-reads.Asked,
-  child-reads.Learnt,
-  count-below-below t,
-  count-below.Post,
-  capped-sum-reads.Asked,
-  capped-sum-reads.Learnt,
-) (count-below-at t) count-below.Post count-below-Inv-loop count-below-μ-loop
-count-below-part-at-requires t c κs = search needs
-
-count-below-count-leaf-requires : (t : ℕ) → count-below-lts.Need-count-leaf-requires (
-  part-at-reads.Asked,
-  part-at-reads.Learnt,
-  count-leaf-reads.Asked,
-  count-leaf-reads.Learnt,
-  node-at-reads.Asked,
-  node-at-reads.Learnt,
-  child-reads.Asked,
-  child-reads.Learnt,
-  count-below-below t,
-  count-below.Post,
-  capped-sum-reads.Asked,
-  capped-sum-reads.Learnt,
-) (count-below-at t) count-below.Post count-below-Inv-loop count-below-μ-loop
-count-below-count-leaf-requires t c κs = search node-part
-
-count-below-returns : (t : ℕ) → count-below-lts.Need-returns (
-  part-at-reads.Asked,
-  part-at-reads.Learnt,
-  count-leaf-reads.Asked,
-  count-leaf-reads.Learnt,
-  node-at-reads.Asked,
-  node-at-reads.Learnt,
-  child-reads.Asked,
-  child-reads.Learnt,
-  count-below-below t,
-  count-below.Post,
-  capped-sum-reads.Asked,
-  capped-sum-reads.Learnt,
-) (count-below-at t) count-below.Post count-below-Inv-loop count-below-μ-loop
-count-below-returns t c = search count-leaf
-
-count-below-node-at-requires : (t : ℕ) → count-below-lts.Need-node-at-requires (
-  part-at-reads.Asked,
-  part-at-reads.Learnt,
-  count-leaf-reads.Asked,
-  count-leaf-reads.Learnt,
-  node-at-reads.Asked,
-  node-at-reads.Learnt,
-  child-reads.Asked,
-  child-reads.Learnt,
-  count-below-below t,
-  count-below.Post,
-  capped-sum-reads.Asked,
-  capped-sum-reads.Learnt,
-) (count-below-at t) count-below.Post count-below-Inv-loop count-below-μ-loop
-count-below-node-at-requires t c κs = search needs
-
-count-below-cast-n : (t : ℕ) → count-below-lts.Need-cast-n (
-  part-at-reads.Asked,
-  part-at-reads.Learnt,
-  count-leaf-reads.Asked,
-  count-leaf-reads.Learnt,
-  node-at-reads.Asked,
-  node-at-reads.Learnt,
-  child-reads.Asked,
-  child-reads.Learnt,
-  count-below-below t,
-  count-below.Post,
-  capped-sum-reads.Asked,
-  capped-sum-reads.Learnt,
-) (count-below-at t) count-below.Post count-below-Inv-loop count-below-μ-loop
-count-below-cast-n t c = search needs
-
-count-below-loop-holds : (t : ℕ) → count-below-lts.Need-loop-holds (
-  part-at-reads.Asked,
-  part-at-reads.Learnt,
-  count-leaf-reads.Asked,
-  count-leaf-reads.Learnt,
-  node-at-reads.Asked,
-  node-at-reads.Learnt,
-  child-reads.Asked,
-  child-reads.Learnt,
-  count-below-below t,
-  count-below.Post,
-  capped-sum-reads.Asked,
-  capped-sum-reads.Learnt,
-) (count-below-at t) count-below.Post count-below-Inv-loop count-below-μ-loop
-count-below-loop-holds t c = search (count-start, walk-count)
-
-count-below-child-requires : (t : ℕ) → count-below-lts.Need-child-requires (
-  part-at-reads.Asked,
-  part-at-reads.Learnt,
-  count-leaf-reads.Asked,
-  count-leaf-reads.Learnt,
-  node-at-reads.Asked,
-  node-at-reads.Learnt,
-  child-reads.Asked,
-  child-reads.Learnt,
-  count-below-below t,
-  count-below.Post,
-  capped-sum-reads.Asked,
-  capped-sum-reads.Learnt,
-) (count-below-at t) count-below.Post count-below-Inv-loop count-below-μ-loop
-count-below-child-requires t c κs = search walk-nine
-
-count-below-sub-count-below : (t : ℕ) → count-below-lts.Need-sub-count-below (
-  part-at-reads.Asked,
-  part-at-reads.Learnt,
-  count-leaf-reads.Asked,
-  count-leaf-reads.Learnt,
-  node-at-reads.Asked,
-  node-at-reads.Learnt,
-  child-reads.Asked,
-  child-reads.Learnt,
-  count-below-below t,
-  count-below.Post,
-  capped-sum-reads.Asked,
-  capped-sum-reads.Learnt,
-) (count-below-at t) count-below.Post count-below-Inv-loop count-below-μ-loop
-count-below-sub-count-below t c = search needs
-
-count-below-count-below-requires : (t : ℕ) → count-below-lts.Need-count-below-requires (
-  part-at-reads.Asked,
-  part-at-reads.Learnt,
-  count-leaf-reads.Asked,
-  count-leaf-reads.Learnt,
-  node-at-reads.Asked,
-  node-at-reads.Learnt,
-  child-reads.Asked,
-  child-reads.Learnt,
-  count-below-below t,
-  count-below.Post,
-  capped-sum-reads.Asked,
-  capped-sum-reads.Learnt,
-) (count-below-at t) count-below.Post count-below-Inv-loop count-below-μ-loop
-count-below-count-below-requires t c κs = (omega arith, search (count-child, walk-child))
-
-count-below-capped-sum-requires : (t : ℕ) → count-below-lts.Need-capped-sum-requires (
-  part-at-reads.Asked,
-  part-at-reads.Learnt,
-  count-leaf-reads.Asked,
-  count-leaf-reads.Learnt,
-  node-at-reads.Asked,
-  node-at-reads.Learnt,
-  child-reads.Asked,
-  child-reads.Learnt,
-  count-below-below t,
-  count-below.Post,
-  capped-sum-reads.Asked,
-  capped-sum-reads.Learnt,
-) (count-below-at t) count-below.Post count-below-Inv-loop count-below-μ-loop
-count-below-capped-sum-requires t c κs = (search needs, search child-few)
-
-count-below-add-low : (t : ℕ) → count-below-lts.Need-add-low (
-  part-at-reads.Asked,
-  part-at-reads.Learnt,
-  count-leaf-reads.Asked,
-  count-leaf-reads.Learnt,
-  node-at-reads.Asked,
-  node-at-reads.Learnt,
-  child-reads.Asked,
-  child-reads.Learnt,
-  count-below-below t,
-  count-below.Post,
-  capped-sum-reads.Asked,
-  capped-sum-reads.Learnt,
-) (count-below-at t) count-below.Post count-below-Inv-loop count-below-μ-loop
-count-below-add-low t c = search (deep-fits, walk-child)
-
-count-below-add-i : (t : ℕ) → count-below-lts.Need-add-i (
-  part-at-reads.Asked,
-  part-at-reads.Learnt,
-  count-leaf-reads.Asked,
-  count-leaf-reads.Learnt,
-  node-at-reads.Asked,
-  node-at-reads.Learnt,
-  child-reads.Asked,
-  child-reads.Learnt,
-  count-below-below t,
-  count-below.Post,
-  capped-sum-reads.Asked,
-  capped-sum-reads.Learnt,
-) (count-below-at t) count-below.Post count-below-Inv-loop count-below-μ-loop
-count-below-add-i t c = search needs
-
-count-below-loop-less : (t : ℕ) → count-below-lts.Need-loop-less (
-  part-at-reads.Asked,
-  part-at-reads.Learnt,
-  count-leaf-reads.Asked,
-  count-leaf-reads.Learnt,
-  node-at-reads.Asked,
-  node-at-reads.Learnt,
-  child-reads.Asked,
-  child-reads.Learnt,
-  count-below-below t,
-  count-below.Post,
-  capped-sum-reads.Asked,
-  capped-sum-reads.Learnt,
-) (count-below-at t) count-below.Post count-below-Inv-loop count-below-μ-loop
-count-below-loop-less t c = search needs
-
-count-below-loop-again : (t : ℕ) → count-below-lts.Need-loop-again (
-  part-at-reads.Asked,
-  part-at-reads.Learnt,
-  count-leaf-reads.Asked,
-  count-leaf-reads.Learnt,
-  node-at-reads.Asked,
-  node-at-reads.Learnt,
-  child-reads.Asked,
-  child-reads.Learnt,
-  count-below-below t,
-  count-below.Post,
-  capped-sum-reads.Asked,
-  capped-sum-reads.Learnt,
-) (count-below-at t) count-below.Post count-below-Inv-loop count-below-μ-loop
-count-below-loop-again t c = search (count-again, walk-child)
-
-count-below-returns-2 : (t : ℕ) → count-below-lts.Need-returns-2 (
-  part-at-reads.Asked,
-  part-at-reads.Learnt,
-  count-leaf-reads.Asked,
-  count-leaf-reads.Learnt,
-  node-at-reads.Asked,
-  node-at-reads.Learnt,
-  child-reads.Asked,
-  child-reads.Learnt,
-  count-below-below t,
-  count-below.Post,
-  capped-sum-reads.Asked,
-  capped-sum-reads.Learnt,
-) (count-below-at t) count-below.Post count-below-Inv-loop count-below-μ-loop
-count-below-returns-2 t c = search count-dropped
-
-count-below-capped-sum-requires-2 : (t : ℕ) → count-below-lts.Need-capped-sum-requires-2 (
-  part-at-reads.Asked,
-  part-at-reads.Learnt,
-  count-leaf-reads.Asked,
-  count-leaf-reads.Learnt,
-  node-at-reads.Asked,
-  node-at-reads.Learnt,
-  child-reads.Asked,
-  child-reads.Learnt,
-  count-below-below t,
-  count-below.Post,
-  capped-sum-reads.Asked,
-  capped-sum-reads.Learnt,
-) (count-below-at t) count-below.Post count-below-Inv-loop count-below-μ-loop
-count-below-capped-sum-requires-2 t c κs = search needs
-
-count-below-returns-3 : (t : ℕ) → count-below-lts.Need-returns-3 (
-  part-at-reads.Asked,
-  part-at-reads.Learnt,
-  count-leaf-reads.Asked,
-  count-leaf-reads.Learnt,
-  node-at-reads.Asked,
-  node-at-reads.Learnt,
-  child-reads.Asked,
-  child-reads.Learnt,
-  count-below-below t,
-  count-below.Post,
-  capped-sum-reads.Asked,
-  capped-sum-reads.Learnt,
-) (count-below-at t) count-below.Post count-below-Inv-loop count-below-μ-loop
-count-below-returns-3 t c = ⊎-elim (λ x. search count-whole) (λ x. search count-top) (c .before .if2 .came)
-
-pub +count-below-spec : {M : Type 1} → statement M
-+count-below-spec = close μ-count-below λ t. count-below-lts.spec (
+-- what the proof knows of the functions that `count_below` calls, itself below t among them
+abbrev count-below-claims : ℕ → count-below-lts.Claims
+count-below-claims t = (
   part-at-reads.Asked,
   part-at-reads.Learnt,
   count-leaf-reads.Asked,
@@ -324,6 +53,60 @@ pub +count-below-spec : {M : Type 1} → statement M
   capped-sum-reads.Asked,
   capped-sum-reads.Learnt,
 )
+
+count-below-part-at-requires : (t : ℕ) → count-below-lts.Need-part-at-requires (count-below-claims t) (count-below-at t) count-below.Post count-below-Inv-loop count-below-μ-loop
+count-below-part-at-requires t c κs = search needs
+
+count-below-count-leaf-requires : (t : ℕ) → count-below-lts.Need-count-leaf-requires (count-below-claims t) (count-below-at t) count-below.Post count-below-Inv-loop count-below-μ-loop
+count-below-count-leaf-requires t c κs = search node-part
+
+count-below-returns : (t : ℕ) → count-below-lts.Need-returns (count-below-claims t) (count-below-at t) count-below.Post count-below-Inv-loop count-below-μ-loop
+count-below-returns t c = search count-leaf
+
+count-below-node-at-requires : (t : ℕ) → count-below-lts.Need-node-at-requires (count-below-claims t) (count-below-at t) count-below.Post count-below-Inv-loop count-below-μ-loop
+count-below-node-at-requires t c κs = search needs
+
+count-below-cast-n : (t : ℕ) → count-below-lts.Need-cast-n (count-below-claims t) (count-below-at t) count-below.Post count-below-Inv-loop count-below-μ-loop
+count-below-cast-n t c = search needs
+
+count-below-loop-holds : (t : ℕ) → count-below-lts.Need-loop-holds (count-below-claims t) (count-below-at t) count-below.Post count-below-Inv-loop count-below-μ-loop
+count-below-loop-holds t c = search (count-start, walk-count)
+
+count-below-child-requires : (t : ℕ) → count-below-lts.Need-child-requires (count-below-claims t) (count-below-at t) count-below.Post count-below-Inv-loop count-below-μ-loop
+count-below-child-requires t c κs = search walk-nine
+
+count-below-sub-count-below : (t : ℕ) → count-below-lts.Need-sub-count-below (count-below-claims t) (count-below-at t) count-below.Post count-below-Inv-loop count-below-μ-loop
+count-below-sub-count-below t c = search needs
+
+count-below-count-below-requires : (t : ℕ) → count-below-lts.Need-count-below-requires (count-below-claims t) (count-below-at t) count-below.Post count-below-Inv-loop count-below-μ-loop
+count-below-count-below-requires t c κs = (omega arith, search (count-child, walk-child))
+
+count-below-capped-sum-requires : (t : ℕ) → count-below-lts.Need-capped-sum-requires (count-below-claims t) (count-below-at t) count-below.Post count-below-Inv-loop count-below-μ-loop
+count-below-capped-sum-requires t c κs = (search needs, search child-few)
+
+count-below-add-low : (t : ℕ) → count-below-lts.Need-add-low (count-below-claims t) (count-below-at t) count-below.Post count-below-Inv-loop count-below-μ-loop
+count-below-add-low t c = search (deep-fits, walk-child)
+
+count-below-add-i : (t : ℕ) → count-below-lts.Need-add-i (count-below-claims t) (count-below-at t) count-below.Post count-below-Inv-loop count-below-μ-loop
+count-below-add-i t c = search needs
+
+count-below-loop-less : (t : ℕ) → count-below-lts.Need-loop-less (count-below-claims t) (count-below-at t) count-below.Post count-below-Inv-loop count-below-μ-loop
+count-below-loop-less t c = search needs
+
+count-below-loop-again : (t : ℕ) → count-below-lts.Need-loop-again (count-below-claims t) (count-below-at t) count-below.Post count-below-Inv-loop count-below-μ-loop
+count-below-loop-again t c = search (count-again, walk-child)
+
+count-below-returns-2 : (t : ℕ) → count-below-lts.Need-returns-2 (count-below-claims t) (count-below-at t) count-below.Post count-below-Inv-loop count-below-μ-loop
+count-below-returns-2 t c = search count-dropped
+
+count-below-capped-sum-requires-2 : (t : ℕ) → count-below-lts.Need-capped-sum-requires-2 (count-below-claims t) (count-below-at t) count-below.Post count-below-Inv-loop count-below-μ-loop
+count-below-capped-sum-requires-2 t c κs = search needs
+
+count-below-returns-3 : (t : ℕ) → count-below-lts.Need-returns-3 (count-below-claims t) (count-below-at t) count-below.Post count-below-Inv-loop count-below-μ-loop
+count-below-returns-3 t c = ⊎-elim (λ x. search count-whole) (λ x. search count-top) (c .before .if2 .came)
+
+pub +count-below-spec : {M : Type 1} → statement M
++count-below-spec = close μ-count-below λ t. count-below-lts.spec (count-below-claims t)
     (count-below-at t)
     count-below.Post
     count-below-Inv-loop

@@ -1,7 +1,7 @@
 -- `cut::any_shares` meets its contract; its loop is in ScanLoops.
 use Prim.Native.Nat.{_-_}
 use borrow.Author.Needs.{needs}
-use Rattle.geometry.specs.Refine.{anyOf}
+use Rattle.polygons.specs.Lists.{any}
 use Rattle.geometry.specs.Common.{sharesWith}
 use Rattle.geometry.specs.Numbers.{rectsIn}
 use Rattle.geometry.proofs.ScanLoops.{Scan, scan-all, scan-hit, scan-miss, scan-end}
@@ -9,7 +9,7 @@ use Rattle.geometry.proofs.cut.any_shares.Statement.{statement}
 use Rattle.geometry.proofs.cut.any_shares.Tie as tie
 
 abbrev Inv-loop : tie.InvT-loop
-Inv-loop list n s i₀ i = Scan (sharesWith s) list n i (anyOf (sharesWith s) (rectsIn list n))
+Inv-loop list n s i₀ i = Scan (sharesWith s) list n i (any (sharesWith s) (rectsIn list n))
 
 abbrev μ-loop : tie.MeasureT-loop
 μ-loop list n s i₀ i = n - i

@@ -1,7 +1,7 @@
 -- `cut::cut_list` meets its contract; its loop is in FillLoops.
 use Prim.Native.Nat.{_-_}
 use borrow.Author.Needs.{needs}
-use Rattle.geometry.specs.Cut.{cutBy}
+use Rattle.geometry.proofs.CutLaws.{cutBy}
 use Rattle.geometry.proofs.FillLoops.{Filling, cut-start, cut-again, cut-over, cut-end}
 use Rattle.geometry.proofs.cut.cut_list.Statement.{statement}
 use Rattle.geometry.proofs.cut.cut_list.Tie as tie

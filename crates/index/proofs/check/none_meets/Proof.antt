@@ -3,7 +3,7 @@ use borrow.Author.Needs.{needs}
 use Prim.Native.Nat.{_-_, _+_}
 use lib.ListN.{drop, getD, length}
 use borrow.Author.Tests.{not-true, not-false}
-use Rattle.memory.specs.SoundTest.{allPass}
+use Rattle.cover.specs.Tests.{allPass}
 use Rattle.index.specs.Check.{partsApart}
 use Rattle.index.proofs.CheckLoops.{Meeting, meet-start, meet-place, meet-other, meet-stop, meet-on, meet-end}
 use Rattle.index.proofs.check.none_meets.Statement.{statement}

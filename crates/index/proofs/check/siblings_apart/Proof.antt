@@ -2,7 +2,7 @@
 use Prim.Native.Nat.{_-_}
 use lib.ListN.{length}
 use borrow.Author.Tests.{not-true, not-false}
-use Rattle.memory.specs.SoundTest.{pairsPass}
+use Rattle.cover.specs.Tests.{pairsPass}
 use Rattle.index.specs.Check.{partsApart}
 use Rattle.index.proofs.CheckLoops.{Siblings, siblings-start, siblings-stop, siblings-on, siblings-end}
 use borrow.Author.Needs.{needs}

@@ -37,176 +37,9 @@ entries-below-Inv-loop m level lo k node n sum₀ low₀ i₀ sum low i = CountH
 abbrev entries-below-μ-loop : entries-below-lts.MeasureT-loop
 entries-below-μ-loop m level lo k node n sum₀ low₀ i₀ sum low i = n - i
 
-entries-below-count-at-requires : (t : ℕ) → entries-below-lts.Need-count-at-requires (
-  count-at-reads.Asked,
-  count-at-reads.Learnt,
-  node-at-reads.Asked,
-  node-at-reads.Learnt,
-  child-reads.Asked,
-  child-reads.Learnt,
-  entries-below-below t,
-  entries-below.Post,
-) (entries-below-at t) entries-below.Post entries-below-Inv-loop entries-below-μ-loop
-entries-below-count-at-requires t c κs = search needs
-
-entries-below-returns : (t : ℕ) → entries-below-lts.Need-returns (
-  count-at-reads.Asked,
-  count-at-reads.Learnt,
-  node-at-reads.Asked,
-  node-at-reads.Learnt,
-  child-reads.Asked,
-  child-reads.Learnt,
-  entries-below-below t,
-  entries-below.Post,
-) (entries-below-at t) entries-below.Post entries-below-Inv-loop entries-below-μ-loop
-entries-below-returns t c = search held-leaf
-
-entries-below-node-at-requires : (t : ℕ) → entries-below-lts.Need-node-at-requires (
-  count-at-reads.Asked,
-  count-at-reads.Learnt,
-  node-at-reads.Asked,
-  node-at-reads.Learnt,
-  child-reads.Asked,
-  child-reads.Learnt,
-  entries-below-below t,
-  entries-below.Post,
-) (entries-below-at t) entries-below.Post entries-below-Inv-loop entries-below-μ-loop
-entries-below-node-at-requires t c κs = search needs
-
-entries-below-cast-n : (t : ℕ) → entries-below-lts.Need-cast-n (
-  count-at-reads.Asked,
-  count-at-reads.Learnt,
-  node-at-reads.Asked,
-  node-at-reads.Learnt,
-  child-reads.Asked,
-  child-reads.Learnt,
-  entries-below-below t,
-  entries-below.Post,
-) (entries-below-at t) entries-below.Post entries-below-Inv-loop entries-below-μ-loop
-entries-below-cast-n t c = search needs
-
-entries-below-loop-holds : (t : ℕ) → entries-below-lts.Need-loop-holds (
-  count-at-reads.Asked,
-  count-at-reads.Learnt,
-  node-at-reads.Asked,
-  node-at-reads.Learnt,
-  child-reads.Asked,
-  child-reads.Learnt,
-  entries-below-below t,
-  entries-below.Post,
-) (entries-below-at t) entries-below.Post entries-below-Inv-loop entries-below-μ-loop
-entries-below-loop-holds t c = search (held-start, walk-count)
-
-entries-below-child-requires : (t : ℕ) → entries-below-lts.Need-child-requires (
-  count-at-reads.Asked,
-  count-at-reads.Learnt,
-  node-at-reads.Asked,
-  node-at-reads.Learnt,
-  child-reads.Asked,
-  child-reads.Learnt,
-  entries-below-below t,
-  entries-below.Post,
-) (entries-below-at t) entries-below.Post entries-below-Inv-loop entries-below-μ-loop
-entries-below-child-requires t c κs = search walk-nine
-
-entries-below-sub-entries-below : (t : ℕ) → entries-below-lts.Need-sub-entries-below (
-  count-at-reads.Asked,
-  count-at-reads.Learnt,
-  node-at-reads.Asked,
-  node-at-reads.Learnt,
-  child-reads.Asked,
-  child-reads.Learnt,
-  entries-below-below t,
-  entries-below.Post,
-) (entries-below-at t) entries-below.Post entries-below-Inv-loop entries-below-μ-loop
-entries-below-sub-entries-below t c = search needs
-
-entries-below-entries-below-requires : (t : ℕ) → entries-below-lts.Need-entries-below-requires (
-  count-at-reads.Asked,
-  count-at-reads.Learnt,
-  node-at-reads.Asked,
-  node-at-reads.Learnt,
-  child-reads.Asked,
-  child-reads.Learnt,
-  entries-below-below t,
-  entries-below.Post,
-) (entries-below-at t) entries-below.Post entries-below-Inv-loop entries-below-μ-loop
-entries-below-entries-below-requires t c κs = (omega arith, search (child-walkable, walk-child))
-
-entries-below-add-sum : (t : ℕ) → entries-below-lts.Need-add-sum (
-  count-at-reads.Asked,
-  count-at-reads.Learnt,
-  node-at-reads.Asked,
-  node-at-reads.Learnt,
-  child-reads.Asked,
-  child-reads.Learnt,
-  entries-below-below t,
-  entries-below.Post,
-) (entries-below-at t) entries-below.Post entries-below-Inv-loop entries-below-μ-loop
-entries-below-add-sum t c = search (held-fits, walk-child)
-
-entries-below-add-low : (t : ℕ) → entries-below-lts.Need-add-low (
-  count-at-reads.Asked,
-  count-at-reads.Learnt,
-  node-at-reads.Asked,
-  node-at-reads.Learnt,
-  child-reads.Asked,
-  child-reads.Learnt,
-  entries-below-below t,
-  entries-below.Post,
-) (entries-below-at t) entries-below.Post entries-below-Inv-loop entries-below-μ-loop
-entries-below-add-low t c = search (child-fits, walk-child)
-
-entries-below-add-i : (t : ℕ) → entries-below-lts.Need-add-i (
-  count-at-reads.Asked,
-  count-at-reads.Learnt,
-  node-at-reads.Asked,
-  node-at-reads.Learnt,
-  child-reads.Asked,
-  child-reads.Learnt,
-  entries-below-below t,
-  entries-below.Post,
-) (entries-below-at t) entries-below.Post entries-below-Inv-loop entries-below-μ-loop
-entries-below-add-i t c = search needs
-
-entries-below-loop-less : (t : ℕ) → entries-below-lts.Need-loop-less (
-  count-at-reads.Asked,
-  count-at-reads.Learnt,
-  node-at-reads.Asked,
-  node-at-reads.Learnt,
-  child-reads.Asked,
-  child-reads.Learnt,
-  entries-below-below t,
-  entries-below.Post,
-) (entries-below-at t) entries-below.Post entries-below-Inv-loop entries-below-μ-loop
-entries-below-loop-less t c = search needs
-
-entries-below-loop-again : (t : ℕ) → entries-below-lts.Need-loop-again (
-  count-at-reads.Asked,
-  count-at-reads.Learnt,
-  node-at-reads.Asked,
-  node-at-reads.Learnt,
-  child-reads.Asked,
-  child-reads.Learnt,
-  entries-below-below t,
-  entries-below.Post,
-) (entries-below-at t) entries-below.Post entries-below-Inv-loop entries-below-μ-loop
-entries-below-loop-again t c = search (held-next, walk-child)
-
-entries-below-returns-2 : (t : ℕ) → entries-below-lts.Need-returns-2 (
-  count-at-reads.Asked,
-  count-at-reads.Learnt,
-  node-at-reads.Asked,
-  node-at-reads.Learnt,
-  child-reads.Asked,
-  child-reads.Learnt,
-  entries-below-below t,
-  entries-below.Post,
-) (entries-below-at t) entries-below.Post entries-below-Inv-loop entries-below-μ-loop
-entries-below-returns-2 t c = search held-end
-
-pub +entries-below-spec : {M : Type 1} → statement M
-+entries-below-spec = close μ-entries-below λ t. entries-below-lts.spec (
+-- what the proof knows of the functions that `entries_below` calls, itself below t among them
+abbrev entries-below-claims : ℕ → entries-below-lts.Claims
+entries-below-claims t = (
   count-at-reads.Asked,
   count-at-reads.Learnt,
   node-at-reads.Asked,
@@ -216,6 +49,51 @@ pub +entries-below-spec : {M : Type 1} → statement M
   entries-below-below t,
   entries-below.Post,
 )
+
+entries-below-count-at-requires : (t : ℕ) → entries-below-lts.Need-count-at-requires (entries-below-claims t) (entries-below-at t) entries-below.Post entries-below-Inv-loop entries-below-μ-loop
+entries-below-count-at-requires t c κs = search needs
+
+entries-below-returns : (t : ℕ) → entries-below-lts.Need-returns (entries-below-claims t) (entries-below-at t) entries-below.Post entries-below-Inv-loop entries-below-μ-loop
+entries-below-returns t c = search held-leaf
+
+entries-below-node-at-requires : (t : ℕ) → entries-below-lts.Need-node-at-requires (entries-below-claims t) (entries-below-at t) entries-below.Post entries-below-Inv-loop entries-below-μ-loop
+entries-below-node-at-requires t c κs = search needs
+
+entries-below-cast-n : (t : ℕ) → entries-below-lts.Need-cast-n (entries-below-claims t) (entries-below-at t) entries-below.Post entries-below-Inv-loop entries-below-μ-loop
+entries-below-cast-n t c = search needs
+
+entries-below-loop-holds : (t : ℕ) → entries-below-lts.Need-loop-holds (entries-below-claims t) (entries-below-at t) entries-below.Post entries-below-Inv-loop entries-below-μ-loop
+entries-below-loop-holds t c = search (held-start, walk-count)
+
+entries-below-child-requires : (t : ℕ) → entries-below-lts.Need-child-requires (entries-below-claims t) (entries-below-at t) entries-below.Post entries-below-Inv-loop entries-below-μ-loop
+entries-below-child-requires t c κs = search walk-nine
+
+entries-below-sub-entries-below : (t : ℕ) → entries-below-lts.Need-sub-entries-below (entries-below-claims t) (entries-below-at t) entries-below.Post entries-below-Inv-loop entries-below-μ-loop
+entries-below-sub-entries-below t c = search needs
+
+entries-below-entries-below-requires : (t : ℕ) → entries-below-lts.Need-entries-below-requires (entries-below-claims t) (entries-below-at t) entries-below.Post entries-below-Inv-loop entries-below-μ-loop
+entries-below-entries-below-requires t c κs = (omega arith, search (child-walkable, walk-child))
+
+entries-below-add-sum : (t : ℕ) → entries-below-lts.Need-add-sum (entries-below-claims t) (entries-below-at t) entries-below.Post entries-below-Inv-loop entries-below-μ-loop
+entries-below-add-sum t c = search (held-fits, walk-child)
+
+entries-below-add-low : (t : ℕ) → entries-below-lts.Need-add-low (entries-below-claims t) (entries-below-at t) entries-below.Post entries-below-Inv-loop entries-below-μ-loop
+entries-below-add-low t c = search (child-fits, walk-child)
+
+entries-below-add-i : (t : ℕ) → entries-below-lts.Need-add-i (entries-below-claims t) (entries-below-at t) entries-below.Post entries-below-Inv-loop entries-below-μ-loop
+entries-below-add-i t c = search needs
+
+entries-below-loop-less : (t : ℕ) → entries-below-lts.Need-loop-less (entries-below-claims t) (entries-below-at t) entries-below.Post entries-below-Inv-loop entries-below-μ-loop
+entries-below-loop-less t c = search needs
+
+entries-below-loop-again : (t : ℕ) → entries-below-lts.Need-loop-again (entries-below-claims t) (entries-below-at t) entries-below.Post entries-below-Inv-loop entries-below-μ-loop
+entries-below-loop-again t c = search (held-next, walk-child)
+
+entries-below-returns-2 : (t : ℕ) → entries-below-lts.Need-returns-2 (entries-below-claims t) (entries-below-at t) entries-below.Post entries-below-Inv-loop entries-below-μ-loop
+entries-below-returns-2 t c = search held-end
+
+pub +entries-below-spec : {M : Type 1} → statement M
++entries-below-spec = close μ-entries-below λ t. entries-below-lts.spec (entries-below-claims t)
     (entries-below-at t)
     entries-below.Post
     entries-below-Inv-loop

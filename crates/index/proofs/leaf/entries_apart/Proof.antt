@@ -4,7 +4,8 @@ use Prim.Native.Nat.{_-_}
 use borrow.Author.Tests.{not-true, not-false}
 use Rattle.memory.specs.Fanout.{fanout}
 use Rattle.memory.specs.Layout.{itemCount, entriesIn}
-use Rattle.memory.specs.SoundTest.{pairsPass, apartTest}
+use Rattle.cover.specs.Tests.{pairsPass}
+use Rattle.memory.specs.SoundTest.{apartTest}
 use Rattle.index.proofs.LeafLaws.{Differing, differ-start, differ-stop, differ-on, differ-end, differ-all}
 use Rattle.index.proofs.leaf.entries_apart.Statement.{statement}
 use Rattle.index.proofs.leaf.entries_apart.Tie as tie

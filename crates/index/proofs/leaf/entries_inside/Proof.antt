@@ -4,7 +4,8 @@ use Prim.Native.Nat.{_-_}
 use borrow.Author.Tests.{not-true, not-false}
 use Rattle.memory.specs.Fanout.{fanout}
 use Rattle.memory.specs.Layout.{itemCount, polygonIn, entriesIn}
-use Rattle.memory.specs.SoundTest.{allPass, itemTest}
+use Rattle.cover.specs.Tests.{allPass}
+use Rattle.memory.specs.SoundTest.{itemTest}
 use Rattle.layout.proofs.NodeLaws.{rects-long}
 use Rattle.index.proofs.LeafLaws.{Holding, hold-start, hold-stop, hold-on, hold-end}
 use Rattle.index.proofs.leaf.entries_inside.Statement.{statement}

@@ -5,7 +5,8 @@ use lib.ListN.{drop}
 use mathlib.Core.Logic.{⊎-elim}
 use Rattle.memory.specs.Fanout.{fanout}
 use Rattle.memory.specs.Layout.{entryIn, entriesIn}
-use Rattle.memory.specs.SoundTest.{allPass, apartTest}
+use Rattle.cover.specs.Tests.{allPass}
+use Rattle.memory.specs.SoundTest.{apartTest}
 use Rattle.index.proofs.LeafLaws.{Unlike, unlike-start, unlike-x, unlike-y, unlike-past, unlike-stop, unlike-end}
 use Rattle.index.proofs.leaf.none_like.Statement.{statement}
 use Rattle.index.proofs.leaf.none_like.Tie as tie

@@ -25,302 +25,9 @@ descend-at t = and 2 descend-kinds.ps (is 2 descend-kinds.ps μ-descend t) desce
 abbrev descend-below : ℕ → In 2 descend-kinds.ps
 descend-below t = and 2 descend-kinds.ps (falls 2 descend-kinds.ps _<_ μ-descend t) descend.Pre
 
-descend-returns : (t : ℕ) → descend-lts.Need-returns (
-  path-polygon-reads.Asked,
-  path-polygon-reads.Learnt,
-  choose-reads.Asked,
-  choose-reads.Learnt,
-  child-at-reads.Asked,
-  child-at-reads.Learnt,
-  put-level-reads.Asked,
-  put-level-reads.Learnt,
-  descend-below t,
-  descend.Post,
-) (descend-at t) descend.Post
-descend-returns t c = search at-leaf
-
-descend-mul-at : (t : ℕ) → descend-lts.Need-mul-at (
-  path-polygon-reads.Asked,
-  path-polygon-reads.Learnt,
-  choose-reads.Asked,
-  choose-reads.Learnt,
-  child-at-reads.Asked,
-  child-at-reads.Learnt,
-  put-level-reads.Asked,
-  put-level-reads.Learnt,
-  descend-below t,
-  descend.Post,
-) (descend-at t) descend.Post
-descend-mul-at t c = search needs
-
-descend-mul-k : (t : ℕ) → descend-lts.Need-mul-k (
-  path-polygon-reads.Asked,
-  path-polygon-reads.Learnt,
-  choose-reads.Asked,
-  choose-reads.Learnt,
-  child-at-reads.Asked,
-  child-at-reads.Learnt,
-  put-level-reads.Asked,
-  put-level-reads.Learnt,
-  descend-below t,
-  descend.Post,
-) (descend-at t) descend.Post
-descend-mul-k t c = search needs
-
-descend-slice-read-k : (t : ℕ) → descend-lts.Need-slice-read-k (
-  path-polygon-reads.Asked,
-  path-polygon-reads.Learnt,
-  choose-reads.Asked,
-  choose-reads.Learnt,
-  child-at-reads.Asked,
-  child-at-reads.Learnt,
-  put-level-reads.Asked,
-  put-level-reads.Learnt,
-  descend-below t,
-  descend.Post,
-) (descend-at t) descend.Post
-descend-slice-read-k t c = search needs
-
-descend-path-polygon-requires : (t : ℕ) → descend-lts.Need-path-polygon-requires (
-  path-polygon-reads.Asked,
-  path-polygon-reads.Learnt,
-  choose-reads.Asked,
-  choose-reads.Learnt,
-  child-at-reads.Asked,
-  child-at-reads.Learnt,
-  put-level-reads.Asked,
-  put-level-reads.Learnt,
-  descend-below t,
-  descend.Post,
-) (descend-at t) descend.Post
-descend-path-polygon-requires t c κs = search needs
-
-descend-choose-requires : (t : ℕ) → descend-lts.Need-choose-requires (
-  path-polygon-reads.Asked,
-  path-polygon-reads.Learnt,
-  choose-reads.Asked,
-  choose-reads.Learnt,
-  child-at-reads.Asked,
-  child-at-reads.Learnt,
-  put-level-reads.Asked,
-  put-level-reads.Learnt,
-  descend-below t,
-  descend.Post,
-) (descend-at t) descend.Post
-descend-choose-requires t c κs = (search descend-routing, search needs, search needs)
-
-descend-enum-known-taken : (t : ℕ) → descend-lts.Need-enum-known-taken (
-  path-polygon-reads.Asked,
-  path-polygon-reads.Learnt,
-  choose-reads.Asked,
-  choose-reads.Learnt,
-  child-at-reads.Asked,
-  child-at-reads.Learnt,
-  put-level-reads.Asked,
-  put-level-reads.Learnt,
-  descend-below t,
-  descend.Post,
-) (descend-at t) descend.Post
-descend-enum-known-taken t c = search needs
-
-descend-enum-told : (t : ℕ) → descend-lts.Need-enum-told (
-  path-polygon-reads.Asked,
-  path-polygon-reads.Learnt,
-  choose-reads.Asked,
-  choose-reads.Learnt,
-  child-at-reads.Asked,
-  child-at-reads.Learnt,
-  put-level-reads.Asked,
-  put-level-reads.Learnt,
-  descend-below t,
-  descend.Post,
-) (descend-at t) descend.Post
-descend-enum-told t c = search needs
-
-descend-same-length : (t : ℕ) → descend-lts.Need-same-length (
-  path-polygon-reads.Asked,
-  path-polygon-reads.Learnt,
-  choose-reads.Asked,
-  choose-reads.Learnt,
-  child-at-reads.Asked,
-  child-at-reads.Learnt,
-  put-level-reads.Asked,
-  put-level-reads.Learnt,
-  descend-below t,
-  descend.Post,
-) (descend-at t) descend.Post
-descend-same-length t c = search needs
-
-descend-returns-2 : (t : ℕ) → descend-lts.Need-returns-2 (
-  path-polygon-reads.Asked,
-  path-polygon-reads.Learnt,
-  choose-reads.Asked,
-  choose-reads.Learnt,
-  child-at-reads.Asked,
-  child-at-reads.Learnt,
-  put-level-reads.Asked,
-  put-level-reads.Learnt,
-  descend-below t,
-  descend.Post,
-) (descend-at t) descend.Post
-descend-returns-2 t c = search descend-stop
-
-descend-cast-path : (t : ℕ) → descend-lts.Need-cast-path (
-  path-polygon-reads.Asked,
-  path-polygon-reads.Learnt,
-  choose-reads.Asked,
-  choose-reads.Learnt,
-  child-at-reads.Asked,
-  child-at-reads.Learnt,
-  put-level-reads.Asked,
-  put-level-reads.Learnt,
-  descend-below t,
-  descend.Post,
-) (descend-at t) descend.Post
-descend-cast-path t c = search place-cast
-
-descend-add-path : (t : ℕ) → descend-lts.Need-add-path (
-  path-polygon-reads.Asked,
-  path-polygon-reads.Learnt,
-  choose-reads.Asked,
-  choose-reads.Learnt,
-  child-at-reads.Asked,
-  child-at-reads.Learnt,
-  put-level-reads.Asked,
-  put-level-reads.Learnt,
-  descend-below t,
-  descend.Post,
-) (descend-at t) descend.Post
-descend-add-path t c = search needs
-
-descend-mul-path : (t : ℕ) → descend-lts.Need-mul-path (
-  path-polygon-reads.Asked,
-  path-polygon-reads.Learnt,
-  choose-reads.Asked,
-  choose-reads.Learnt,
-  child-at-reads.Asked,
-  child-at-reads.Learnt,
-  put-level-reads.Asked,
-  put-level-reads.Learnt,
-  descend-below t,
-  descend.Post,
-) (descend-at t) descend.Post
-descend-mul-path t c = search needs
-
-descend-slice-write-path : (t : ℕ) → descend-lts.Need-slice-write-path (
-  path-polygon-reads.Asked,
-  path-polygon-reads.Learnt,
-  choose-reads.Asked,
-  choose-reads.Learnt,
-  child-at-reads.Asked,
-  child-at-reads.Learnt,
-  put-level-reads.Asked,
-  put-level-reads.Learnt,
-  descend-below t,
-  descend.Post,
-) (descend-at t) descend.Post
-descend-slice-write-path t c = search needs
-
-descend-child-at-requires : (t : ℕ) → descend-lts.Need-child-at-requires (
-  path-polygon-reads.Asked,
-  path-polygon-reads.Learnt,
-  choose-reads.Asked,
-  choose-reads.Learnt,
-  child-at-reads.Asked,
-  child-at-reads.Learnt,
-  put-level-reads.Asked,
-  put-level-reads.Learnt,
-  descend-below t,
-  descend.Post,
-) (descend-at t) descend.Post
-descend-child-at-requires t c κs = (search needs, search place-few)
-
-descend-sub-put-level : (t : ℕ) → descend-lts.Need-sub-put-level (
-  path-polygon-reads.Asked,
-  path-polygon-reads.Learnt,
-  choose-reads.Asked,
-  choose-reads.Learnt,
-  child-at-reads.Asked,
-  child-at-reads.Learnt,
-  put-level-reads.Asked,
-  put-level-reads.Learnt,
-  descend-below t,
-  descend.Post,
-) (descend-at t) descend.Post
-descend-sub-put-level t c = search needs
-
-descend-put-level-requires : (t : ℕ) → descend-lts.Need-put-level-requires (
-  path-polygon-reads.Asked,
-  path-polygon-reads.Learnt,
-  choose-reads.Asked,
-  choose-reads.Learnt,
-  child-at-reads.Asked,
-  child-at-reads.Learnt,
-  put-level-reads.Asked,
-  put-level-reads.Learnt,
-  descend-below t,
-  descend.Post,
-) (descend-at t) descend.Post
-descend-put-level-requires t c κs = (search child-room, search descend-few)
-
-descend-sub-descend : (t : ℕ) → descend-lts.Need-sub-descend (
-  path-polygon-reads.Asked,
-  path-polygon-reads.Learnt,
-  choose-reads.Asked,
-  choose-reads.Learnt,
-  child-at-reads.Asked,
-  child-at-reads.Learnt,
-  put-level-reads.Asked,
-  put-level-reads.Learnt,
-  descend-below t,
-  descend.Post,
-) (descend-at t) descend.Post
-descend-sub-descend t c = search needs
-
-descend-descend-requires : (t : ℕ) → descend-lts.Need-descend-requires (
-  path-polygon-reads.Asked,
-  path-polygon-reads.Learnt,
-  choose-reads.Asked,
-  choose-reads.Learnt,
-  child-at-reads.Asked,
-  child-at-reads.Learnt,
-  put-level-reads.Asked,
-  put-level-reads.Learnt,
-  descend-below t,
-  descend.Post,
-) (descend-at t) descend.Post
-descend-descend-requires t c κs = (omega arith, search (descend-child, c .before .before .before .put-level .ensures, c .before .before .before .before .before .child-at .ensures))
-
-descend-same-length-2 : (t : ℕ) → descend-lts.Need-same-length-2 (
-  path-polygon-reads.Asked,
-  path-polygon-reads.Learnt,
-  choose-reads.Asked,
-  choose-reads.Learnt,
-  child-at-reads.Asked,
-  child-at-reads.Learnt,
-  put-level-reads.Asked,
-  put-level-reads.Learnt,
-  descend-below t,
-  descend.Post,
-) (descend-at t) descend.Post
-descend-same-length-2 t c = search descend-length
-
-descend-returns-3 : (t : ℕ) → descend-lts.Need-returns-3 (
-  path-polygon-reads.Asked,
-  path-polygon-reads.Learnt,
-  choose-reads.Asked,
-  choose-reads.Learnt,
-  child-at-reads.Asked,
-  child-at-reads.Learnt,
-  put-level-reads.Asked,
-  put-level-reads.Learnt,
-  descend-below t,
-  descend.Post,
-) (descend-at t) descend.Post
-descend-returns-3 t c = search descend-on
-
-pub +descend-spec : {M : Type 1} → statement M
-+descend-spec = close μ-descend λ t. descend-lts.spec (
+-- what the proof knows of the functions that `descend` calls, itself below t among them
+abbrev descend-claims : ℕ → descend-lts.Claims
+descend-claims t = (
   path-polygon-reads.Asked,
   path-polygon-reads.Learnt,
   choose-reads.Asked,
@@ -332,6 +39,72 @@ pub +descend-spec : {M : Type 1} → statement M
   descend-below t,
   descend.Post,
 )
+
+descend-returns : (t : ℕ) → descend-lts.Need-returns (descend-claims t) (descend-at t) descend.Post
+descend-returns t c = search at-leaf
+
+descend-mul-at : (t : ℕ) → descend-lts.Need-mul-at (descend-claims t) (descend-at t) descend.Post
+descend-mul-at t c = search needs
+
+descend-mul-k : (t : ℕ) → descend-lts.Need-mul-k (descend-claims t) (descend-at t) descend.Post
+descend-mul-k t c = search needs
+
+descend-slice-read-k : (t : ℕ) → descend-lts.Need-slice-read-k (descend-claims t) (descend-at t) descend.Post
+descend-slice-read-k t c = search needs
+
+descend-path-polygon-requires : (t : ℕ) → descend-lts.Need-path-polygon-requires (descend-claims t) (descend-at t) descend.Post
+descend-path-polygon-requires t c κs = search needs
+
+descend-choose-requires : (t : ℕ) → descend-lts.Need-choose-requires (descend-claims t) (descend-at t) descend.Post
+descend-choose-requires t c κs = (search descend-routing, search needs, search needs)
+
+descend-enum-known-taken : (t : ℕ) → descend-lts.Need-enum-known-taken (descend-claims t) (descend-at t) descend.Post
+descend-enum-known-taken t c = search needs
+
+descend-enum-told : (t : ℕ) → descend-lts.Need-enum-told (descend-claims t) (descend-at t) descend.Post
+descend-enum-told t c = search needs
+
+descend-same-length : (t : ℕ) → descend-lts.Need-same-length (descend-claims t) (descend-at t) descend.Post
+descend-same-length t c = search needs
+
+descend-returns-2 : (t : ℕ) → descend-lts.Need-returns-2 (descend-claims t) (descend-at t) descend.Post
+descend-returns-2 t c = search descend-stop
+
+descend-cast-path : (t : ℕ) → descend-lts.Need-cast-path (descend-claims t) (descend-at t) descend.Post
+descend-cast-path t c = search place-cast
+
+descend-add-path : (t : ℕ) → descend-lts.Need-add-path (descend-claims t) (descend-at t) descend.Post
+descend-add-path t c = search needs
+
+descend-mul-path : (t : ℕ) → descend-lts.Need-mul-path (descend-claims t) (descend-at t) descend.Post
+descend-mul-path t c = search needs
+
+descend-slice-write-path : (t : ℕ) → descend-lts.Need-slice-write-path (descend-claims t) (descend-at t) descend.Post
+descend-slice-write-path t c = search needs
+
+descend-child-at-requires : (t : ℕ) → descend-lts.Need-child-at-requires (descend-claims t) (descend-at t) descend.Post
+descend-child-at-requires t c κs = (search needs, search place-few)
+
+descend-sub-put-level : (t : ℕ) → descend-lts.Need-sub-put-level (descend-claims t) (descend-at t) descend.Post
+descend-sub-put-level t c = search needs
+
+descend-put-level-requires : (t : ℕ) → descend-lts.Need-put-level-requires (descend-claims t) (descend-at t) descend.Post
+descend-put-level-requires t c κs = (search child-room, search descend-few)
+
+descend-sub-descend : (t : ℕ) → descend-lts.Need-sub-descend (descend-claims t) (descend-at t) descend.Post
+descend-sub-descend t c = search needs
+
+descend-descend-requires : (t : ℕ) → descend-lts.Need-descend-requires (descend-claims t) (descend-at t) descend.Post
+descend-descend-requires t c κs = (omega arith, search (descend-child, c .before .before .before .put-level .ensures, c .before .before .before .before .before .child-at .ensures))
+
+descend-same-length-2 : (t : ℕ) → descend-lts.Need-same-length-2 (descend-claims t) (descend-at t) descend.Post
+descend-same-length-2 t c = search descend-length
+
+descend-returns-3 : (t : ℕ) → descend-lts.Need-returns-3 (descend-claims t) (descend-at t) descend.Post
+descend-returns-3 t c = search descend-on
+
+pub +descend-spec : {M : Type 1} → statement M
++descend-spec = close μ-descend λ t. descend-lts.spec (descend-claims t)
     (descend-at t)
     descend.Post
     (descend-returns t)

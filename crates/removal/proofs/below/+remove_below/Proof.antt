@@ -31,216 +31,9 @@ remove-below-below t =
     (falls 1 remove-below-kinds.ps _<_ μ-remove-below t)
     remove-below.Pre
 
-remove-below-part-at-requires : (t : ℕ) → remove-below-lts.Need-part-at-requires (
-  part-at-reads.Asked,
-  part-at-reads.Learnt,
-  entry-place-reads.Asked,
-  entry-place-reads.Learnt,
-  take-entry-reads.Asked,
-  take-entry-reads.Learnt,
-  child-place-reads.Asked,
-  child-place-reads.Learnt,
-  remove-below-below t,
-  remove-below.Post,
-  take-branch-reads.Asked,
-  take-branch-reads.Learnt,
-) (remove-below-at t) remove-below.Post
-remove-below-part-at-requires t c κs = search needs
-
-remove-below-entry-place-requires : (t : ℕ) → remove-below-lts.Need-entry-place-requires (
-  part-at-reads.Asked,
-  part-at-reads.Learnt,
-  entry-place-reads.Asked,
-  entry-place-reads.Learnt,
-  take-entry-reads.Asked,
-  take-entry-reads.Learnt,
-  child-place-reads.Asked,
-  child-place-reads.Learnt,
-  remove-below-below t,
-  remove-below.Post,
-  take-branch-reads.Asked,
-  take-branch-reads.Learnt,
-) (remove-below-at t) remove-below.Post
-remove-below-entry-place-requires t c κs = search below-holds
-
-remove-below-take-entry-requires : (t : ℕ) → remove-below-lts.Need-take-entry-requires (
-  part-at-reads.Asked,
-  part-at-reads.Learnt,
-  entry-place-reads.Asked,
-  entry-place-reads.Learnt,
-  take-entry-reads.Asked,
-  take-entry-reads.Learnt,
-  child-place-reads.Asked,
-  child-place-reads.Learnt,
-  remove-below-below t,
-  remove-below.Post,
-  take-branch-reads.Asked,
-  take-branch-reads.Learnt,
-) (remove-below-at t) remove-below.Post
-remove-below-take-entry-requires t c κs = search below-takes
-
-remove-below-same-length : (t : ℕ) → remove-below-lts.Need-same-length (
-  part-at-reads.Asked,
-  part-at-reads.Learnt,
-  entry-place-reads.Asked,
-  entry-place-reads.Learnt,
-  take-entry-reads.Asked,
-  take-entry-reads.Learnt,
-  child-place-reads.Asked,
-  child-place-reads.Learnt,
-  remove-below-below t,
-  remove-below.Post,
-  take-branch-reads.Asked,
-  take-branch-reads.Learnt,
-) (remove-below-at t) remove-below.Post
-remove-below-same-length t c = search needs
-
-remove-below-returns : (t : ℕ) → remove-below-lts.Need-returns (
-  part-at-reads.Asked,
-  part-at-reads.Learnt,
-  entry-place-reads.Asked,
-  entry-place-reads.Learnt,
-  take-entry-reads.Asked,
-  take-entry-reads.Learnt,
-  child-place-reads.Asked,
-  child-place-reads.Learnt,
-  remove-below-below t,
-  remove-below.Post,
-  take-branch-reads.Asked,
-  take-branch-reads.Learnt,
-) (remove-below-at t) remove-below.Post
-remove-below-returns t c = search below-leaf
-
-remove-below-child-place-requires : (t : ℕ) → remove-below-lts.Need-child-place-requires (
-  part-at-reads.Asked,
-  part-at-reads.Learnt,
-  entry-place-reads.Asked,
-  entry-place-reads.Learnt,
-  take-entry-reads.Asked,
-  take-entry-reads.Learnt,
-  child-place-reads.Asked,
-  child-place-reads.Learnt,
-  remove-below-below t,
-  remove-below.Post,
-  take-branch-reads.Asked,
-  take-branch-reads.Learnt,
-) (remove-below-at t) remove-below.Post
-remove-below-child-place-requires t c κs = search below-children
-
-remove-below-sub-remove-below : (t : ℕ) → remove-below-lts.Need-sub-remove-below (
-  part-at-reads.Asked,
-  part-at-reads.Learnt,
-  entry-place-reads.Asked,
-  entry-place-reads.Learnt,
-  take-entry-reads.Asked,
-  take-entry-reads.Learnt,
-  child-place-reads.Asked,
-  child-place-reads.Learnt,
-  remove-below-below t,
-  remove-below.Post,
-  take-branch-reads.Asked,
-  take-branch-reads.Learnt,
-) (remove-below-at t) remove-below.Post
-remove-below-sub-remove-below t c = search needs
-
-remove-below-remove-below-requires : (t : ℕ) → remove-below-lts.Need-remove-below-requires (
-  part-at-reads.Asked,
-  part-at-reads.Learnt,
-  entry-place-reads.Asked,
-  entry-place-reads.Learnt,
-  take-entry-reads.Asked,
-  take-entry-reads.Learnt,
-  child-place-reads.Asked,
-  child-place-reads.Learnt,
-  remove-below-below t,
-  remove-below.Post,
-  take-branch-reads.Asked,
-  take-branch-reads.Learnt,
-) (remove-below-at t) remove-below.Post
-remove-below-remove-below-requires t c κs = (omega arith, search below-child)
-
-remove-below-same-length-2 : (t : ℕ) → remove-below-lts.Need-same-length-2 (
-  part-at-reads.Asked,
-  part-at-reads.Learnt,
-  entry-place-reads.Asked,
-  entry-place-reads.Learnt,
-  take-entry-reads.Asked,
-  take-entry-reads.Learnt,
-  child-place-reads.Asked,
-  child-place-reads.Learnt,
-  remove-below-below t,
-  remove-below.Post,
-  take-branch-reads.Asked,
-  take-branch-reads.Learnt,
-) (remove-below-at t) remove-below.Post
-remove-below-same-length-2 t c = search needs
-
-remove-below-returns-2 : (t : ℕ) → remove-below-lts.Need-returns-2 (
-  part-at-reads.Asked,
-  part-at-reads.Learnt,
-  entry-place-reads.Asked,
-  entry-place-reads.Learnt,
-  take-entry-reads.Asked,
-  take-entry-reads.Learnt,
-  child-place-reads.Asked,
-  child-place-reads.Learnt,
-  remove-below-below t,
-  remove-below.Post,
-  take-branch-reads.Asked,
-  take-branch-reads.Learnt,
-) (remove-below-at t) remove-below.Post
-remove-below-returns-2 t c = search below-stays
-
-remove-below-take-branch-requires : (t : ℕ) → remove-below-lts.Need-take-branch-requires (
-  part-at-reads.Asked,
-  part-at-reads.Learnt,
-  entry-place-reads.Asked,
-  entry-place-reads.Learnt,
-  take-entry-reads.Asked,
-  take-entry-reads.Learnt,
-  child-place-reads.Asked,
-  child-place-reads.Learnt,
-  remove-below-below t,
-  remove-below.Post,
-  take-branch-reads.Asked,
-  take-branch-reads.Learnt,
-) (remove-below-at t) remove-below.Post
-remove-below-take-branch-requires t c κs = search below-takes-branch
-
-remove-below-same-length-3 : (t : ℕ) → remove-below-lts.Need-same-length-3 (
-  part-at-reads.Asked,
-  part-at-reads.Learnt,
-  entry-place-reads.Asked,
-  entry-place-reads.Learnt,
-  take-entry-reads.Asked,
-  take-entry-reads.Learnt,
-  child-place-reads.Asked,
-  child-place-reads.Learnt,
-  remove-below-below t,
-  remove-below.Post,
-  take-branch-reads.Asked,
-  take-branch-reads.Learnt,
-) (remove-below-at t) remove-below.Post
-remove-below-same-length-3 t c = search needs
-
-remove-below-returns-3 : (t : ℕ) → remove-below-lts.Need-returns-3 (
-  part-at-reads.Asked,
-  part-at-reads.Learnt,
-  entry-place-reads.Asked,
-  entry-place-reads.Learnt,
-  take-entry-reads.Asked,
-  take-entry-reads.Learnt,
-  child-place-reads.Asked,
-  child-place-reads.Learnt,
-  remove-below-below t,
-  remove-below.Post,
-  take-branch-reads.Asked,
-  take-branch-reads.Learnt,
-) (remove-below-at t) remove-below.Post
-remove-below-returns-3 t c = search below-node
-
-pub +remove-below-spec : {M : Type 1} → statement M
-+remove-below-spec = close μ-remove-below λ t. remove-below-lts.spec (
+-- what the proof knows of the functions that `remove_below` calls, itself below t among them
+abbrev remove-below-claims : ℕ → remove-below-lts.Claims
+remove-below-claims t = (
   part-at-reads.Asked,
   part-at-reads.Learnt,
   entry-place-reads.Asked,
@@ -254,6 +47,48 @@ pub +remove-below-spec : {M : Type 1} → statement M
   take-branch-reads.Asked,
   take-branch-reads.Learnt,
 )
+
+remove-below-part-at-requires : (t : ℕ) → remove-below-lts.Need-part-at-requires (remove-below-claims t) (remove-below-at t) remove-below.Post
+remove-below-part-at-requires t c κs = search needs
+
+remove-below-entry-place-requires : (t : ℕ) → remove-below-lts.Need-entry-place-requires (remove-below-claims t) (remove-below-at t) remove-below.Post
+remove-below-entry-place-requires t c κs = search below-holds
+
+remove-below-take-entry-requires : (t : ℕ) → remove-below-lts.Need-take-entry-requires (remove-below-claims t) (remove-below-at t) remove-below.Post
+remove-below-take-entry-requires t c κs = search below-takes
+
+remove-below-same-length : (t : ℕ) → remove-below-lts.Need-same-length (remove-below-claims t) (remove-below-at t) remove-below.Post
+remove-below-same-length t c = search needs
+
+remove-below-returns : (t : ℕ) → remove-below-lts.Need-returns (remove-below-claims t) (remove-below-at t) remove-below.Post
+remove-below-returns t c = search below-leaf
+
+remove-below-child-place-requires : (t : ℕ) → remove-below-lts.Need-child-place-requires (remove-below-claims t) (remove-below-at t) remove-below.Post
+remove-below-child-place-requires t c κs = search below-children
+
+remove-below-sub-remove-below : (t : ℕ) → remove-below-lts.Need-sub-remove-below (remove-below-claims t) (remove-below-at t) remove-below.Post
+remove-below-sub-remove-below t c = search needs
+
+remove-below-remove-below-requires : (t : ℕ) → remove-below-lts.Need-remove-below-requires (remove-below-claims t) (remove-below-at t) remove-below.Post
+remove-below-remove-below-requires t c κs = (omega arith, search below-child)
+
+remove-below-same-length-2 : (t : ℕ) → remove-below-lts.Need-same-length-2 (remove-below-claims t) (remove-below-at t) remove-below.Post
+remove-below-same-length-2 t c = search needs
+
+remove-below-returns-2 : (t : ℕ) → remove-below-lts.Need-returns-2 (remove-below-claims t) (remove-below-at t) remove-below.Post
+remove-below-returns-2 t c = search below-stays
+
+remove-below-take-branch-requires : (t : ℕ) → remove-below-lts.Need-take-branch-requires (remove-below-claims t) (remove-below-at t) remove-below.Post
+remove-below-take-branch-requires t c κs = search below-takes-branch
+
+remove-below-same-length-3 : (t : ℕ) → remove-below-lts.Need-same-length-3 (remove-below-claims t) (remove-below-at t) remove-below.Post
+remove-below-same-length-3 t c = search needs
+
+remove-below-returns-3 : (t : ℕ) → remove-below-lts.Need-returns-3 (remove-below-claims t) (remove-below-at t) remove-below.Post
+remove-below-returns-3 t c = search below-node
+
+pub +remove-below-spec : {M : Type 1} → statement M
++remove-below-spec = close μ-remove-below λ t. remove-below-lts.spec (remove-below-claims t)
     (remove-below-at t)
     remove-below.Post
     (remove-below-part-at-requires t)

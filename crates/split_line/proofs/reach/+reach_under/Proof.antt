@@ -36,296 +36,9 @@ reach-under-Inv-loop m level lo k sides node n reach₀ low₀ i₀ reach low i 
 abbrev reach-under-μ-loop : reach-under-lts.MeasureT-loop
 reach-under-μ-loop m level lo k sides node n reach₀ low₀ i₀ reach low i = n - i
 
-reach-under-part-at-requires : (t : ℕ) → reach-under-lts.Need-part-at-requires (
-  part-at-reads.Asked,
-  part-at-reads.Learnt,
-  reach-in-leaf-reads.Asked,
-  reach-in-leaf-reads.Learnt,
-  node-at-reads.Asked,
-  node-at-reads.Learnt,
-  empty-reads.Asked,
-  empty-reads.Learnt,
-  child-reads.Asked,
-  child-reads.Learnt,
-  reach-under-below t,
-  reach-under.Post,
-  join-reads.Asked,
-  join-reads.Learnt,
-) (reach-under-at t) reach-under.Post reach-under-Inv-loop reach-under-μ-loop
-reach-under-part-at-requires t c κs = search needs
-
-reach-under-reach-in-leaf-requires : (t : ℕ) → reach-under-lts.Need-reach-in-leaf-requires (
-  part-at-reads.Asked,
-  part-at-reads.Learnt,
-  reach-in-leaf-reads.Asked,
-  reach-in-leaf-reads.Learnt,
-  node-at-reads.Asked,
-  node-at-reads.Learnt,
-  empty-reads.Asked,
-  empty-reads.Learnt,
-  child-reads.Asked,
-  child-reads.Learnt,
-  reach-under-below t,
-  reach-under.Post,
-  join-reads.Asked,
-  join-reads.Learnt,
-) (reach-under-at t) reach-under.Post reach-under-Inv-loop reach-under-μ-loop
-reach-under-reach-in-leaf-requires t c κs = search reach-leaf
-
-reach-under-returns : (t : ℕ) → reach-under-lts.Need-returns (
-  part-at-reads.Asked,
-  part-at-reads.Learnt,
-  reach-in-leaf-reads.Asked,
-  reach-in-leaf-reads.Learnt,
-  node-at-reads.Asked,
-  node-at-reads.Learnt,
-  empty-reads.Asked,
-  empty-reads.Learnt,
-  child-reads.Asked,
-  child-reads.Learnt,
-  reach-under-below t,
-  reach-under.Post,
-  join-reads.Asked,
-  join-reads.Learnt,
-) (reach-under-at t) reach-under.Post reach-under-Inv-loop reach-under-μ-loop
-reach-under-returns t c = search reach-of-leaf
-
-reach-under-node-at-requires : (t : ℕ) → reach-under-lts.Need-node-at-requires (
-  part-at-reads.Asked,
-  part-at-reads.Learnt,
-  reach-in-leaf-reads.Asked,
-  reach-in-leaf-reads.Learnt,
-  node-at-reads.Asked,
-  node-at-reads.Learnt,
-  empty-reads.Asked,
-  empty-reads.Learnt,
-  child-reads.Asked,
-  child-reads.Learnt,
-  reach-under-below t,
-  reach-under.Post,
-  join-reads.Asked,
-  join-reads.Learnt,
-) (reach-under-at t) reach-under.Post reach-under-Inv-loop reach-under-μ-loop
-reach-under-node-at-requires t c κs = search needs
-
-reach-under-cast-n : (t : ℕ) → reach-under-lts.Need-cast-n (
-  part-at-reads.Asked,
-  part-at-reads.Learnt,
-  reach-in-leaf-reads.Asked,
-  reach-in-leaf-reads.Learnt,
-  node-at-reads.Asked,
-  node-at-reads.Learnt,
-  empty-reads.Asked,
-  empty-reads.Learnt,
-  child-reads.Asked,
-  child-reads.Learnt,
-  reach-under-below t,
-  reach-under.Post,
-  join-reads.Asked,
-  join-reads.Learnt,
-) (reach-under-at t) reach-under.Post reach-under-Inv-loop reach-under-μ-loop
-reach-under-cast-n t c = search needs
-
-reach-under-empty-requires : (t : ℕ) → reach-under-lts.Need-empty-requires (
-  part-at-reads.Asked,
-  part-at-reads.Learnt,
-  reach-in-leaf-reads.Asked,
-  reach-in-leaf-reads.Learnt,
-  node-at-reads.Asked,
-  node-at-reads.Learnt,
-  empty-reads.Asked,
-  empty-reads.Learnt,
-  child-reads.Asked,
-  child-reads.Learnt,
-  reach-under-below t,
-  reach-under.Post,
-  join-reads.Asked,
-  join-reads.Learnt,
-) (reach-under-at t) reach-under.Post reach-under-Inv-loop reach-under-μ-loop
-reach-under-empty-requires t c κs = search needs
-
-reach-under-loop-holds : (t : ℕ) → reach-under-lts.Need-loop-holds (
-  part-at-reads.Asked,
-  part-at-reads.Learnt,
-  reach-in-leaf-reads.Asked,
-  reach-in-leaf-reads.Learnt,
-  node-at-reads.Asked,
-  node-at-reads.Learnt,
-  empty-reads.Asked,
-  empty-reads.Learnt,
-  child-reads.Asked,
-  child-reads.Learnt,
-  reach-under-below t,
-  reach-under.Post,
-  join-reads.Asked,
-  join-reads.Learnt,
-) (reach-under-at t) reach-under.Post reach-under-Inv-loop reach-under-μ-loop
-reach-under-loop-holds t c = search (reach-start, walk-count)
-
-reach-under-child-requires : (t : ℕ) → reach-under-lts.Need-child-requires (
-  part-at-reads.Asked,
-  part-at-reads.Learnt,
-  reach-in-leaf-reads.Asked,
-  reach-in-leaf-reads.Learnt,
-  node-at-reads.Asked,
-  node-at-reads.Learnt,
-  empty-reads.Asked,
-  empty-reads.Learnt,
-  child-reads.Asked,
-  child-reads.Learnt,
-  reach-under-below t,
-  reach-under.Post,
-  join-reads.Asked,
-  join-reads.Learnt,
-) (reach-under-at t) reach-under.Post reach-under-Inv-loop reach-under-μ-loop
-reach-under-child-requires t c κs = search walk-nine
-
-reach-under-sub-reach-under : (t : ℕ) → reach-under-lts.Need-sub-reach-under (
-  part-at-reads.Asked,
-  part-at-reads.Learnt,
-  reach-in-leaf-reads.Asked,
-  reach-in-leaf-reads.Learnt,
-  node-at-reads.Asked,
-  node-at-reads.Learnt,
-  empty-reads.Asked,
-  empty-reads.Learnt,
-  child-reads.Asked,
-  child-reads.Learnt,
-  reach-under-below t,
-  reach-under.Post,
-  join-reads.Asked,
-  join-reads.Learnt,
-) (reach-under-at t) reach-under.Post reach-under-Inv-loop reach-under-μ-loop
-reach-under-sub-reach-under t c = search needs
-
-reach-under-reach-under-requires : (t : ℕ) → reach-under-lts.Need-reach-under-requires (
-  part-at-reads.Asked,
-  part-at-reads.Learnt,
-  reach-in-leaf-reads.Asked,
-  reach-in-leaf-reads.Learnt,
-  node-at-reads.Asked,
-  node-at-reads.Learnt,
-  empty-reads.Asked,
-  empty-reads.Learnt,
-  child-reads.Asked,
-  child-reads.Learnt,
-  reach-under-below t,
-  reach-under.Post,
-  join-reads.Asked,
-  join-reads.Learnt,
-) (reach-under-at t) reach-under.Post reach-under-Inv-loop reach-under-μ-loop
-reach-under-reach-under-requires t c κs = (omega arith, search (reach-child, walk-child))
-
-reach-under-join-requires : (t : ℕ) → reach-under-lts.Need-join-requires (
-  part-at-reads.Asked,
-  part-at-reads.Learnt,
-  reach-in-leaf-reads.Asked,
-  reach-in-leaf-reads.Learnt,
-  node-at-reads.Asked,
-  node-at-reads.Learnt,
-  empty-reads.Asked,
-  empty-reads.Learnt,
-  child-reads.Asked,
-  child-reads.Learnt,
-  reach-under-below t,
-  reach-under.Post,
-  join-reads.Asked,
-  join-reads.Learnt,
-) (reach-under-at t) reach-under.Post reach-under-Inv-loop reach-under-μ-loop
-reach-under-join-requires t c κs = search needs
-
-reach-under-add-low : (t : ℕ) → reach-under-lts.Need-add-low (
-  part-at-reads.Asked,
-  part-at-reads.Learnt,
-  reach-in-leaf-reads.Asked,
-  reach-in-leaf-reads.Learnt,
-  node-at-reads.Asked,
-  node-at-reads.Learnt,
-  empty-reads.Asked,
-  empty-reads.Learnt,
-  child-reads.Asked,
-  child-reads.Learnt,
-  reach-under-below t,
-  reach-under.Post,
-  join-reads.Asked,
-  join-reads.Learnt,
-) (reach-under-at t) reach-under.Post reach-under-Inv-loop reach-under-μ-loop
-reach-under-add-low t c = search (child-fits, walk-child)
-
-reach-under-add-i : (t : ℕ) → reach-under-lts.Need-add-i (
-  part-at-reads.Asked,
-  part-at-reads.Learnt,
-  reach-in-leaf-reads.Asked,
-  reach-in-leaf-reads.Learnt,
-  node-at-reads.Asked,
-  node-at-reads.Learnt,
-  empty-reads.Asked,
-  empty-reads.Learnt,
-  child-reads.Asked,
-  child-reads.Learnt,
-  reach-under-below t,
-  reach-under.Post,
-  join-reads.Asked,
-  join-reads.Learnt,
-) (reach-under-at t) reach-under.Post reach-under-Inv-loop reach-under-μ-loop
-reach-under-add-i t c = search needs
-
-reach-under-loop-less : (t : ℕ) → reach-under-lts.Need-loop-less (
-  part-at-reads.Asked,
-  part-at-reads.Learnt,
-  reach-in-leaf-reads.Asked,
-  reach-in-leaf-reads.Learnt,
-  node-at-reads.Asked,
-  node-at-reads.Learnt,
-  empty-reads.Asked,
-  empty-reads.Learnt,
-  child-reads.Asked,
-  child-reads.Learnt,
-  reach-under-below t,
-  reach-under.Post,
-  join-reads.Asked,
-  join-reads.Learnt,
-) (reach-under-at t) reach-under.Post reach-under-Inv-loop reach-under-μ-loop
-reach-under-loop-less t c = search needs
-
-reach-under-loop-again : (t : ℕ) → reach-under-lts.Need-loop-again (
-  part-at-reads.Asked,
-  part-at-reads.Learnt,
-  reach-in-leaf-reads.Asked,
-  reach-in-leaf-reads.Learnt,
-  node-at-reads.Asked,
-  node-at-reads.Learnt,
-  empty-reads.Asked,
-  empty-reads.Learnt,
-  child-reads.Asked,
-  child-reads.Learnt,
-  reach-under-below t,
-  reach-under.Post,
-  join-reads.Asked,
-  join-reads.Learnt,
-) (reach-under-at t) reach-under.Post reach-under-Inv-loop reach-under-μ-loop
-reach-under-loop-again t c = search (reach-again, walk-child)
-
-reach-under-returns-2 : (t : ℕ) → reach-under-lts.Need-returns-2 (
-  part-at-reads.Asked,
-  part-at-reads.Learnt,
-  reach-in-leaf-reads.Asked,
-  reach-in-leaf-reads.Learnt,
-  node-at-reads.Asked,
-  node-at-reads.Learnt,
-  empty-reads.Asked,
-  empty-reads.Learnt,
-  child-reads.Asked,
-  child-reads.Learnt,
-  reach-under-below t,
-  reach-under.Post,
-  join-reads.Asked,
-  join-reads.Learnt,
-) (reach-under-at t) reach-under.Post reach-under-Inv-loop reach-under-μ-loop
-reach-under-returns-2 t c = search reach-end
-
-pub +reach-under-spec : {M : Type 1} → statement M
-+reach-under-spec = close μ-reach-under λ t. reach-under-lts.spec (
+-- what the proof knows of the functions that `reach_under` calls, itself below t among them
+abbrev reach-under-claims : ℕ → reach-under-lts.Claims
+reach-under-claims t = (
   part-at-reads.Asked,
   part-at-reads.Learnt,
   reach-in-leaf-reads.Asked,
@@ -341,6 +54,57 @@ pub +reach-under-spec : {M : Type 1} → statement M
   join-reads.Asked,
   join-reads.Learnt,
 )
+
+reach-under-part-at-requires : (t : ℕ) → reach-under-lts.Need-part-at-requires (reach-under-claims t) (reach-under-at t) reach-under.Post reach-under-Inv-loop reach-under-μ-loop
+reach-under-part-at-requires t c κs = search needs
+
+reach-under-reach-in-leaf-requires : (t : ℕ) → reach-under-lts.Need-reach-in-leaf-requires (reach-under-claims t) (reach-under-at t) reach-under.Post reach-under-Inv-loop reach-under-μ-loop
+reach-under-reach-in-leaf-requires t c κs = search reach-leaf
+
+reach-under-returns : (t : ℕ) → reach-under-lts.Need-returns (reach-under-claims t) (reach-under-at t) reach-under.Post reach-under-Inv-loop reach-under-μ-loop
+reach-under-returns t c = search reach-of-leaf
+
+reach-under-node-at-requires : (t : ℕ) → reach-under-lts.Need-node-at-requires (reach-under-claims t) (reach-under-at t) reach-under.Post reach-under-Inv-loop reach-under-μ-loop
+reach-under-node-at-requires t c κs = search needs
+
+reach-under-cast-n : (t : ℕ) → reach-under-lts.Need-cast-n (reach-under-claims t) (reach-under-at t) reach-under.Post reach-under-Inv-loop reach-under-μ-loop
+reach-under-cast-n t c = search needs
+
+reach-under-empty-requires : (t : ℕ) → reach-under-lts.Need-empty-requires (reach-under-claims t) (reach-under-at t) reach-under.Post reach-under-Inv-loop reach-under-μ-loop
+reach-under-empty-requires t c κs = search needs
+
+reach-under-loop-holds : (t : ℕ) → reach-under-lts.Need-loop-holds (reach-under-claims t) (reach-under-at t) reach-under.Post reach-under-Inv-loop reach-under-μ-loop
+reach-under-loop-holds t c = search (reach-start, walk-count)
+
+reach-under-child-requires : (t : ℕ) → reach-under-lts.Need-child-requires (reach-under-claims t) (reach-under-at t) reach-under.Post reach-under-Inv-loop reach-under-μ-loop
+reach-under-child-requires t c κs = search walk-nine
+
+reach-under-sub-reach-under : (t : ℕ) → reach-under-lts.Need-sub-reach-under (reach-under-claims t) (reach-under-at t) reach-under.Post reach-under-Inv-loop reach-under-μ-loop
+reach-under-sub-reach-under t c = search needs
+
+reach-under-reach-under-requires : (t : ℕ) → reach-under-lts.Need-reach-under-requires (reach-under-claims t) (reach-under-at t) reach-under.Post reach-under-Inv-loop reach-under-μ-loop
+reach-under-reach-under-requires t c κs = (omega arith, search (reach-child, walk-child))
+
+reach-under-join-requires : (t : ℕ) → reach-under-lts.Need-join-requires (reach-under-claims t) (reach-under-at t) reach-under.Post reach-under-Inv-loop reach-under-μ-loop
+reach-under-join-requires t c κs = search needs
+
+reach-under-add-low : (t : ℕ) → reach-under-lts.Need-add-low (reach-under-claims t) (reach-under-at t) reach-under.Post reach-under-Inv-loop reach-under-μ-loop
+reach-under-add-low t c = search (child-fits, walk-child)
+
+reach-under-add-i : (t : ℕ) → reach-under-lts.Need-add-i (reach-under-claims t) (reach-under-at t) reach-under.Post reach-under-Inv-loop reach-under-μ-loop
+reach-under-add-i t c = search needs
+
+reach-under-loop-less : (t : ℕ) → reach-under-lts.Need-loop-less (reach-under-claims t) (reach-under-at t) reach-under.Post reach-under-Inv-loop reach-under-μ-loop
+reach-under-loop-less t c = search needs
+
+reach-under-loop-again : (t : ℕ) → reach-under-lts.Need-loop-again (reach-under-claims t) (reach-under-at t) reach-under.Post reach-under-Inv-loop reach-under-μ-loop
+reach-under-loop-again t c = search (reach-again, walk-child)
+
+reach-under-returns-2 : (t : ℕ) → reach-under-lts.Need-returns-2 (reach-under-claims t) (reach-under-at t) reach-under.Post reach-under-Inv-loop reach-under-μ-loop
+reach-under-returns-2 t c = search reach-end
+
+pub +reach-under-spec : {M : Type 1} → statement M
++reach-under-spec = close μ-reach-under λ t. reach-under-lts.spec (reach-under-claims t)
     (reach-under-at t)
     reach-under.Post
     reach-under-Inv-loop

@@ -1,0 +1,57 @@
+-- The lists of `main` are long enough for `run`, and the index is fresh.
+use borrow.Author.Needs.{needs}
+use Rattle.bench.proofs.main.Statement.{statement}
+use Rattle.bench.proofs.main.Tie as tie
+
+index-numbers-requires : tie.Need-index-numbers-requires
+index-numbers-requires c κs = search needs
+
+index-numbers-requires-2 : tie.Need-index-numbers-requires-2
+index-numbers-requires-2 c κs = search needs
+
+list-numbers-requires : tie.Need-list-numbers-requires
+list-numbers-requires c κs = search needs
+
+large-buffer-requires : tie.Need-large-buffer-requires
+large-buffer-requires c κs = search needs
+
+large-buffer-requires-2 : tie.Need-large-buffer-requires-2
+large-buffer-requires-2 c κs = search needs
+
+slice-aggregate-run : tie.Need-slice-aggregate-run
+slice-aggregate-run c = search needs
+
+slice-aggregate-run-2 : tie.Need-slice-aggregate-run-2
+slice-aggregate-run-2 c = search needs
+
+slice-aggregate-run-3 : tie.Need-slice-aggregate-run-3
+slice-aggregate-run-3 c = search needs
+
+slice-aggregate-run-4 : tie.Need-slice-aggregate-run-4
+slice-aggregate-run-4 c = search needs
+
+slice-aggregate-run-5 : tie.Need-slice-aggregate-run-5
+slice-aggregate-run-5 c = search needs
+
+run-requires : tie.Need-run-requires
+run-requires c κs = search needs
+
+returns : tie.Need-returns
+returns c = search needs
+
+pub main-spec : {M : Type 1} → statement M
+main-spec =
+    tie.close
+    (tie.spec
+    index-numbers-requires
+    index-numbers-requires-2
+    list-numbers-requires
+    large-buffer-requires
+    large-buffer-requires-2
+    slice-aggregate-run
+    slice-aggregate-run-2
+    slice-aggregate-run-3
+    slice-aggregate-run-4
+    slice-aggregate-run-5
+    run-requires
+    returns)

@@ -1,0 +1,4 @@
+pub mod PassLoops
+pub mod CoverCells
+pub mod CoverLaws
+pub mod HasLaws

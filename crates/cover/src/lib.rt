@@ -1,0 +1,7 @@
+// Lists of rectangles against each other, four numbers a rectangle: the geometry of the soundness test.
+mod covering;
+mod scans;
+
+pub use covering::inside;
+pub use scans::any_has;
+pub use scans::are_apart;

@@ -1,0 +1,36 @@
+-- The rules of lists of rectangles, over any rectangles: they look at a rectangle only through its own rules, which are their first argument.
+-- The geometry's rules and the tree's are both instances of these.
+use mathlib.Core.Bool.{Bool}
+use mathlib.Core.List.{List, [], _∷_, flatMap}
+use mathlib.Core.Option.{Option, some, bind}
+use Rattle.polygons.specs.Limits.{mostPieces, atMost}
+use Rattle.polygons.specs.Lists.{any}
+
+-- 'its cells are their union': some rectangle of the list has the cell
+abbrev pub unionHas : {A C : Type 0} → (A → C → Bool) → List A → C → Bool
+unionHas has l c = any (λ r. has r c) l
+
+-- 'A list is cut by S piece by piece, in order.'
+abbrev pub cutPieces : {A : Type 0} → (A → A → List A) → List A → A → List A
+cutPieces cut l s = flatMap (λ r. cut r s) l
+
+-- 'Cutting by a polygon applies its rectangles one after another', none as soon as the list is 'over 256 after a single cut'. Insertion's step 2:
+-- 'cut the grown one by every sibling's polygon in order', 'pieces over 256 after a cut by one rectangle'.
+unfoldable pub cutEach : {A : Type 0} → (A → A → List A) → List A → List A → Option (List A)
+cutEach cut l [] = some l
+cutEach cut l (s ∷ p) = bind (atMost mostPieces (cutPieces cut l s)) λ m. cutEach cut m p
+
+-- Insertion's step 2: 'replace each piece by its common parts with the parent's rectangles ..., in order'
+abbrev pub commonsWith : {A : Type 0} → (A → A → List A) → List A → A → List A
+commonsWith common p r = flatMap (common r) p
+
+abbrev pub commons : {A : Type 0} → (A → A → List A) → List A → List A → List A
+commons common l p = flatMap (commonsWith common p) l
+
+-- 'clips the polygon's rectangles to each side, in order': clip gives the part of one rectangle, none where that is empty
+abbrev pub clipEach : {A : Type 0} → (A → List A) → List A → List A
+clipEach clip p = flatMap clip p
+
+-- 'and refines them'
+abbrev pub clipRefine : {A : Type 0} → (A → List A) → (List A → List A) → List A → List A
+clipRefine clip refine p = refine (clipEach clip p)

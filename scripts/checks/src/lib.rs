@@ -1,0 +1,10 @@
+//! Checks of the repository's pages: every name that they cite is in the repository, and the map of
+//! the crates is that of crates.txt.
+
+pub mod cited;
+pub mod crate_list;
+pub mod known;
+pub mod layers;
+pub mod page;
+pub mod picture;
+pub mod rows;
