@@ -4,6 +4,8 @@ pub mod CommonLaws
 pub mod GrowLaws
 pub mod CutLaws
 pub mod RefineLaws
+pub mod DropLaws
+pub mod PairLaws
 pub mod ClipLaws
 pub mod PlaceLaws
 pub mod Cases
@@ -16,5 +18,6 @@ pub mod CutLoops
 pub mod FillLoops
 pub mod NumberLaws
 pub mod PolygonLoops
+pub mod PairLoops
 pub mod RefineLoops
 pub mod ScanLoops

@@ -73,7 +73,7 @@ pub record Pair (l : List Rect) (i : ℕ) : Type 0 where
   pub inside : partner l i < length l
   pub fits : joinable (getD l i noRect) (getD l (partner l i) noRect) ≡ true
 
-pair : (l : List Rect) (i : ℕ) → i < length l → partner l i < length l → Pair l i
+pub pair : (l : List Rect) (i : ℕ) → i < length l → partner l i < length l → Pair l i
 unfolding partner joins
 pair l i h m =
     let p : ℕ → Bool = joins l i in

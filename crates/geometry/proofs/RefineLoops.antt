@@ -7,17 +7,17 @@ use native.Mathlib.Omega.{arith}
 use native.Mathlib.Decide.{decLt}
 use borrow.Author.Tests.{lt-ltb, le-ltb}
 use lib.Dec.{ltb}
-use lib.ListN.{length, take, drop, getD, set, List·getD-append}
-use lib.Seq.{ext-getD, getD-take, getD-drop, getD-append-add, length-take-le}
+use lib.ListN.{length, getD, set}
+use lib.Seq.{ext-getD}
 use Rattle.geometry.specs.declared.rect.Rect.{Rect}
 use Rattle.geometry.specs.declared.refine.Step.{Step}
 use Rattle.geometry.specs.declared.refine.Step.the-variants.{Shorter, Done}
 use Rattle.geometry.specs.Cells.{noRect}
-use Rattle.geometry.specs.declared.polygon.Polygon.{Polygon}
-use Rattle.geometry.specs.Numbers.{rectAt, rectsIn, putAt, Appended, PolygonOf, Dropped, Joined, Shortened, Finished, Stepped, Refined}
+use Rattle.geometry.specs.Numbers.{rectAt, rectsIn, putAt, Dropped, Joined, Shortened, Finished, Stepped, Refined}
 use Rattle.geometry.specs.Refine.{contained, dropped, union, partner, firstContained, firstJoin, refineStep, refineSteps, refine}
 use Rattle.geometry.proofs.NumberLaws.{length-rects, length-put, rects-at, put-same, put-other, put-inside}
 use Rattle.geometry.proofs.RefineLaws.{first-before, length-dropped, Pair, join-found, contained-dropped, stays}
+use Rattle.geometry.proofs.DropLaws.{dropped-low, dropped-high}
 
 -- The rectangles from the i-th up to the k-th have moved down; the others are in their places.
 pub record Moving (m₀ : List ℕ) (n i : ℕ) (m : List ℕ) (k : ℕ) : Type 0 where
@@ -39,23 +39,6 @@ move-start m n i h g = record {
   moved = λ j a b. absurd (omega arith);
   rest = λ j _. refl;
 }
-
--- the j-th of a list without its i-th
-dropped-low : (l : List Rect) (i j : ℕ) → i < length l → j < i → getD (dropped l i) j noRect ≡ getD l j noRect
-dropped-low l i j h g =
-    let a : length (take i l) ≡ i = length-take-le i l (omega arith) in
-    let b : j < length (take i l) = omega arith in
-    List·getD-append (take i l) (drop (i + 1) l) noRect j b ∙ getD-take i l j noRect g
-
-dropped-high : (l : List Rect) (i j : ℕ) → i < length l → i ≤ j → getD (dropped l i) j noRect ≡ getD l (j + 1) noRect
-dropped-high l i j h g =
-    let a : length (take i l) ≡ i = length-take-le i l (omega arith) in
-    let e : j ≡ length (take i l) + (j - i) = omega arith in
-    let f : i + 1 + (j - i) ≡ j + 1 = omega arith in
-    ap (λ (k : ℕ). getD (dropped l i) k noRect) e
-    ∙ getD-append-add (take i l) (drop (i + 1) l) (j - i) noRect
-    ∙ getD-drop (i + 1) l (j - i) noRect
-    ∙ ap (λ (k : ℕ). getD l k noRect) f
 
 module _ (m₀ : List ℕ) (n i : ℕ) (m : List ℕ) (k : ℕ) (v : Moving m₀ n i m k) where
   pub move-again : (r : Rect) (m′ : List ℕ) → k < n - 1 → r ≡ rectAt m (k + 1) → m′ ≡ putAt m k r → Moving m₀ n i m′ (k + 1)
@@ -209,8 +192,3 @@ module _ (m₀ : List ℕ) (n : ℕ) (m : List ℕ) (k from : ℕ) (v : Refining
           fewer = v .few;
           same-length = rw (z .same) (v .same-length);
         }
-
--- a polygon refined by way of its numbers
-pub polygon-refined : (l : List Rect) (m₀ m₁ m₂ : List ℕ) (k n n′ : ℕ) (p : Polygon) → Appended m₀ 0 l k m₁ n → Refined m₁ n m₂ n′ → PolygonOf (rectsIn m₂ n′) p → PolygonOf (refine l) p
-unfolding rectsIn
-polygon-refined l m₀ m₁ m₂ k n n′ p a r v = record { list = v .list ∙ r .list ∙ ap refine (a .list); fits = v .fits }

@@ -6,3 +6,4 @@ pub mod Refine
 pub mod Clip
 pub mod Place
 pub mod Numbers
+pub mod Pairs

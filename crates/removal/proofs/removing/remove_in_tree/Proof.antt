@@ -1,6 +1,8 @@
 -- `removing::remove_in_tree` meets its contract; its ways out are in TreeRemoved.
 use Rattle.index.proofs.TreeWalk.{tree-walkable}
 use Rattle.removal.proofs.TreeRemoved.{head-in, not-held, held-some, tree-removable, tree-left, tree-gone}
+use Prim.Native.Nat.{_≤_}
+use native.Mathlib.Omega.{arith}
 use borrow.Author.Needs.{needs}
 use Rattle.removal.proofs.removing.remove_in_tree.Statement.{statement}
 use Rattle.removal.proofs.removing.remove_in_tree.Tie as tie
@@ -18,7 +20,9 @@ entries-below-requires : tie.Need-entries-below-requires
 entries-below-requires c κs = search tree-walkable
 
 sub-entries : tie.Need-sub-entries
-sub-entries c = search held-some
+sub-entries c =
+    let h : 1 ≤ c .entries-below .result = search held-some in
+    omega (arith, h)
 
 remove-below-requires : tie.Need-remove-below-requires
 remove-below-requires c κs = search tree-removable

@@ -1,38 +1,76 @@
--- `polygon::Polygon::refine` meets its contract; the laws that it needs are in RefineLoops.
+-- `Polygon::refine` meets its contract; its loop is in PairLoops.
 use borrow.Author.Needs.{needs}
-use Rattle.geometry.proofs.RefineLoops.{polygon-refined}
+use Rattle.geometry.specs.Numbers.{rectsOf}
+use Rattle.geometry.proofs.ArrayLaws.{of-map}
+use Rattle.geometry.proofs.PairLoops.{Refines, refines-start, drop-inside, drop-less, refines-drop, join-after, join-inside, join-less, refines-join, refines-done, refines-end}
 use Rattle.geometry.proofs.polygon.Polygon.refine.Statement.{statement}
 use Rattle.geometry.proofs.polygon.Polygon.refine.Tie as tie
 
-slice-aggregate-store : tie.Need-slice-aggregate-store
-slice-aggregate-store c = search needs
+abbrev Inv-loop : tie.InvT-loop
+Inv-loop p₀ from₀ p from = Refines (rectsOf p₀) p from
 
-store-requires : tie.Need-store-requires
-store-requires c κs = search needs
+abbrev μ-loop : tie.MeasureT-loop
+μ-loop p₀ from₀ p from = p .count
 
-slice-aggregate-refine-list : tie.Need-slice-aggregate-refine-list
-slice-aggregate-refine-list c = search needs
+loop-holds : tie.Need-loop-holds Inv-loop μ-loop
+loop-holds c = search (refines-start, of-map)
 
-refine-list-requires : tie.Need-refine-list-requires
-refine-list-requires c κs = search needs
+add-if1 : tie.Need-add-if1 Inv-loop μ-loop
+add-if1 c = search needs
 
-slice-aggregate-load : tie.Need-slice-aggregate-load
-slice-aggregate-load c = search needs
+next-step-requires : tie.Need-next-step-requires Inv-loop μ-loop
+next-step-requires c κs = search needs
 
-load-requires : tie.Need-load-requires
-load-requires c κs = search needs
+enum-known-next : tie.Need-enum-known-next Inv-loop μ-loop
+enum-known-next c = search needs
 
-returns : tie.Need-returns
-returns c = search polygon-refined
+without-requires : tie.Need-without-requires Inv-loop μ-loop
+without-requires c κs = (search needs, search drop-inside)
+
+loop-less : tie.Need-loop-less Inv-loop μ-loop
+loop-less c = search (drop-less, of-map)
+
+loop-again : tie.Need-loop-again Inv-loop μ-loop
+loop-again c = search (refines-drop, of-map)
+
+enum-known-next-2 : tie.Need-enum-known-next-2 Inv-loop μ-loop
+enum-known-next-2 c = search needs
+
+join-requires : tie.Need-join-requires Inv-loop μ-loop
+join-requires c κs = (search needs, (search join-after, search join-inside))
+
+loop-less-2 : tie.Need-loop-less-2 Inv-loop μ-loop
+loop-less-2 c = search (join-less, of-map)
+
+loop-again-2 : tie.Need-loop-again-2 Inv-loop μ-loop
+loop-again-2 c = search (refines-join, of-map)
+
+enum-told : tie.Need-enum-told Inv-loop μ-loop
+enum-told c = search needs
+
+returns : tie.Need-returns Inv-loop μ-loop
+returns c = search refines-done
+
+returns-2 : tie.Need-returns-2 Inv-loop μ-loop
+returns-2 c = search refines-end
 
 pub refine-spec : {M : Type 1} → statement M
 refine-spec =
     tie.close
     (tie.spec
-    slice-aggregate-store
-    store-requires
-    slice-aggregate-refine-list
-    refine-list-requires
-    slice-aggregate-load
-    load-requires
-    returns)
+    Inv-loop
+    μ-loop
+    loop-holds
+    add-if1
+    next-step-requires
+    enum-known-next
+    without-requires
+    loop-less
+    loop-again
+    enum-known-next-2
+    join-requires
+    loop-less-2
+    loop-again-2
+    enum-told
+    returns
+    returns-2)
