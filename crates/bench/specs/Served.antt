@@ -1,4 +1,5 @@
 -- What the calls of the program made of the lists that it works on.
+-- docs/RULES.md 9.1, 9.9
 use Prim.Native.Nat.{ℕ}
 use mathlib.Core.List.{List, [], _∷_, _++_, map}
 use mathlib.Core.Path.{_≡_}

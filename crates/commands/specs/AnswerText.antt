@@ -1,4 +1,5 @@
 -- Document 01, the line program: what each answer prints.
+-- docs/RULES.md 9.6, 9.7
 use Prim.Native.Nat.{ℕ, zero, suc, _+_, _*_}
 use mathlib.Core.Bool.{cond}
 use mathlib.Core.List.{List, [], _∷_, _++_}

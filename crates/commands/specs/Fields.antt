@@ -1,4 +1,5 @@
 -- Document 01: 'Fields are decimal, 1 to 10 digits, at most 4294967295'.
+-- docs/RULES.md 9.5
 use Prim.Native.Nat.{ℕ, _+_, _*_, _-_, _≤_, _<_}
 use mathlib.Core.Bool.{Bool, true, false, _&&_, cond}
 use mathlib.Core.List.{List, [], _∷_}

@@ -1,4 +1,5 @@
 -- Bytes split at each of their separators: a line into fields at its spaces, the input into lines at its line feeds.
+-- docs/RULES.md 9.2
 use Prim.Native.Nat.{ℕ, _-_, _≤_, _<_}
 use mathlib.Core.Bool.{cond}
 use mathlib.Core.List.{List, [], _∷_}

@@ -1,4 +1,5 @@
 -- Numbers and lines as bytes.
+-- docs/RULES.md 9.7, 9.8
 use Prim.Native.Nat.{ℕ, zero, suc, _+_, _/_, _%_, _≤_}
 use mathlib.Core.Bool.{cond}
 use mathlib.Core.List.{List, [], _∷_, _++_, flatMap}

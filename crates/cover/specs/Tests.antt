@@ -1,5 +1,6 @@
 -- Lists of rectangles against each other, as tests: a rectangle covered by a list, one list inside another, two apart. The theorems of
 -- CoverCells say that they pass exactly where the cells are so.
+-- docs/RULES.md 2.7, 3.7, 3.8
 use Prim.Native.Nat.{ℕ, _≤_, _<_}
 use mathlib.Core.Path.{_≡_}
 use mathlib.Core.Bool.{Bool, true, false, _&&_, not}

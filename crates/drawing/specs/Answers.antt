@@ -1,4 +1,5 @@
 -- What the calls of the drawing exercise answer, and what they leave in the result list.
+-- docs/RULES.md 2.21 to 2.25, 5.11, 8.10
 use Prim.Native.Nat.{ℕ, _*_, _≤_}
 use mathlib.Core.Bool.{Bool, true, false}
 use mathlib.Core.List.{List, _++_}

@@ -9,8 +9,8 @@ use lib.ListN.{length, take, getD, set, length-set}
 use lib.Seq.{ext-getD, getD-take, getD-set-same, getD-set-other, length-take-le, take-set-lt, drop-set-lt, set-append-left}
 use Rattle.geometry.specs.declared.rect.Rect.{Rect}
 use Rattle.geometry.specs.declared.polygon.Polygon.{Polygon}
-use Rattle.geometry.specs.declared.polygon.Next.{Next}
-use Rattle.geometry.specs.declared.polygon.Next.the-variants.{Drop, Join, Done}
+use Rattle.geometry.specs.declared.polygon_refine.Next.{Next}
+use Rattle.geometry.specs.declared.polygon_refine.Next.the-variants.{Drop, Join, Done}
 use Rattle.geometry.specs.Cells.{noRect}
 use Rattle.geometry.specs.Numbers.{rectsOf, PolygonOf}
 use Rattle.geometry.specs.Pairs.{nested, near, Apart, Clear, Dropping, Joining, NextIs}

@@ -1,4 +1,5 @@
 -- Document 01, 'Grid, rectangles, polygons': cells, rectangles, the cells of a list of rectangles, area.
+-- docs/RULES.md 2.1 to 2.4, 2.6, 7.2
 use Prim.Native.Nat.{ℕ, _*_, _-_}
 use mathlib.Core.Bool.{Bool, true, _&&_}
 use mathlib.Core.List.{List, [], _∷_}

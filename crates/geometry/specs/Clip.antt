@@ -1,4 +1,5 @@
 -- Document 01, 'Splitting clips the polygon's rectangles to each side, in order, and refines them.'
+-- docs/RULES.md 4.12, 4.15
 use Prim.Native.Nat.{min, max}
 use mathlib.Core.Bool.{Bool, not}
 use mathlib.Core.List.{List}

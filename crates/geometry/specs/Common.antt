@@ -1,4 +1,5 @@
 -- Document 01, 'Common part'.
+-- docs/RULES.md 2.7, 2.8
 use Prim.Native.Nat.{min, max}
 use mathlib.Core.Bool.{Bool, cond}
 use mathlib.Core.List.{List, [], _∷_}

@@ -1,4 +1,5 @@
 -- Document 01, 'Cut R by S'.
+-- docs/RULES.md 2.11 to 2.14, 2.23
 use mathlib.Core.Bool.{cond}
 use mathlib.Core.List.{List, [], _∷_, _++_}
 use mathlib.Core.Option.{Option}

@@ -1,4 +1,5 @@
 -- Document 01, 'Grow'.
+-- docs/RULES.md 2.9, 2.10
 use Prim.Native.Nat.{ℕ, _+_, _-_, min, max}
 use mathlib.Core.List.{List}
 use lib.ListN.{getD}

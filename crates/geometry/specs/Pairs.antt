@@ -6,8 +6,8 @@ use Prim.Native.Nat.{ℕ, _≤_, _<_}
 use lib.ListN.{length, getD}
 use Rattle.geometry.specs.declared.rect.Rect.{Rect}
 use Rattle.geometry.specs.declared.polygon.Polygon.{Polygon}
-use Rattle.geometry.specs.declared.polygon.Next.{Next}
-use Rattle.geometry.specs.declared.polygon.Next.the-variants.{Drop, Join, Done}
+use Rattle.geometry.specs.declared.polygon_refine.Next.{Next}
+use Rattle.geometry.specs.declared.polygon_refine.Next.the-variants.{Drop, Join, Done}
 use Rattle.geometry.specs.Cells.{noRect}
 use Rattle.geometry.specs.Numbers.{rectsOf}
 use Rattle.geometry.specs.Refine.{within, dropped, joinable, joined, refine}

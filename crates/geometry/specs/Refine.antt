@@ -1,4 +1,5 @@
 -- Document 01, 'Refine'.
+-- docs/RULES.md 2.15 to 2.18
 use Prim.Native.Nat.{ℕ, zero, suc, _+_, _-_, min, max}
 use mathlib.Core.Bool.{Bool, _&&_, _||_, not, cond}
 use mathlib.Core.List.{List, _++_}

@@ -6,6 +6,7 @@ mod limits;
 mod numbers;
 mod pieces;
 mod polygon;
+mod polygon_refine;
 mod rect;
 mod refine;
 

@@ -1,4 +1,5 @@
 -- Calls on lent memory, lists of them, and the record. Document 01: 'What demand 3 says of a list is one claim about the whole list'.
+-- docs/RULES.md 3.13, 6.1, 6.2, 6.4, 9.1
 use Prim.Native.Nat.{ℕ, _+_, _*_}
 use mathlib.Core.Bool.{Bool, true, false}
 use mathlib.Core.List.{List, [], _∷_, map}

@@ -1,5 +1,6 @@
 -- What document 01 defines of a call on a memory of N parts that holds an index: the answer, the index after, and what is left in the
 -- lists. Cause 1 and cause 4 don't apply there.
+-- docs/RULES.md 6.6
 use Prim.Native.Nat.{ℕ, _+_, _*_}
 use mathlib.Core.Bool.{false, _||_, cond}
 use mathlib.Core.List.{List, [], _∷_, _++_, flatMap}

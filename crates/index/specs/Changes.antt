@@ -1,5 +1,6 @@
 -- What insertion and removal leave in the lists they were lent, with their answers. Which part a node takes is free: what the memory
 -- reads as is fixed.
+-- docs/RULES.md 3.16, 4.23, 4.25, 5.4, 5.11, 5.12, 7.2
 use Prim.Native.Nat.{ℕ}
 use mathlib.Core.List.{List}
 use mathlib.Core.Option.{Option, none, some}

@@ -1,5 +1,6 @@
 -- What the forms of the calls for C promise: document 01's number is returned, and the values of the answer are stored, each in its place;
 -- a value that the answer has not leaves its place as it was.
+-- docs/RULES.md 7.6
 use Prim.Native.Nat.{ℕ}
 use mathlib.Core.List.{List}
 use mathlib.Core.Path.{_≡_}

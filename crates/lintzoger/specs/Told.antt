@@ -1,5 +1,6 @@
 -- What a call for C told its caller, from the number that it returned and the values that stand in the caller's places afterwards. A refused
 -- call stores nothing, but for the matches of 9.
+-- docs/RULES.md 7.6
 use Prim.Native.Nat.{ℕ}
 use mathlib.Core.Bool.{cond}
 use mathlib.Core.List.{[], _∷_}

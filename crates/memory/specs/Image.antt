@@ -1,5 +1,6 @@
 -- The image of a tree: a memory of N parts that reads as that tree. Document 01: 'Each sound tree of at most N nodes has an accepted image.'
 -- Which parts the nodes take is left free; this image takes the first ones, in depth-first order, a node after its children.
+-- docs/RULES.md 3.17, 5.8
 use Prim.Native.Nat.{ℕ, zero, suc, _+_, _*_, _-_, _^_, min}
 use mathlib.Core.List.{List, [], _∷_, _++_, map, flatMap}
 use lib.ListN.{length, replicate}

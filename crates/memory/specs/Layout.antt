@@ -1,4 +1,5 @@
 -- Document 01, 'Memory is a list of 32-bit numbers': where each number stands. docs/LAYOUT.md has the same as a table.
+-- docs/RULES.md 3.9 to 3.11, 3.14, 3.15, 7.2
 use Prim.Native.Nat.{ℕ, zero, suc, _+_, _*_, _-_, _/_, _%_, _^_}
 use mathlib.Core.Bool.{Bool, true, _&&_, _||_}
 use mathlib.Core.List.{List, [], _∷_, _++_}

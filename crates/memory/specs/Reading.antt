@@ -1,4 +1,5 @@
 -- The reading of a memory into 'no sound tree' or an index. Document 01: 'its reading into a tree is a definition'.
+-- docs/RULES.md 3.10, 3.12 to 3.15, 5.3, 7.2
 use Prim.Native.Nat.{ℕ, zero, suc, _+_}
 use mathlib.Core.Bool.{Bool, _&&_, cond}
 use mathlib.Core.List.{List, [], _∷_}

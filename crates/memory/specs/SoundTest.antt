@@ -1,5 +1,6 @@
 -- The test for 'Sound' on a tree that was read: each clause of Sound as a test. The theorems sound-tested and test-of-sound say that it
 -- passes exactly where the tree is sound.
+-- docs/RULES.md 2.6, 3.7, 3.15
 use Prim.Native.Nat.{ℕ, zero, suc}
 use mathlib.Core.Bool.{Bool, _&&_, not}
 use mathlib.Core.List.{List}

@@ -1,4 +1,5 @@
 -- The first element that gives the least number: as a definition, and as a loop finds it.
+-- docs/RULES.md 4.19
 use Prim.Native.Nat.{ℕ, zero, suc, max}
 use mathlib.Core.Bool.{Bool, cond}
 use mathlib.Core.List.{List, [], _∷_}

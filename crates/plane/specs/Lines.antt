@@ -1,4 +1,5 @@
 -- Document 01, 'Insertion', step 4: the line at which a node is split.
+-- docs/RULES.md 4.18 to 4.21
 use Prim.Native.Nat.{ℕ, _+_, _*_, _-_, _/_}
 use mathlib.Core.Bool.{Bool, _&&_, not, cond}
 use mathlib.Core.List.{List, _++_, map}

@@ -1,4 +1,5 @@
 -- Document 01, 'A window query takes a rectangle': which cells and polygons match it.
+-- docs/RULES.md 2.7, 5.8, 5.9
 use Prim.Native.Nat.{ℕ}
 use mathlib.Core.Bool.{Bool}
 use mathlib.Core.List.{List}

@@ -1,4 +1,5 @@
 -- The limits of document 01, each named once, and what a limited list is.
+-- docs/RULES.md 2.6, 2.20, 2.23, 4.9
 use Prim.Native.Nat.{ℕ}
 use mathlib.Core.Bool.{cond}
 use mathlib.Core.List.{List}

@@ -1,4 +1,5 @@
 -- Whether some element of a list passes a test.
+-- docs/RULES.md 2.6
 use mathlib.Core.Bool.{Bool, false, _||_}
 use mathlib.Core.List.{List, [], _∷_}
 

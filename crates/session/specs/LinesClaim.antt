@@ -1,5 +1,6 @@
 -- Demand 3 for the lines of a session: the calls that the lines made are a list of which the claim holds, and what was printed is what these
 -- calls answered.
+-- docs/RULES.md 9.4, 9.7, 9.9
 use Prim.Native.Nat.{ℕ}
 use mathlib.Core.Bool.{cond}
 use mathlib.Core.List.{List, [], _∷_, _++_}

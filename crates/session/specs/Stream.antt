@@ -1,4 +1,5 @@
 -- The lines of an input that comes in parts.
+-- docs/RULES.md 9.2, 9.3
 use Prim.Native.Nat.{ℕ, _-_, _≤_, _<_}
 use mathlib.Core.Bool.{true, false}
 use mathlib.Core.List.{List, [], _∷_, _++_, map}

@@ -1,4 +1,5 @@
 -- The tree's plane, made of rectangles.
+-- docs/RULES.md 3.4, 4.2
 use mathlib.Core.List.{List, [], _∷_, map}
 use mathlib.Core.Path.{_≡_}
 use lib.ListN.{length}

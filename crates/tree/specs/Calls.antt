@@ -1,4 +1,5 @@
 -- The calls at the level of trees, and what each answers and leaves by the definitions.
+-- docs/RULES.md 4.22, 7.2
 use Prim.Native.Nat.{ℕ}
 use mathlib.Core.Bool.{Bool, true, false, cond}
 use mathlib.Core.List.{List, [], _∷_}

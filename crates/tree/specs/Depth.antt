@@ -1,4 +1,5 @@
 -- Document 01, 'The tree and its memory': "A node's depth is the number of steps from the root down to it; its polygon is the one its branch gives, and the root's is its one rectangle."
+-- docs/RULES.md 3.5, 5.6, 6.8 to 6.10
 use Prim.Native.Nat.{ℕ, zero, suc}
 use mathlib.Core.List.{List, [], _∷_, _++_, map, flatMap}
 use mathlib.Core.Option.{none, some}

@@ -1,4 +1,5 @@
 -- Document 01, 'Insertion'.
+-- docs/RULES.md 4.1, 4.2, 4.6, 4.9 to 4.11, 4.14, 4.22, 7.2
 use Prim.Native.Nat.{ℕ, zero, suc}
 use mathlib.Core.Bool.{cond}
 use mathlib.Core.List.{List, [], _∷_, _++_}

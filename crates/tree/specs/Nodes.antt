@@ -1,4 +1,5 @@
 -- Document 01, 'The tree and its memory': what a node holds.
+-- docs/RULES.md 3.1 to 3.3, 3.6, 3.7, 4.12
 use Prim.Native.Nat.{ℕ, zero, suc, _+_}
 use mathlib.Core.Bool.{Bool, not}
 use mathlib.Core.List.{List, [], _∷_, flatMap}

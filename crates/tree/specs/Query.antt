@@ -1,4 +1,5 @@
 -- Document 01, 'queries': the point query and the window query.
+-- docs/RULES.md 5.6, 5.8, 5.9, 7.2
 use Prim.Native.Nat.{ℕ}
 use mathlib.Core.Bool.{Bool}
 use mathlib.Core.List.{List, head?}

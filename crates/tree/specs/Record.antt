@@ -1,4 +1,5 @@
 -- Document 01: the record. "It is a list of entries, empty at the start."
+-- docs/RULES.md 6.4, 6.5
 use mathlib.Core.Bool.{Bool, true, false}
 use mathlib.Core.List.{List, [], _∷_, _++_}
 use Rattle.tree.specs.Lists.{keep}

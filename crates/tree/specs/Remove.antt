@@ -1,4 +1,5 @@
 -- Document 01, 'Removal'.
+-- docs/RULES.md 5.1 to 5.3
 use Prim.Native.Nat.{ℕ, zero, suc}
 use mathlib.Core.Bool.{Bool, cond, not}
 use mathlib.Core.List.{List, [], _∷_, flatMap}

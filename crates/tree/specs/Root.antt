@@ -1,4 +1,5 @@
 -- Document 01: "The root's polygon is one rectangle."
+-- docs/RULES.md 3.4, 4.1, 4.2
 use Rattle.tree.specs.Space.{Space}
 
 -- The root's polygon and how insertion changes it.

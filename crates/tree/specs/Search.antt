@@ -1,4 +1,5 @@
 -- Finding in lists: the first element that passes a test, the least number.
+-- docs/RULES.md 4.3, 4.4
 use Prim.Native.Nat.{ℕ, min}
 use mathlib.Core.Bool.{Bool, cond}
 use mathlib.Core.List.{List, [], _∷_}

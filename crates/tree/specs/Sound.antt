@@ -1,4 +1,5 @@
 -- Document 01, 'The tree and its memory': "Sound means: ..", clause by clause, for the items of one node and all below it.
+-- docs/RULES.md 3.1, 3.2, 3.7
 use Prim.Native.Nat.{ℕ, zero, suc, _≤_}
 use mathlib.Core.Bool.{true}
 use mathlib.Core.List.{List}

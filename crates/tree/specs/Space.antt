@@ -1,4 +1,5 @@
 -- Cells, polygons and lines as the tree sees them; entries and branches.
+-- docs/RULES.md 3.1, 3.2
 use Prim.Native.Nat.{ℕ}
 use mathlib.Core.Bool.{Bool}
 use mathlib.Core.List.{List}

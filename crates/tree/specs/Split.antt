@@ -1,4 +1,5 @@
 -- Document 01, 'Insertion', step 4 and 'Splitting'.
+-- docs/RULES.md 4.12, 4.13, 4.15 to 4.17, 5.1
 use Prim.Native.Nat.{ℕ, zero, suc}
 use mathlib.Core.Bool.{cond}
 use mathlib.Core.List.{List, [], _∷_, _++_, map, flatMap}

@@ -1,4 +1,5 @@
 -- Document 01, 'Insertion', step 2: the branch that is gone to, and its polygon grown.
+-- docs/RULES.md 4.3 to 4.9
 use mathlib.Core.List.{List, [], _∷_, _++_, flatMap}
 use mathlib.Core.Option.{Option, none, some, bind}
 use lib.Dec.{eqb}

@@ -1,4 +1,5 @@
 -- Document 01, 'The tree and its memory': the whole index, its measures, and "Sound".
+-- docs/RULES.md 3.4 to 3.7, 4.22
 use Prim.Native.Nat.{ℕ, suc, _+_}
 use mathlib.Core.List.{List, [], flatMap}
 use mathlib.Core.Option.{Option, none, some}

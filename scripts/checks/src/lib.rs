@@ -1,5 +1,5 @@
-//! Checks of the repository's pages: every name that they cite is in the repository, and the map of
-//! the crates is that of crates.txt.
+//! Checks of the repository's pages: every name that they cite is in the repository, the map of the
+//! crates is that of crates.txt, and the files of definitions have the numbers of their rules.
 
 pub mod cited;
 pub mod crate_list;
@@ -8,3 +8,4 @@ pub mod layers;
 pub mod page;
 pub mod picture;
 pub mod rows;
+pub mod rules;

@@ -28,11 +28,11 @@ part-write-end c = search needs
 write-requires : tie.Need-write-requires Inv-loop μ-loop
 write-requires c κs = search needs
 
-slice-aggregate-fail : tie.Need-slice-aggregate-fail Inv-loop μ-loop
-slice-aggregate-fail c = search needs
+slice-aggregate-write-all : tie.Need-slice-aggregate-write-all Inv-loop μ-loop
+slice-aggregate-write-all c = search needs
 
-fail-requires : tie.Need-fail-requires Inv-loop μ-loop
-fail-requires c κs = search needs
+write-all-requires : tie.Need-write-all-requires Inv-loop μ-loop
+write-all-requires c κs = search needs
 
 returns-2 : tie.Need-returns-2 Inv-loop μ-loop
 returns-2 c = search needs
@@ -40,11 +40,11 @@ returns-2 c = search needs
 is-again-requires : tie.Need-is-again-requires Inv-loop μ-loop
 is-again-requires c κs = search needs
 
-slice-aggregate-fail-2 : tie.Need-slice-aggregate-fail-2 Inv-loop μ-loop
-slice-aggregate-fail-2 c = search needs
+slice-aggregate-fail : tie.Need-slice-aggregate-fail Inv-loop μ-loop
+slice-aggregate-fail c = search needs
 
-fail-requires-2 : tie.Need-fail-requires-2 Inv-loop μ-loop
-fail-requires-2 c κs = search needs
+fail-requires : tie.Need-fail-requires Inv-loop μ-loop
+fail-requires c κs = search needs
 
 returns-3 : tie.Need-returns-3 Inv-loop μ-loop
 returns-3 c = search needs
@@ -88,12 +88,12 @@ write-answers-spec =
     part-write-start
     part-write-end
     write-requires
-    slice-aggregate-fail
-    fail-requires
+    slice-aggregate-write-all
+    write-all-requires
     returns-2
     is-again-requires
-    slice-aggregate-fail-2
-    fail-requires-2
+    slice-aggregate-fail
+    fail-requires
     returns-3
     sub-count
     part-count-start
