@@ -5,6 +5,7 @@ pub mod cited;
 pub mod crate_list;
 pub mod known;
 pub mod layers;
+pub mod made;
 pub mod page;
 pub mod picture;
 pub mod rows;

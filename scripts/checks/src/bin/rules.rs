@@ -1,33 +1,15 @@
 //! rules ROOT: writes to the head of each file of definitions the numbers of the rules that it states,
-//! as ROOT/docs/RULES.md has them. With --check behind ROOT it writes nothing, and fails if a file has
-//! other numbers.
+//! as ROOT/docs/RULES.md has them. With --check behind ROOT it only compares.
 
+use checks::made::{read, run, Made};
 use checks::rules::{head_line, placed, rules_of};
-use std::env;
 use std::fs;
 use std::path::{Path, PathBuf};
 use std::process::ExitCode;
 
 fn main() -> ExitCode {
-    let words: Vec<String> = env::args().skip(1).collect();
-    let done = match words.iter().map(String::as_str).collect::<Vec<_>>()[..] {
-        [root] => made(Path::new(root)).and_then(|files| files.iter().try_for_each(write)),
-        [root, "--check"] => {
-            made(Path::new(root)).and_then(|files| files.iter().try_for_each(check))
-        }
-        _ => Err("usage: rules ROOT [--check]".to_string()),
-    };
-    match done {
-        Ok(()) => ExitCode::SUCCESS,
-        Err(message) => {
-            println!("{message}");
-            ExitCode::FAILURE
-        }
-    }
+    run("rules", made)
 }
-
-/// A file, what stands in it, and what should.
-type Made = (PathBuf, String, String);
 
 /// The files of definitions of all crates. One that a rule names and that is not there is an error.
 fn made(root: &Path) -> Result<Vec<Made>, String> {
@@ -40,33 +22,15 @@ fn made(root: &Path) -> Result<Vec<Made>, String> {
                 continue;
             };
             let stated = rules.remove(&format!("{name}/specs/{stem}"));
-            let text = read(&path)?;
             let line = stated.map(|rules| head_line(&rules));
-            let should = placed(&text, line.as_deref());
-            files.push((path, text, should));
+            let text = placed(&read(&path)?, line.as_deref());
+            files.push(Made { path, text });
         }
     }
     match rules.keys().next() {
         Some(lost) => Err(format!("docs/RULES.md names {lost}, which is not there")),
         None => Ok(files),
     }
-}
-
-fn write((path, text, should): &Made) -> Result<(), String> {
-    if text == should {
-        return Ok(());
-    }
-    fs::write(path, should).map_err(|error| format!("{}: {error}", path.display()))
-}
-
-fn check((path, text, should): &Made) -> Result<(), String> {
-    if text == should {
-        return Ok(());
-    }
-    let path = path.display();
-    Err(format!(
-        "{path} has not the rules that docs/RULES.md says it states: run make rules"
-    ))
 }
 
 /// What a folder has; nothing where it is not there.
@@ -85,8 +49,4 @@ fn file_name(path: &Path) -> String {
         .unwrap_or_default()
         .to_string_lossy()
         .into_owned()
-}
-
-fn read(path: &Path) -> Result<String, String> {
-    fs::read_to_string(path).map_err(|error| format!("{}: {error}", path.display()))
 }
