@@ -99,7 +99,8 @@ fn answer_all(
     list: &mut [u32],
     out: &mut [u8],
 ) -> Rest
-    requires { ⌜ (length (now list) ≤ 65536) × (64 + 12 * length (now list) ≤ length (now out)) ⌝ }
+    requires { ⌜ length (now list) ≤ 65536 ⌝ }
+    requires { ⌜ 64 + 12 * length (now list) ≤ length (now out) ⌝ }
     ensures { λ r. ⌜ AllServed (now (input .entry)) (lent (now (m .entry)) (now (work .entry)) (now (list .entry))) (lent (now (m .exit)) (now (work .exit)) (now (list .exit))) r ⌝ }
 {
     let mut from = 0;
@@ -125,7 +126,8 @@ fn answer_first(
     input: &mut [u8],
     out: &mut [u8],
 ) -> Turn
-    requires { ⌜ (to ≤ length (now input)) × Lengths (length (now list)) (length (now input)) (length (now out)) ⌝ }
+    requires { ⌜ to ≤ length (now input) ⌝ }
+    requires { ⌜ Lengths (length (now list)) (length (now input)) (length (now out)) ⌝ }
     ensures { λ r. ⌜ FirstServed (take to (now (input .entry))) (now (input .exit)) (lent (now (m .entry)) (now (work .entry)) (now (list .entry))) (lent (now (m .exit)) (now (work .exit)) (now (list .exit))) r ⌝ }
 {
     let rest = answer_all(&input[0..to], m, work, list, out);
@@ -148,7 +150,8 @@ fn read_some(
     input: &mut [u8],
     out: &mut [u8],
 ) -> Turn
-    requires { ⌜ (kept ≤ 81) × Lengths (length (now list)) (length (now input)) (length (now out)) ⌝ }
+    requires { ⌜ kept ≤ 81 ⌝ }
+    requires { ⌜ Lengths (length (now list)) (length (now input)) (length (now out)) ⌝ }
     ensures { λ r. ⌜ TurnServed (lent (now (m .entry)) (now (work .entry)) (now (list .entry))) (lent (now (m .exit)) (now (work .exit)) (now (list .exit))) r ⌝ }
 {
     let got = read_once(&mut input[kept..]);
@@ -172,7 +175,8 @@ fn answer_last(
     input: &[u8],
     out: &mut [u8],
 )
-    requires { ⌜ (kept ≤ 81) × Lengths (length (now list)) (length (now input)) (length (now out)) ⌝ }
+    requires { ⌜ kept ≤ 81 ⌝ }
+    requires { ⌜ Lengths (length (now list)) (length (now input)) (length (now out)) ⌝ }
     ensures { λ _. ⌜ LastServed (take kept (now (input .entry))) (lent (now (m .entry)) (now (work .entry)) (now (list .entry))) (lent (now (m .exit)) (now (work .exit)) (now (list .exit))) ⌝ }
 {
     if kept == 0 {
@@ -184,7 +188,8 @@ fn answer_last(
 
 // Reads to the end of the input, from a fresh index on. The loop counts its turns down, as that of read_once.
 fn run(m: &mut [u32], work: &mut [u32], list: &mut [u32], input: &mut [u8], out: &mut [u8])
-    requires { ⌜ (now m ≡ freshMemory 64) × Lengths (length (now list)) (length (now input)) (length (now out)) ⌝ }
+    requires { ⌜ now m ≡ freshMemory 64 ⌝ }
+    requires { ⌜ Lengths (length (now list)) (length (now input)) (length (now out)) ⌝ }
     ensures { λ _. ⌜ Claimed (lent (now (m .entry)) (now (work .entry)) (now (list .entry))) (lent (now (m .exit)) (now (work .exit)) (now (list .exit))) ⌝ }
 {
     let mut kept = 0;
@@ -208,7 +213,8 @@ fn run(m: &mut [u32], work: &mut [u32], list: &mut [u32], input: &mut [u8], out:
 }
 
 fn index_numbers() -> [u32; 8256]
-    ensures { λ r. ⌜ (r ≡ freshMemory 64) × (8256 ≡ length r) ⌝ }
+    ensures { λ r. ⌜ r ≡ freshMemory 64 ⌝ }
+    ensures { λ r. ⌜ 8256 ≡ length r ⌝ }
 {
     [0; 8256]
 }

@@ -13,8 +13,7 @@ use Rattle.tree.specs.Lists.{All}
 use Rattle.tree.specs.Calls.{insertCall, removeCall, clearCall, pointCall, windowCall}
 use Rattle.index.specs.Answers.{insertAnswer, removeAnswer, clearAnswer, pointAnswer, windowAnswer}
 use Rattle.index.specs.Changes.{entryOf}
-use Rattle.index.specs.Numbers as A
-use Rattle.index.specs.Numbers.{insertTold, removeTold, clearTold}
+use Rattle.index.specs.Numbers.{insertTold, removeTold, clearTold, pointTold, windowTold}
 use Rattle.index.specs.declared.answer.Inserted.{Inserted}
 use Rattle.index.specs.declared.answer.Inserted.the-variants as I
 use Rattle.index.specs.declared.answer.Removed.{Removed}
@@ -30,7 +29,7 @@ use Rattle.history.specs.Contract.{Kept}
 use Rattle.history.specs.Claim.{HistoryClaim}
 use Rattle.history.proofs.History.{kept-history}
 use Rattle.lintzoger.specs.Exports.{stored, cellOf, rectOf}
-use Rattle.lintzoger.specs.Told.{changeTold, pointTold, windowTold}
+use Rattle.lintzoger.specs.Seen.{changeSeen, pointSeen, windowSeen}
 use Rattle.lintzoger.proofs.exports.lintzoger_insert as insert-fn
 use Rattle.lintzoger.proofs.exports.lintzoger_insert.Reads as insert
 use Rattle.lintzoger.proofs.exports.lintzoger_insert.Kinds as insert-kinds
@@ -96,7 +95,7 @@ pub data Step : Type 0 where
 
 -- The number and the values stored are those of the answer: one law for each kind of call, by the cases of its answer.
 insert-tells : (r : Inserted) (n held held′ : ℕ) → n ≡ insertTold r .number → held′ ≡ stored (insertTold r) 0 held
-    → changeTold n held′ ≡ insertTold r
+    → changeSeen n held′ ≡ insertTold r
 insert-tells (I.Accepted k) n held held′ p q = rw (p, q)
 insert-tells I.WrongLength n held held′ p q = rw p
 insert-tells I.WrongWorkLength n held held′ p q = rw p
@@ -107,7 +106,7 @@ insert-tells I.PolygonLimit n held held′ p q = rw p
 insert-tells I.NodeLimit n held held′ p q = rw p
 
 remove-tells : (r : Removed) (n held held′ : ℕ) → n ≡ removeTold r .number → held′ ≡ stored (removeTold r) 0 held
-    → changeTold n held′ ≡ removeTold r
+    → changeSeen n held′ ≡ removeTold r
 remove-tells (R.Accepted k) n held held′ p q = rw (p, q)
 remove-tells R.WrongLength n held held′ p q = rw p
 remove-tells R.OffGrid n held held′ p q = rw p
@@ -115,22 +114,22 @@ remove-tells R.NoTree n held held′ p q = rw p
 remove-tells R.CellNotHeld n held held′ p q = rw p
 
 clear-tells : (r : Cleared) (n held held′ : ℕ) → n ≡ clearTold r .number → held′ ≡ stored (clearTold r) 0 held
-    → changeTold n held′ ≡ clearTold r
+    → changeSeen n held′ ≡ clearTold r
 clear-tells (C.Accepted k) n held held′ p q = rw (p, q)
 clear-tells C.WrongLength n held held′ p q = rw p
 
-point-tells : (r : PointFound) (n held visits tag held′ visits′ tag′ : ℕ) → n ≡ A.pointTold r .number
-    → held′ ≡ stored (A.pointTold r) 0 held → visits′ ≡ stored (A.pointTold r) 1 visits → tag′ ≡ stored (A.pointTold r) 2 tag
-    → pointTold n held′ visits′ tag′ ≡ A.pointTold r
+point-tells : (r : PointFound) (n held visits tag held′ visits′ tag′ : ℕ) → n ≡ pointTold r .number
+    → held′ ≡ stored (pointTold r) 0 held → visits′ ≡ stored (pointTold r) 1 visits → tag′ ≡ stored (pointTold r) 2 tag
+    → pointSeen n held′ visits′ tag′ ≡ pointTold r
 point-tells (P.Held x y) n held visits tag held′ visits′ tag′ p q a b = rw (p, q, a, b)
 point-tells (P.NotHeld y) n held visits tag held′ visits′ tag′ p q a b = rw (p, q, a)
 point-tells P.WrongLength n held visits tag held′ visits′ tag′ p q a b = rw p
 point-tells P.OffGrid n held visits tag held′ visits′ tag′ p q a b = rw p
 point-tells P.NoTree n held visits tag held′ visits′ tag′ p q a b = rw p
 
-window-tells : (r : WindowFound) (n matches visits matches′ visits′ : ℕ) → n ≡ A.windowTold r .number
-    → matches′ ≡ stored (A.windowTold r) 0 matches → visits′ ≡ stored (A.windowTold r) 1 visits
-    → windowTold n matches′ visits′ ≡ A.windowTold r
+window-tells : (r : WindowFound) (n matches visits matches′ visits′ : ℕ) → n ≡ windowTold r .number
+    → matches′ ≡ stored (windowTold r) 0 matches → visits′ ≡ stored (windowTold r) 1 visits
+    → windowSeen n matches′ visits′ ≡ windowTold r
 window-tells (W.Found x y) n matches visits matches′ visits′ p q a = rw (p, q, a)
 window-tells W.WrongLength n matches visits matches′ visits′ p q a = rw p
 window-tells W.BadWindow n matches visits matches′ visits′ p q a = rw p
@@ -148,7 +147,7 @@ made (inserts s) =
       after = now (z .0);
       lent = now (a .1 .0);
       left = now (z .1 .0);
-      told = changeTold (s .out) (now (z .1 .1 .1 .1 .1 .0));
+      told = changeSeen (s .out) (now (z .1 .1 .1 .1 .1 .0));
     }
 made (removes s) =
     let a = s .args in
@@ -159,7 +158,7 @@ made (removes s) =
       after = now (z .0);
       lent = [];
       left = [];
-      told = changeTold (s .out) (now (z .1 .1 .1 .0));
+      told = changeSeen (s .out) (now (z .1 .1 .1 .0));
     }
 made (clears s) =
     let z = s .exits in
@@ -169,7 +168,7 @@ made (clears s) =
       after = now (z .0);
       lent = [];
       left = [];
-      told = changeTold (s .out) (now (z .1 .0));
+      told = changeSeen (s .out) (now (z .1 .0));
     }
 made (points s) =
     let a = s .args in
@@ -180,7 +179,7 @@ made (points s) =
       after = now (a .0);
       lent = [];
       left = [];
-      told = pointTold (s .out) (now (z .1 .1 .1 .0)) (now (z .1 .1 .1 .1 .0)) (now (z .1 .1 .1 .1 .1 .0));
+      told = pointSeen (s .out) (now (z .1 .1 .1 .0)) (now (z .1 .1 .1 .1 .0)) (now (z .1 .1 .1 .1 .1 .0));
     }
 made (windows s) =
     let a = s .args in
@@ -191,7 +190,7 @@ made (windows s) =
       after = now (a .0);
       lent = now (a .1 .1 .1 .1 .1 .0);
       left = now (z .1 .1 .1 .1 .1 .0);
-      told = windowTold (s .out) (now (z .1 .1 .1 .1 .1 .1 .0)) (now (z .1 .1 .1 .1 .1 .1 .1 .0));
+      told = windowSeen (s .out) (now (z .1 .1 .1 .1 .1 .1 .0)) (now (z .1 .1 .1 .1 .1 .1 .1 .0));
     }
 
 -- A step's own contract is what the claim rests on.
