@@ -1,7 +1,7 @@
 -- The rectangles of the plane have the laws that boxes need.
 use Prim.Native.Nat.{ℕ, _≤_}
-use mathlib.Core.Bool.{Bool, true, _&&_, _||_}
-use mathlib.Core.Path.{_≡_, refl, sym, ap, _∙_}
+use mathlib.Core.Bool.{Bool, true, _&&_}
+use mathlib.Core.Path.{_≡_, refl, ap, _∙_}
 use mathlib.Core.List.{List, [], _∷_, flatMap, append-nil}
 use lib.Dec.{eqb}
 use lib.ListN.{length, getD}
@@ -12,9 +12,8 @@ use Rattle.geometry.specs.declared.rect.Cell.{Cell}
 use Rattle.geometry.specs.declared.rect.Rect.{Rect}
 use Rattle.geometry.specs.declared.rect.Line.{Line}
 use Rattle.geometry.specs.Cells.{hasCell, valid, allValid, anyHas, noRect}
-use Rattle.geometry.specs.Common.{overlap, common, unlessEmpty}
+use Rattle.geometry.specs.Common.{overlap, common}
 use Rattle.geometry.specs.Grow.{grown, extraArea}
-use Rattle.geometry.specs.Cut.{cut}
 use Rattle.geometry.specs.Refine.{refine}
 use Rattle.geometry.specs.Clip.{onSide, clipRect, sidePart, clip}
 use Rattle.geometry.proofs.Booleans.{both, split-and}

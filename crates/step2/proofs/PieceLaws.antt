@@ -16,8 +16,6 @@ use Rattle.geometry.specs.Refine.{refine}
 use Rattle.polygons.proofs.LimitLaws.{at-most-length}
 use Rattle.tree.specs.Step2.{grownPoly}
 use Rattle.tree.proofs.Any.{bind-some}
-use Rattle.plane.specs.Plane.{plane}
-use Rattle.memory.specs.Fanout.{fanout}
 use Rattle.step2.specs.Pieces.{siblings, innerPieces, replaced, refinedLimited, grownAt}
 
 -- the common parts of the pieces, put in place of the k-th rectangle and refined
