@@ -10,6 +10,7 @@ pub mod case;
 pub mod checked;
 pub mod compared;
 pub mod fault;
+pub mod joins;
 pub mod kinds;
 pub mod ladder;
 pub mod limits;

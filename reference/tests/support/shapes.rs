@@ -127,15 +127,17 @@ fn line_end(i: u32, side: u32, corner: Cell, random: &mut Random) -> Cell {
     [(corner[0] + dx) % GRID_END, (corner[1] + dy) % GRID_END]
 }
 
-pub fn put_in_order(cells: &mut [Cell], order: Order, random: &mut Random) {
+pub fn put_in_order<T: Ord>(items: &mut [T], order: Order, random: &mut Random) {
     match order {
         Order::AsMade => {}
-        Order::Reversed => cells.reverse(),
-        Order::Sorted => cells.sort_unstable(),
-        Order::Shuffled => {
-            for i in (1..cells.len()).rev() {
-                cells.swap(i, random.between(0, i as u32) as usize);
-            }
-        }
+        Order::Reversed => items.reverse(),
+        Order::Sorted => items.sort_unstable(),
+        Order::Shuffled => shuffle(items, random),
+    }
+}
+
+pub fn shuffle<T>(items: &mut [T], random: &mut Random) {
+    for i in (1..items.len()).rev() {
+        items.swap(i, random.between(0, i as u32) as usize);
     }
 }
