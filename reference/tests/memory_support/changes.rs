@@ -10,7 +10,7 @@ use reference::random::Random;
 use reference::tree::Tree;
 
 /// A cell in a polygon of the tree, near it, or anywhere.
-fn any_cell(tree: Option<&Tree>, random: &mut Random) -> Cell {
+pub fn any_cell(tree: Option<&Tree>, random: &mut Random) -> Cell {
     let Some(tree) = tree else {
         return [0, 1].map(|_| random.between(0, 65535));
     };

@@ -8,6 +8,7 @@ pub mod built;
 pub mod changes;
 pub mod damage;
 pub mod damaged;
+pub mod gaps;
 pub mod guard;
 pub mod histories;
 pub mod images;
@@ -18,7 +19,9 @@ pub mod queries;
 pub mod ragged;
 pub mod session;
 pub mod steep;
+pub mod tall;
 pub mod trees;
+pub mod whole;
 pub mod work;
 
 // Document 01's numbers, written out here so that the tests do not follow a change of the second

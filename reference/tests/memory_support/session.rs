@@ -54,6 +54,19 @@ impl Session {
         self.work = Work::new(self.work.length(), dirt);
     }
 
+    /// From now on the work area holds these numbers before each insertion.
+    pub fn soil_with(&mut self, numbers: &[u32]) {
+        self.work = Work::of(numbers.iter().copied());
+    }
+
+    /// Another image of the tree takes the place of the index.
+    pub fn take_image(&mut self, image: &[u32]) {
+        self.lent = Lent::new(image);
+        let reading = self.lent.reading();
+        let tree = reading.index().and_then(|index| index.tree());
+        assert_eq!(tree, self.tree(), "{}: another tree", self.label);
+    }
+
     /// The record's entries.
     pub fn held(&self) -> &[Entry] {
         &self.record
