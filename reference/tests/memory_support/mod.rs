@@ -21,6 +21,7 @@ pub mod session;
 pub mod steep;
 pub mod tall;
 pub mod trees;
+pub mod wheel;
 pub mod whole;
 pub mod work;
 
