@@ -1,6 +1,7 @@
 //! The second implementation of document 01, written from its sentences and as plain as possible,
 //! and the declarations of the proved library that the tests compare it with.
 
+pub mod bands;
 pub mod drawing;
 pub mod geometry;
 pub mod lines;
