@@ -5,6 +5,7 @@ pub mod bands;
 pub mod drawing;
 pub mod geometry;
 pub mod lines;
+pub mod measure;
 pub mod memory;
 pub mod proved;
 pub mod proved_bench;

@@ -3,6 +3,7 @@
 //! cleared between calls. The times are illustrations, the ratio is the figure.
 
 use reference::drawing::{self, RESULT_LENGTH};
+use reference::measure::median;
 use reference::proved;
 use reference::random::Random;
 use std::hint::black_box;
@@ -134,11 +135,6 @@ fn repeats(inputs: &[Input], job: Job) -> u32 {
         }
         repeats *= 2;
     }
-}
-
-fn median(mut times: Vec<f64>) -> f64 {
-    times.sort_by(f64::total_cmp);
-    times[times.len() / 2]
 }
 
 fn main() {

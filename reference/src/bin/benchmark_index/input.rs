@@ -3,7 +3,7 @@
 use reference::geometry::Cell;
 use reference::memory::image;
 use reference::random::Random;
-use reference::tree::{Index, Tree};
+use reference::tree::{Index, Refusal, Tree};
 
 /// Different calls of each kind.
 pub const CALLS: usize = 16;
@@ -76,6 +76,9 @@ pub struct Input {
     /// Cells whose insertion is accepted without a split, and with one; perhaps none.
     pub fitting: Vec<Cell>,
     pub splitting: Vec<Cell>,
+    /// Cells of which every second one is refused with 8, the others are accepted without a split;
+    /// perhaps none.
+    pub half_refused: Vec<Cell>,
 }
 
 impl Input {
@@ -86,10 +89,14 @@ impl Input {
         let entries = tree.entries();
         let held: Vec<Cell> = (0..CALLS).map(|_| random.pick(&entries).cell).collect();
         let reach = if points == Points::Crowded { 3 } else { 3000 };
+        let [fitting, splitting, refused] = [Outcome::Fits, Outcome::Splits, Outcome::TooManyNodes]
+            .map(|outcome| cells_with(index, points, outcome, random));
+        let pairs = fitting.iter().zip(&refused).take(CALLS / 2);
         Input {
             windows: held.iter().map(|&cell| around(cell, reach)).collect(),
-            fitting: accepted_cells(index, points, false, random),
-            splitting: accepted_cells(index, points, true, random),
+            half_refused: pairs.flat_map(|(&a, &b)| [a, b]).collect(),
+            fitting,
+            splitting,
             changed: memory.clone(),
             work: vec![0; memory.len()],
             list: vec![0; 3 * entries.len()],
@@ -106,15 +113,32 @@ fn around(cell: Cell, reach: u32) -> [u32; 4] {
     [llx, lly, urx, ury]
 }
 
-/// Cells whose insertion is accepted and makes new nodes, or none; no cell where they are too rare.
-fn accepted_cells(index: &Index, points: Points, splits: bool, random: &mut Random) -> Vec<Cell> {
+/// What an insertion does.
+#[derive(Clone, Copy, PartialEq, Eq)]
+enum Outcome {
+    Fits,
+    Splits,
+    TooManyNodes,
+    Other,
+}
+
+fn outcome(index: &Index, cell: Cell) -> Outcome {
     let nodes = |index: &Index| index.tree().map_or(0, Tree::nodes);
+    let mut after = index.clone();
+    match after.insert(cell, 0) {
+        Ok(_) if nodes(&after) > nodes(index) => Outcome::Splits,
+        Ok(_) => Outcome::Fits,
+        Err(Refusal::Nodes) => Outcome::TooManyNodes,
+        Err(_) => Outcome::Other,
+    }
+}
+
+/// Cells whose insertion has this outcome; no cell where they are too rare.
+fn cells_with(index: &Index, points: Points, wanted: Outcome, random: &mut Random) -> Vec<Cell> {
     let mut cells = Vec::new();
     for _ in 0..4000 {
         let cell = points.cell(index.n(), random);
-        let mut after = index.clone();
-        let accepted = after.insert(cell, 0).is_ok();
-        if accepted && splits == (nodes(&after) > nodes(index)) {
+        if outcome(index, cell) == wanted {
             cells.push(cell);
         }
         if cells.len() == CALLS {

@@ -14,6 +14,8 @@ pub struct Job {
     pub second: Call,
     /// The call needs the index as it was, which is given anew before each.
     pub changes: bool,
+    /// Some of the calls may be refused with 8.
+    pub may_refuse: bool,
     /// The point queries and passes that its time is set against; none where both are 0.
     pub against: [f64; 2],
 }
@@ -24,17 +26,19 @@ impl Job {
         match self.name {
             "insert" => !input.fitting.is_empty(),
             "split" => !input.splitting.is_empty(),
+            "half" => !input.half_refused.is_empty(),
             _ => true,
         }
     }
 }
 
-pub const JOBS: [Job; 7] = [
+pub const JOBS: [Job; 8] = [
     Job {
         name: "point",
         proved: |input, i| proved_point(input, input.held[i]),
         second: |input, i| second_point(input, input.held[i]),
         changes: false,
+        may_refuse: false,
         against: [0.0, 0.0],
     },
     Job {
@@ -42,6 +46,7 @@ pub const JOBS: [Job; 7] = [
         proved: proved_window,
         second: second_window,
         changes: false,
+        may_refuse: false,
         against: [0.0, 0.0],
     },
     Job {
@@ -49,6 +54,7 @@ pub const JOBS: [Job; 7] = [
         proved: |input, _| proved_point(input, OFF),
         second: |input, _| second_point(input, OFF),
         changes: false,
+        may_refuse: false,
         against: [0.0, 0.0],
     },
     Job {
@@ -56,6 +62,7 @@ pub const JOBS: [Job; 7] = [
         proved: |input, i| proved_insert(input, input.fitting[i]),
         second: |input, i| second_insert(input, input.fitting[i]),
         changes: true,
+        may_refuse: false,
         against: INSERTION,
     },
     Job {
@@ -63,6 +70,15 @@ pub const JOBS: [Job; 7] = [
         proved: |input, i| proved_insert(input, input.splitting[i]),
         second: |input, i| second_insert(input, input.splitting[i]),
         changes: true,
+        may_refuse: false,
+        against: INSERTION,
+    },
+    Job {
+        name: "half",
+        proved: |input, i| proved_insert(input, input.half_refused[i]),
+        second: |input, i| second_insert(input, input.half_refused[i]),
+        changes: true,
+        may_refuse: true,
         against: INSERTION,
     },
     Job {
@@ -75,6 +91,7 @@ pub const JOBS: [Job; 7] = [
             number(memory::remove(&mut input.changed, input.held[i], held))
         },
         changes: true,
+        may_refuse: false,
         against: [1.0, 2.0],
     },
     Job {
@@ -82,6 +99,7 @@ pub const JOBS: [Job; 7] = [
         proved: |input, _| proved_index::clear(&mut input.changed, &mut input.stored[0]),
         second: |input, _| number(memory::clear(&mut input.changed, &mut input.stored[0])),
         changes: false,
+        may_refuse: false,
         against: [0.0, 0.0],
     },
 ];

@@ -1,7 +1,8 @@
-//! The proved calls' time on an index, over one plain pass that sums the same memory, and over the
-//! second implementation doing the same work on it. Insertion and removal are also put beside what
+//! The proved calls' time on an index, over a pass over the same memory (`reference::measure`), and
+//! over the second implementation doing the same work on it. Insertion and removal are also put beside what
 //! they at least do: an insertion looks for the cell, builds the tree after and copies it, which is
 //! set against two point queries and six passes; a removal against a point query and two passes.
+//! The job 'half' is insertion into a full index: half of its cells are refused with 8.
 //! The times are illustrations, the ratios are the figures.
 
 mod input;
@@ -10,9 +11,10 @@ mod timing;
 
 use input::{filled, Input, Points};
 use jobs::{Job, JOBS};
+use reference::measure::pass_time;
 use reference::random::Random;
 use reference::tree::Index;
-use timing::{check, pass_time, times};
+use timing::{check, times};
 
 /// Times each job on one index and prints a row for each.
 fn print_rows(index: &Index, points: Points, random: &mut Random) {
@@ -24,7 +26,7 @@ fn print_rows(index: &Index, points: Points, random: &mut Random) {
         index.tree().map_or(0, |t| t.nodes()),
         index.held()
     );
-    let pass = pass_time(&mut input);
+    let pass = pass_time(&input.index);
     let mut point = 0.0;
     for job in &JOBS {
         if !job.has_input(&input) {

@@ -3,6 +3,7 @@
 
 use crate::input::{Input, CALLS};
 use crate::jobs::{Call, Job};
+use reference::measure::median;
 use reference::memory::read_back;
 use std::hint::black_box;
 use std::time::{Duration, Instant};
@@ -19,40 +20,27 @@ pub fn check(input: &mut Input, job: &Job) {
     for i in 0..CALLS {
         let [given, expected] = [job.proved, job.second].map(|call| {
             input.changed.copy_from_slice(&input.index);
-            assert_eq!(call(input, i), 0, "{}", job.name);
+            let answer = call(input, i);
+            let is_expected = answer == 0 || job.may_refuse && answer == 8;
+            assert!(is_expected, "{}: answer {answer}", job.name);
             let tree = read_back(&input.changed).expect("the layout is kept");
-            (input.stored, input.list.clone(), tree)
+            (answer, input.stored, input.list.clone(), tree)
         });
         assert!(given == expected, "{}: the calls differ", job.name);
     }
 }
 
-/// The time of one plain pass over the memory, in nanoseconds.
-pub fn pass_time(input: &mut Input) -> f64 {
-    let [time] = times_of(input, [sum], false);
-    time
-}
-
-/// One plain pass over the memory.
-fn sum(input: &mut Input, _: usize) -> u32 {
-    let numbers = black_box(&input.index).iter();
-    numbers.fold(0, |sum: u32, &number| sum.wrapping_add(number))
-}
-
-/// The times of the proved call and of the second implementation's, in nanoseconds.
+/// The times of the proved call and of the second implementation's, in nanoseconds: the mean over
+/// the arguments of the median time of each call.
 pub fn times(input: &mut Input, job: &Job) -> [f64; 2] {
-    times_of(input, [job.proved, job.second], job.changes)
-}
-
-/// The mean over the arguments of the median time of each call.
-fn times_of<const K: usize>(input: &mut Input, calls: [Call; K], changes: bool) -> [f64; K] {
-    let repeats = calls.map(|call| match changes {
+    let calls = [job.proved, job.second];
+    let repeats = calls.map(|call| match job.changes {
         true => 1,
         false => repeats(input, call),
     });
-    let mut times = [(); K].map(|()| vec![Vec::new(); CALLS]);
+    let mut times = [(); 2].map(|()| vec![Vec::new(); CALLS]);
     for _ in 0..ROUNDS {
-        for k in 0..K {
+        for k in 0..2 {
             for (i, samples) in times[k].iter_mut().enumerate() {
                 samples.push(time(input, calls[k], i, repeats[k]));
             }
@@ -82,9 +70,4 @@ fn repeats(input: &mut Input, call: Call) -> u32 {
         }
         repeats *= 2;
     }
-}
-
-fn median(mut times: Vec<f64>) -> f64 {
-    times.sort_by(f64::total_cmp);
-    times[times.len() / 2]
 }
