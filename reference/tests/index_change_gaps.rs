@@ -8,7 +8,7 @@ use memory_support::gaps::Gaps;
 use memory_support::histories::random_history;
 use memory_support::images::{any_image, any_tree};
 use memory_support::steep::steep_tree;
-use memory_support::tall::{cell_between, tall_tree};
+use memory_support::tall::{cell_outside, tall_tree};
 use memory_support::trees::random_tree;
 use memory_support::MOST_PARTS;
 use reference::geometry::Rectangle;
@@ -101,8 +101,8 @@ fn large_indexes() {
     tally.require(10, &["among gaps, one node more"]);
 }
 
-/// Tall trees with several rectangles in each polygon: cells between two levels, so that all
-/// polygons below grow, and cells in the leaves.
+/// Tall trees with several rectangles in each polygon: cells outside of a level, so that its
+/// polygon and all below grow, and cells in the leaves.
 #[test]
 fn tall_trees() {
     let seed = seed();
@@ -119,9 +119,9 @@ fn tall_trees() {
         let label = format!("LINTZOGER_SEED={seed}, tall tree {case}, N = {n}");
         let mut gaps = Gaps::new(&image, label);
         for _ in 0..8 {
-            let last = random.pick(&[5, levels as u32 - 3]);
+            let last = random.pick(&[0, 5, levels as u32 - 3]);
             let level = random.between(0, last) as usize;
-            let cell = cell_between(level, &mut random);
+            let cell = cell_outside(level, &mut random);
             let kind = grown_kind(gaps.tree().expect("a tree"), cell);
             gaps.scatter(&mut random);
             if gaps.insert(cell, &mut random) == 0 {

@@ -1,17 +1,18 @@
-//! Tall sound trees whose polygons become smaller from level to level, so that a cell between two
-//! levels makes all polygons below grow.
+//! Tall sound trees whose polygons become smaller from level to level, so that a cell just outside
+//! of a level's polygon makes it and all below grow.
 
 use super::trees::{cell_of, tree_of};
 use reference::geometry::{Cell, Rectangle};
 use reference::random::Random;
 use reference::tree::{Branch, Node, Tree};
 
-/// How far a level's square lies within that of the level above, on each side.
+/// How far a level's square lies within that of the level above, on each side, and the root's within
+/// the grid.
 const STEP: u32 = 3;
 
 /// The square of a level, the root's being level 0.
 fn square(level: usize) -> Rectangle {
-    let margin = STEP * level as u32;
+    let margin = STEP * (level as u32 + 1);
     let end = 65536 - margin;
     Rectangle::new(margin, margin, end, end)
 }
@@ -49,11 +50,11 @@ fn strips(square: Rectangle, d: usize, random: &mut Random) -> Vec<Rectangle> {
         .collect()
 }
 
-/// A cell of a level's square outside of the next level's.
-pub fn cell_between(level: usize, random: &mut Random) -> Cell {
+/// A cell outside of a level's square, and in the square of the level above.
+pub fn cell_outside(level: usize, random: &mut Random) -> Cell {
     let mut cell = cell_of(&[square(level)], random);
     let d = random.between(0, 1) as usize;
-    let first = square(level).ll[d] + random.between(0, STEP - 1);
-    cell[d] = random.pick(&[first, 65535 - first]);
+    let outside = square(level).ll[d] - random.between(1, STEP);
+    cell[d] = random.pick(&[outside, 65535 - outside]);
     cell
 }
