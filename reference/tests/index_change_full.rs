@@ -168,7 +168,7 @@ fn split(tree: &Tree, count: usize, label: &str, random: &mut Random, tally: &mu
 fn full_paths() {
     let seed = seed();
     let mut tally = Tally::default();
-    for case in 0..480 {
+    for case in 0..320 {
         let mut random = Random::for_case(seed, 1710, case);
         let levels = 1 + case as usize % 8;
         let tree = steep_tree(levels, GRID, &mut random);

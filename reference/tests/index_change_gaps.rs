@@ -52,7 +52,7 @@ const AMONG_GAPS: [&str; 3] = [
 fn small_indexes() {
     let seed = seed();
     let mut tally = Tally::default();
-    for case in 0..900 {
+    for case in 0..600 {
         let mut random = Random::for_case(seed, 1700, case);
         let n = random.between(2, 48) as usize;
         let tree = match case % 4 {
@@ -71,7 +71,7 @@ fn small_indexes() {
         );
     }
     say(&format!("gaps, small indexes: {tally}"));
-    tally.require(100, &AMONG_GAPS);
+    tally.require(50, &AMONG_GAPS);
     tally.require(10, &["insert refused 8"]);
 }
 
