@@ -1,6 +1,6 @@
 -- Contained rectangles can be dropped in any order: refine gives the same list.
 use mathlib.Core.Path.{_≡_, refl, sym, _∙_, ap}
-use mathlib.Core.Bool.{Bool, true, false, not}
+use mathlib.Core.Bool.{Bool, true}
 use mathlib.Core.List.{List, [], _∷_}
 use mathlib.Core.Logic.{_⊎_, inl, inr, ⊎-elim}
 use Prim.Native.Nat.{ℕ, zero, suc, _+_, _-_, _≤_, _<_}
@@ -13,19 +13,11 @@ use lib.Seq.{ext-getD, getD-take, getD-drop, getD-append-add, length-take-le}
 use Rattle.polygons.specs.Lists.{any}
 use Rattle.geometry.specs.declared.rect.Rect.{Rect}
 use Rattle.geometry.specs.Cells.{noRect}
-use Rattle.geometry.specs.Refine.{firstFrom, within, strictlyWithin, contained, firstContained, dropped, refineStep, refineSteps, refine}
-use Rattle.geometry.proofs.Booleans.{is-false, not-both, either, or-left, or-right, split-and, all4}
-use Rattle.geometry.proofs.RefineLaws.{first-low, first-passes, first-before, length-dropped, contained-found, contained-dropped, shorter}
-
--- the first place that passes, where it is known
-pub first-is : (p : ℕ → Bool) (i m k : ℕ) → i ≤ k → k < i + m → p k ≡ true → ((x : ℕ) → i ≤ x → x < k → p x ≡ false)
-    → firstFrom p i m ≡ k
-first-is p i m k g h e f = go (decLt (firstFrom p i m) k) (decLt k (firstFrom p i m))
-  where
-    go : Dec (firstFrom p i m < k) → Dec (k < firstFrom p i m) → firstFrom p i m ≡ k
-    go (yes a) b = absurd (not-both _ (first-passes p i m (omega arith)) (f _ (first-low p i m) a))
-    go (no a) (yes b) = absurd (not-both _ e (first-before p i m k g b))
-    go (no a) (no b) = omega arith
+use Rattle.geometry.specs.Refine.{within, strictlyWithin, contained, firstContained, dropped, refineStep, refineSteps, refine}
+use Rattle.geometry.specs.Search.{placeWithout}
+use Rattle.geometry.proofs.Booleans.{is-false, not-both, either, split-and, all4}
+use Rattle.geometry.proofs.RefineLaws.{first-before, length-dropped, contained-found, contained-dropped, shorter}
+use Rattle.geometry.proofs.FirstLaws.{first-is, in-earlier, in-later}
 
 -- a step does not change what refine gives
 pub refine-of-step : (l : List Rect) → refine (refineStep l) ≡ refine l
@@ -35,13 +27,6 @@ refine-of-step l = ⊎-elim
     (λ e. let f : length l ≡ suc (length (refineStep l)) = omega arith in
     sym (ap (λ (n : ℕ). refineSteps n l) f))
     (shorter l)
-
-module _ (p : Rect → Bool) where
-  any-at : (l : List Rect) (j : ℕ) → j < length l → p (getD l j noRect) ≡ true → any p l ≡ true
-  unfolding any
-  any-at [] j h e = absurd (omega arith)
-  any-at (s ∷ l) zero h e = or-left (p s) (any p l) e
-  any-at (s ∷ l) (suc j) h e = or-right (p s) (any p l) (any-at l j (omega arith) e)
 
 -- A place of the list that passes.
 record Passes (p : Rect → Bool) (l : List Rect) : Type 0 where
@@ -125,29 +110,13 @@ module _ (l : List Rect) (k : ℕ) (g : k < length l) where
             };
           }
 
-  pub in-earlier : (j : ℕ) → j < k → within (getD l k noRect) (getD l j noRect) ≡ true → contained l k ≡ true
-  unfolding contained
-  in-earlier j h e =
-      let a : length (take k l) ≡ k = length-take-le k l (omega arith) in
-      or-left _ _ (any-at (within (getD l k noRect)) (take k l) j (omega arith) (rw (getD-take k l j noRect h) e))
-
-  pub in-later : (j : ℕ) → k < j → j < length l → within (getD l k noRect) (getD l j noRect) ≡ true
-      → within (getD l j noRect) (getD l k noRect) ≡ false
-      → contained l k ≡ true
-  unfolding contained strictlyWithin
-  in-later j h i e f =
-      let a : length (drop (k + 1) l) ≡ length l - (k + 1) = length-drop (k + 1) l in
-      let q : k + 1 + (j - (k + 1)) ≡ j = omega arith in
-      or-right (any (within (getD l k noRect)) (take k l)) _
-      (any-at (strictlyWithin (getD l k noRect)) (drop (k + 1) l) (j - (k + 1)) (omega arith)
-      (rw (getD-drop (k + 1) l (j - (k + 1)) noRect, q, e, f)))
-
   contained-in : (m : ℕ) → Contains l m k → contained l k ≡ true
   contained-in m v = go (decLt m k) (decLt k m)
     where
       go : Dec (m < k) → Dec (k < m) → contained l k ≡ true
-      go (yes a) b = in-earlier m a (v .holds)
-      go (no a) (yes b) = in-later m b (v .inside) (v .holds) (is-false _ (λ e. let h = v .earlier e in omega arith))
+      go (yes a) b = in-earlier l k g m a (v .holds)
+      go (no a) (yes b) =
+          in-later l k g m b (v .inside) (v .holds) (is-false _ (λ e. let h = v .earlier e in omega arith))
       go (no a) (no b) = let z : m ≡ k = omega arith in absurd (none-itself l k (rw z at v))
 
 -- the j-th of a list without its i-th
@@ -169,9 +138,6 @@ dropped-high l i j h g =
     ∙ ap (λ (k : ℕ). getD l k noRect) f
 
 -- where the k-th stands when the i-th, another one, is dropped
-abbrev placeWithout : ℕ → ℕ → ℕ
-placeWithout k i = k - (1 - (i + 1 - k))
-
 module _ (k i : ℕ) where
   placed-low : k < i → placeWithout k i ≡ k
   placed-low h = omega arith
@@ -180,7 +146,7 @@ module _ (k i : ℕ) where
   placed-high h = omega arith
 
   -- another one is earlier or later
-  side : (k ≡ i → ⊥) → (k < i) ⊎ (i < k)
+  pub side : (k ≡ i → ⊥) → (k < i) ⊎ (i < k)
   side d = go (decLt k i) (decLt i k)
     where
       go : Dec (k < i) → Dec (i < k) → (k < i) ⊎ (i < k)

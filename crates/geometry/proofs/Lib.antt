@@ -4,8 +4,10 @@ pub mod CommonLaws
 pub mod GrowLaws
 pub mod CutLaws
 pub mod RefineLaws
+pub mod FirstLaws
 pub mod DropLaws
 pub mod PairLaws
+pub mod SearchLaws
 pub mod ClipLaws
 pub mod PlaceLaws
 pub mod Cases

@@ -1,22 +1,23 @@
 -- What a search through the pairs of a list tells: which two can be joined, and where no step applies.
-use mathlib.Core.Path.{_≡_, refl, sym, _∙_, ap}
+use mathlib.Core.Path.{_≡_, sym, _∙_, ap}
 use mathlib.Core.Bool.{Bool, true, false}
-use mathlib.Core.List.{List, [], _∷_}
-use Prim.Native.Nat.{ℕ, suc, _+_, _-_, _≤_, _<_}
+use mathlib.Core.List.{List}
+use mathlib.Core.Logic.{⊎-elim}
+use Prim.Native.Nat.{ℕ, _+_, _≤_, _<_}
 use native.Mathlib.Omega.{arith}
 use native.Mathlib.Decide.{decLt}
 use borrow.Author.Tests.{ltb-true, lt-ltb}
 use lib.Dec.{ltb}
-use lib.ListN.{length, take, drop, getD, length-drop}
-use lib.Seq.{getD-take, getD-drop, length-take-le}
-use Rattle.polygons.specs.Lists.{any}
+use lib.ListN.{length, getD, set, length-set}
+use lib.Seq.{getD-set-other}
 use Rattle.geometry.specs.declared.rect.Rect.{Rect}
 use Rattle.geometry.specs.Cells.{noRect}
-use Rattle.geometry.specs.Pairs.{nested, near, Apart, Clear}
-use Rattle.geometry.specs.Refine.{within, strictlyWithin, contained, firstContained, dropped, joinable, joins, partner, hasPartner, firstJoin, joined, refineStep, refine}
+use Rattle.geometry.specs.Pairs.{nested, near, Apart, Clear, OthersApart}
+use Rattle.geometry.specs.Refine.{within, contained, firstContained, dropped, joinable, union, joins, partner, firstJoin, joined, refineStep, refine}
 use Rattle.geometry.proofs.Booleans.{is-false, not-both, neither}
-use Rattle.geometry.proofs.RefineLaws.{length-dropped, pair, join-found, contained-found, stays}
-use Rattle.geometry.proofs.DropLaws.{first-is, refine-of-step, dropped-low, dropped-high}
+use Rattle.geometry.proofs.RefineLaws.{length-dropped, length-joined, join-found, contained-found, stays}
+use Rattle.geometry.proofs.FirstLaws.{contained-none, partner-is, first-join-is}
+use Rattle.geometry.proofs.DropLaws.{refine-of-step, side, dropped-low, dropped-high}
 
 -- what is known of a pair that is not near
 module _ (r s : Rect) where
@@ -67,42 +68,35 @@ apart-dropped q l i c g h v = record {
         let z = length-dropped l c h in
         rw (dropped-high l c b h (omega arith)) (v .apart a (b + 1) k (omega arith) (omega arith))
 
-any-none : (p : Rect → Bool) (l : List Rect) → ((j : ℕ) → j < length l → p (getD l j noRect) ≡ false)
-    → any p l ≡ false
-unfolding any
-any-none p [] f = refl
-any-none p (s ∷ l) f =
-    let ih = any-none p l (λ j h. f (suc j) (omega arith)) in
-    rw (f 0 (omega arith)) ih
+-- after a join, only the union can be near an earlier rectangle that was near no later one
+pub others-joined : (l : List Rect) (i j : ℕ) → i < j → j < length l → Apart near l i → OthersApart (joined l i j) i
+others-joined l i j g h v = record { apart = λ a b x y z d. rw (low a x) (go a b x y z d (decLt b j)) }
+  where
+    inside : j < length (set l i (union (getD l i noRect) (getD l j noRect)))
+    inside = rw length-set h
 
-not-strictly : (r s : Rect) → within r s ≡ false → strictlyWithin r s ≡ false
-unfolding strictlyWithin
-not-strictly r s e = rw e
+    low : (a : ℕ) → a < i → getD (joined l i j) a noRect ≡ getD l a noRect
+    low a x = dropped-low _ j a inside (omega arith) ∙ getD-set-other l i a _ noRect (λ z. omega arith)
+
+    go : (a b : ℕ) → a < i → a < b → b < length (joined l i j) → (b ≡ i → ⊥) → Dec (b < j)
+        → near (getD l a noRect) (getD (joined l i j) b noRect) ≡ false
+    go a b x y z d (yes e) =
+        rw (dropped-low _ j b inside e, getD-set-other l i b (union (getD l i noRect) (getD l j noRect)) noRect d)
+        (v .apart a b x y (omega arith))
+    go a b x y z d (no e) =
+        let n = length-joined l i j h in
+        let k : b + 1 ≡ i → ⊥ = λ t. omega arith in
+        let u = union (getD l i noRect) (getD l j noRect) in
+        rw (dropped-high _ j b inside (omega arith), getD-set-other l i (b + 1) u noRect k)
+        (v .apart a (b + 1) x (omega arith) (omega arith))
 
 -- no two are nested
 module _ (l : List Rect) (v : Apart nested l (length l)) where
-  module _ (k : ℕ) (g : k < length l) where
-    none-before : any (within (getD l k noRect)) (take k l) ≡ false
-    none-before = any-none _ (take k l) go
-      where
-        go : (j : ℕ) → j < length (take k l) → within (getD l k noRect) (getD (take k l) j noRect) ≡ false
-        go j h =
-            let a = length-take-le k l (omega arith) in
-            let m : j < k = omega arith in
-            rw (getD-take k l j noRect m) (nested-second _ _ (v .apart j k (omega arith) m g))
-
-    none-after : any (strictlyWithin (getD l k noRect)) (drop (k + 1) l) ≡ false
-    none-after = any-none _ (drop (k + 1) l) go
-      where
-        go : (j : ℕ) → j < length (drop (k + 1) l) → strictlyWithin (getD l k noRect) (getD (drop (k + 1) l) j noRect) ≡ false
-        go j h =
-            let a = length-drop (k + 1) l in
-            let e = v .apart k (k + 1 + j) g (omega arith) (omega arith) in
-            rw (getD-drop (k + 1) l j noRect) (not-strictly _ _ (nested-first _ _ e))
-
-    none-contained : contained l k ≡ false
-    unfolding contained
-    none-contained = rw (none-before, none-after)
+  none-contained : (k : ℕ) → k < length l → contained l k ≡ false
+  none-contained k g = contained-none l k g (λ j h d. ⊎-elim
+      (λ a. nested-first _ _ (v .apart k j g a h))
+      (λ a. nested-second _ _ (v .apart j k h a g))
+      (side k j d))
 
   no-drop : ltb (firstContained l) (length l) ≡ false
   no-drop = is-false _ (λ e.
@@ -111,25 +105,19 @@ module _ (l : List Rect) (v : Apart nested l (length l)) where
 
   -- the first pair that is joinable is joined
   module _ (i j : ℕ) (w : Clear near l i j) (g : i < j) (h : j < length l) (e : joins l i j ≡ true) where
-    partner-is : partner l i ≡ j
-    unfolding partner joins
-    partner-is =
-        first-is (joins l i) (i + 1) (length l - (i + 1)) j (omega arith) (omega arith) e
-        (λ x a b. near-joinable _ _ (w .row x (omega arith) b))
+    second-is : partner l i ≡ j
+    unfolding joins
+    second-is = partner-is l i j g h e (λ x a b. near-joinable _ _ (w .row x a b))
 
-    first-join-is : firstJoin l ≡ i
-    unfolding firstJoin hasPartner
-    first-join-is = first-is (hasPartner l) 0 (length l) i (omega arith) (omega arith)
-        (rw partner-is (lt-ltb j (length l) h))
-        (λ x _ b. is-false _ (λ t.
-        let p = pair l x (omega arith) (ltb-true _ _ t) in
-        not-both _ (p .fits) (near-joinable _ _ (w .rows .apart x (partner l x) b (p .after) (p .inside)))))
+    first-is : firstJoin l ≡ i
+    unfolding joins
+    first-is = first-join-is l i j g h second-is (λ x y a b c. near-joinable _ _ (w .rows .apart x y a b c))
 
     pub refine-joined : refine (joined l i j) ≡ refine l
     unfolding refineStep
     refine-joined =
-        let k : ltb (firstJoin l) (length l) ≡ true = rw first-join-is (lt-ltb i (length l) (omega arith)) in
-        let s : refineStep l ≡ joined l i j = rw (no-drop, k, first-join-is, partner-is) in
+        let k : ltb (firstJoin l) (length l) ≡ true = rw first-is (lt-ltb i (length l) (omega arith)) in
+        let s : refineStep l ≡ joined l i j = rw (no-drop, k, first-is, second-is) in
         ap refine (sym s) ∙ refine-of-step l
 
 -- where no two are near, no step applies

@@ -13,11 +13,12 @@ use Rattle.geometry.specs.declared.polygon_refine.Next.{Next}
 use Rattle.geometry.specs.declared.polygon_refine.Next.the-variants.{Drop, Join, Done}
 use Rattle.geometry.specs.Cells.{noRect}
 use Rattle.geometry.specs.Numbers.{rectsOf, PolygonOf}
-use Rattle.geometry.specs.Pairs.{nested, near, Apart, Clear, Dropping, Joining, NextIs}
+use Rattle.geometry.specs.Pairs.{nested, near, Apart, Clear, OthersApart, Dropping, Joining, NextIs}
 use Rattle.geometry.specs.Refine.{within, contained, dropped, joinable, union, joins, joined, refine}
 use Rattle.geometry.proofs.RefineLaws.{length-dropped, length-joined}
-use Rattle.geometry.proofs.DropLaws.{in-earlier, in-later, dropped-low, dropped-high, refine-dropped}
-use Rattle.geometry.proofs.PairLaws.{not-nested, not-near, clear-nested, apart-dropped, refine-joined, refine-apart}
+use Rattle.geometry.proofs.FirstLaws.{in-earlier, in-later}
+use Rattle.geometry.proofs.DropLaws.{dropped-low, dropped-high, refine-dropped}
+use Rattle.geometry.proofs.PairLaws.{not-nested, not-near, clear-nested, apart-dropped, others-joined, refine-joined, refine-apart}
 
 module _ (p : Polygon) (g : p .count ≤ 16) (h : length (p .rects) ≡ 16) where
   count-is : length (rectsOf p) ≡ p .count
@@ -205,7 +206,12 @@ module _ (p : Polygon) (n k i j : ℕ) (r : Rect) (v : Searching nested p n k i 
         let s = size nested p n k i j r v in
         let x : m < length (rectsOf p) = omega (arith, v .n-is) in
         let y = search-end nested p n k i j r v h in
-        record { after = f; inside = g; same = refine-joined (rectsOf p) y k m w f x e }
+        record {
+          after = f;
+          inside = g;
+          same = refine-joined (rectsOf p) y k m w f x e;
+          others = others-joined (rectsOf p) k m f x (w .rows);
+        }
 
     module _ (b : Bool) (h : j < n) (e : b ≡ within (getD (p .rects) j noRect) r) where
       pub nested-second : b ≡ true → Dropping p j k
@@ -213,6 +219,60 @@ module _ (p : Polygon) (n k i j : ℕ) (r : Rect) (v : Searching nested p n k i 
 
       pub nested-first : b ≡ false → (c : Bool) → c ≡ within r (getD (p .rects) j noRect) → c ≡ true → Dropping p i k
       nested-first = drop-first nested p n k i j r v k (v .low) (w .rows) b h e
+
+-- No rectangle before the k-th is near a later one, the i-th, which is r, among them.
+pub record Comparing (p : Polygon) (i : ℕ) (r : Rect) (k : ℕ) : Type 0 where
+  pub low : k ≤ i
+  pub inside : i < p .count
+  pub few : p .count ≤ 16
+  pub long : length (p .rects) ≡ 16
+  pub first : r ≡ getD (rectsOf p) i noRect
+  pub others : OthersApart (rectsOf p) i
+  pub apart : Apart near (rectsOf p) k
+
+module _ (p : Polygon) (i : ℕ) where
+  pub compare-start : p .count ≤ 16 → i < p .count → OthersApart (rectsOf p) i → length (p .rects) ≡ 16
+      → Comparing p i (getD (p .rects) i noRect) 0
+  compare-start g h v k = record {
+    low = omega arith;
+    inside = h;
+    few = g;
+    long = k;
+    first = at p g k i h;
+    others = v;
+    apart = record { apart = λ a b x y z. absurd (omega arith) };
+  }
+
+  module _ (r : Rect) (k : ℕ) (v : Comparing p i r k) where
+    -- the k-th is not near the i-th
+    module _ (b c d : Bool) (h : k < i) (e : b ≡ within r (getD (p .rects) k noRect)) (f : b ≡ false)
+        (g : c ≡ within (getD (p .rects) k noRect) r) (m : c ≡ false) (n : d ≡ joinable (getD (p .rects) k noRect) r)
+        (o : d ≡ false) where
+      apart-at : near (getD (rectsOf p) k noRect) (getD (rectsOf p) i noRect) ≡ false
+      apart-at =
+          let z = at p (v .few) (v .long) k (omega (arith, v .inside)) in
+          rw (z, v .first) at (not-near _ _ b c e g f m d n o)
+
+      pub compare-on : Comparing p i r (k + 1)
+      compare-on = record {
+        low = omega arith;
+        inside = v .inside;
+        few = v .few;
+        long = v .long;
+        first = v .first;
+        others = v .others;
+        apart = record { apart = λ a y x w z. go a y x w z (decLt a k) (decLt y i) (decLt i y) };
+      }
+        where
+          go : (a y : ℕ) → a < k + 1 → a < y → y < length (rectsOf p) → Dec (a < k) → Dec (y < i) → Dec (i < y)
+              → near (getD (rectsOf p) a noRect) (getD (rectsOf p) y noRect) ≡ false
+          go a y x w z (yes s) t u = v .apart .apart a y s w z
+          go a y x w z (no s) (yes t) u = v .others .apart a y (omega arith) w z (λ q. omega arith)
+          go a y x w z (no s) (no t) (yes u) = v .others .apart a y (omega arith) w z (λ q. omega arith)
+          go a y x w z (no s) (no t) (no u) =
+              let q : a ≡ k = omega arith in
+              let l : y ≡ i = omega arith in
+              rw (q, l) apart-at
 
 -- The rectangles from the i-th up to the k-th have moved down; the later ones are in their places.
 pub record Shifting (i : ℕ) (p : Polygon) (n : ℕ) (out : Polygon) (k : ℕ) : Type 0 where
@@ -382,19 +442,33 @@ module _ (l : List Rect) (p : Polygon) (from : ℕ) (v : Refines l p from) where
               }
 
         module _ (e : s ≡ Join i j) (x : PolygonOf (joined (rectsOf p) i j) q) where
-          pub join-less : q .count < p .count
-          join-less =
+          one-less : q .count + 1 ≡ p .count
+          one-less =
               let c = count-is p (v .few) (v .long) in
               let d = count-is q (x .fits) k in
               let m = length-joined (rectsOf p) i j (omega (arith, join-inside e)) in
               let n : length (rectsOf q) ≡ length (joined (rectsOf p) i j) = ap length (x .list) in
               omega arith
 
-          pub refines-join : Refines l q 0
-          refines-join = record {
+          pub join-less : q .count < p .count
+          join-less = omega (arith, one-less)
+
+          -- what the search for one that is near the union requires
+          pub union-inside : i < q .count
+          union-inside = omega (arith, one-less, join-after e, join-inside e)
+
+          pub union-others : OthersApart (rectsOf q) i
+          union-others = rw (x .list) (joining e .others)
+
+          pub refines-join : (o : ℕ) → o ≤ i → Apart near (rectsOf q) o → Refines l q o
+          refines-join o g a = record {
             few = x .fits;
             long = k;
-            low = omega arith;
-            apart = record { apart = λ a b y z w. absurd (omega arith) };
+            low = omega (arith, union-inside, x .fits);
+            apart = a;
             same = ap refine (x .list) ∙ joining e .same ∙ v .same;
           }
+
+          -- where the union is the first rectangle
+          pub refines-join-first : Refines l q 0
+          refines-join-first = refines-join 0 (omega arith) (record { apart = λ a b y z w. absurd (omega arith) })

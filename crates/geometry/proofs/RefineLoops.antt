@@ -10,13 +10,17 @@ use lib.Dec.{ltb}
 use lib.ListN.{length, getD, set}
 use lib.Seq.{ext-getD}
 use Rattle.geometry.specs.declared.rect.Rect.{Rect}
+use Rattle.geometry.specs.declared.refine.Search.{Search}
+use Rattle.geometry.specs.declared.refine.Search.the-variants.{Contained, Union}
 use Rattle.geometry.specs.declared.refine.Step.{Step}
 use Rattle.geometry.specs.declared.refine.Step.the-variants.{Shorter, Done}
 use Rattle.geometry.specs.Cells.{noRect}
-use Rattle.geometry.specs.Numbers.{rectAt, rectsIn, putAt, Dropped, Joined, Shortened, Finished, Stepped, Refined}
+use Rattle.geometry.specs.Numbers.{rectAt, rectsIn, putAt, Dropped, Joined, Refined}
 use Rattle.geometry.specs.Refine.{contained, dropped, union, partner, firstContained, firstJoin, refineStep, refineSteps, refine}
+use Rattle.geometry.specs.Search.{unionPartner, placeWithout, UncontainedBefore, UnjoinedBefore, AfterJoin, NextPair, Known, Shortened, Finished, Stepped}
 use Rattle.geometry.proofs.NumberLaws.{length-rects, length-put, rects-at, put-same, put-other, put-inside}
-use Rattle.geometry.proofs.RefineLaws.{first-before, length-dropped, Pair, join-found, contained-dropped, stays}
+use Rattle.geometry.proofs.RefineLaws.{first-before, length-dropped, contained-dropped, stays}
+use Rattle.geometry.proofs.SearchLaws.{union-uncontained, after-join-dropped, after-join, first-pair, union-partner-before, union-partner-after, union-partner-none}
 use Rattle.geometry.proofs.DropLaws.{dropped-low, dropped-high}
 
 -- The rectangles from the i-th up to the k-th have moved down; the others are in their places.
@@ -87,80 +91,140 @@ joined-is m n i j r s u m₁ m₂ g h k e f q t v =
       same-length = v .same-length ∙ rw (t, length-put m i u);
     }
 
-module _ (m : List ℕ) (n : ℕ) (i : ℕ) (e : i ≡ firstContained (rectsIn m n)) where
-  -- a contained rectangle is dropped
-  pub step-drop : (m′ : List ℕ) → i < n → Dropped m n i m′ → Stepped m n (Shorter i) m′
-  unfolding refineStep firstContained
-  step-drop m′ h v =
+-- a contained rectangle is dropped
+module _ (m : List ℕ) (n i : ℕ) (m′ : List ℕ) (e : i ≡ firstContained (rectsIn m n)) (h : i < n)
+    (v : Dropped m n i m′) where
+  drop-list : rectsIn m′ (n - 1) ≡ refineStep (rectsIn m n)
+  unfolding refineStep
+  drop-list =
+      let a = length-rects m n in
+      let g : firstContained (rectsIn m n) < length (rectsIn m n) = omega arith in
+      let k : ltb (firstContained (rectsIn m n)) (length (rectsIn m n)) ≡ true = lt-ltb _ _ g in
+      v .list ∙ rw (k, e)
+
+  -- the search for a contained one goes on there
+  pub step-drop : Stepped m n (Shorter (Contained i)) m′
+  unfolding firstContained
+  step-drop =
       let l = rectsIn m n in
-      let a : length l ≡ n = length-rects m n in
-      let k : ltb (firstContained l) (length l) ≡ true = lt-ltb (firstContained l) (length l) (omega arith) in
+      let before : (j : ℕ) → j < i → contained l j ≡ false =
+      λ j g. first-before (contained l) 0 (length l) j (omega arith) (rw e at g) in
+      let a = length-rects m n in
+      let b = length-rects m′ (n - 1) in
       record {
-        list = v .list ∙ rw (k, e);
-        from-le = omega arith;
-        clear = λ j g. rw (v .list) (contained-dropped l i j g (omega arith) (first-before (contained l) 0 (length l) j (omega arith) (rw e at g)));
+        list = drop-list;
+        known = record {
+          high = omega arith;
+          uncontained = λ j g. rw (v .list) (contained-dropped l i j g (omega arith) (before j g));
+        };
         same-length = v .same-length;
       }
 
-  module _ (h : n ≤ i) (a : ℕ) (f : a ≡ firstJoin (rectsIn m n)) where
-    none-contained : ltb (firstContained (rectsIn m n)) (length (rectsIn m n)) ≡ false
-    none-contained = rw (← e, length-rects m n) (le-ltb _ _ h)
+  -- after a join, what is known stays known, with the places moved
+  pub step-union-drop : (p from q f : ℕ) → AfterJoin (rectsIn m n) p from → q ≡ placeWithout p i
+      → f ≡ placeWithout from i
+      → Stepped m n (Shorter (Union q f)) m′
+  step-union-drop p from q f w a b =
+      let l = rectsIn m n in
+      let c = length-rects m n in
+      let g : firstContained l < length l = omega arith in
+      record {
+        list = drop-list;
+        known = rw (v .list, a, b)
+            (after-join-dropped l p from i w (omega arith) (λ z. union-uncontained l p (w .only) g (sym e ∙ z)));
+        same-length = v .same-length;
+      }
 
-    -- no step applies
-    pub step-done : n ≤ a → Stepped m n Done m
-    unfolding refineStep
-    step-done g =
-        let k : ltb (firstJoin (rectsIn m n)) (length (rectsIn m n)) ≡ false = rw (← f, length-rects m n) (le-ltb _ _ g) in
-        record { none-applies = rw (none-contained, k); same = refl }
+-- the next pair is joined
+pub step-join : (m : List ℕ) (n i j from f : ℕ) (m′ : List ℕ) → NextPair (rectsIn m n) i j from → Joined m n i j m′
+    → f ≡ placeWithout from j
+    → Stepped m n (Shorter (Union i f)) m′
+unfolding refineStep
+step-join m n i j from f m′ w v b =
+    let l = rectsIn m n in
+    let c : ltb (firstContained l) (length l) ≡ false = le-ltb _ _ (w .none-contained) in
+    let g : i < length l = omega (arith, w .after, w .inside) in
+    let k : ltb (firstJoin l) (length l) ≡ true = rw (← w .first) (lt-ltb _ _ g) in
+    record {
+      list = v .list ∙ rw (c, k, ← w .first, ← w .second);
+      known = rw (v .list, b) (after-join l i j from w);
+      same-length = v .same-length;
+    }
 
-    -- two rectangles are joined
-    pub step-join : (b : ℕ) (m′ : List ℕ) → a < n → b ≡ partner (rectsIn m n) a → Joined m n a b m′ → Stepped m n (Shorter 0) m′
-    unfolding refineStep
-    step-join b m′ g p v =
-        let k : ltb (firstJoin (rectsIn m n)) (length (rectsIn m n)) ≡ true = rw (← f, length-rects m n) (lt-ltb _ _ g) in
-        record {
-          list = v .list ∙ rw (none-contained, k, ← f, p);
-          from-le = omega arith;
-          clear = λ j z. absurd (omega arith);
-          same-length = v .same-length;
-        }
+-- no step applies
+pub step-done : (m : List ℕ) (n from i : ℕ) → UnjoinedBefore (rectsIn m n) from → i ≡ firstJoin (rectsIn m n) → n ≤ i
+    → Stepped m n Done m
+unfolding refineStep
+step-done m n from i v e h =
+    let l = rectsIn m n in
+    let c : ltb (firstContained l) (length l) ≡ false = le-ltb _ _ (v .none-contained) in
+    let k : ltb (firstJoin l) (length l) ≡ false = rw (← e, length-rects m n) (le-ltb _ _ h) in
+    record { none-applies = rw (c, k); same = refl }
 
--- the first pair that can be joined
-module _ (m : List ℕ) (n a b : ℕ) (p : b ≡ partner (rectsIn m n) a) (f : a ≡ firstJoin (rectsIn m n)) (g : a < n) where
-  found : Pair (rectsIn m n) a
-  found = rw f (join-found (rectsIn m n) (let z = length-rects m n in omega arith))
+-- what the calls of a step require
+module _ (m : List ℕ) (n : ℕ) where
+  pub pair-after : (i j from : ℕ) → NextPair (rectsIn m n) i j from → i < j
+  pair-after i j from v = v .after
 
-  pub partner-after : a < b
-  partner-after = rw p (found .after)
+  pub pair-inside : (i j from : ℕ) → NextPair (rectsIn m n) i j from → j < n
+  pair-inside i j from v = let e = length-rects m n in omega (arith, v .inside)
 
-  pub partner-inside : b < n
-  partner-inside = let y = length-rects m n in let z = found .inside in omega arith
+  pub pair-first : (from i j : ℕ) → UnjoinedBefore (rectsIn m n) from → i ≡ firstJoin (rectsIn m n)
+      → j ≡ partner (rectsIn m n) i → i < n
+      → NextPair (rectsIn m n) i j i
+  pair-first from i j v e f h =
+      let a = length-rects m n in
+      first-pair (rectsIn m n) i j (v .none-contained) e f (omega arith)
+
+  -- none is contained in another
+  module _ (i : ℕ) (e : i ≡ firstContained (rectsIn m n)) (h : n ≤ i) where
+    none : length (rectsIn m n) ≤ firstContained (rectsIn m n)
+    none = let a = length-rects m n in omega arith
+
+    pub join-anew : UnjoinedBefore (rectsIn m n) 0
+    join-anew = record { high = omega arith; none-contained = none; unjoined = λ k g. absurd (omega arith) }
+
+    module _ (p from q : ℕ) (v : AfterJoin (rectsIn m n) p from) (f : q ≡ unionPartner (rectsIn m n) p) where
+      pub join-on : n ≤ q → UnjoinedBefore (rectsIn m n) from
+      join-on g = let a = length-rects m n in union-partner-none (rectsIn m n) p from q v none f (omega arith)
+
+      pub pair-before : q < p → NextPair (rectsIn m n) q p from
+      pair-before g = union-partner-before (rectsIn m n) p from q v none f g
+
+      pub pair-behind : q < n → p ≤ q → NextPair (rectsIn m n) p q from
+      pair-behind g k = let a = length-rects m n in union-partner-after (rectsIn m n) p from q v none f (omega arith) k
+
+-- what is known in each case
+module _ (l : List Rect) (s : Search) (v : Known l s) where
+  pub known-contained : (from : ℕ) → s ≡ Contained from → UncontainedBefore l from
+  known-contained from e = rw e at v
+
+  pub known-union : (p from : ℕ) → s ≡ Union p from → AfterJoin l p from
+  known-union p from e = rw e at v
 
 more-steps : (a b : ℕ) (l : List Rect) → a ≡ suc b → refineSteps a l ≡ refineSteps b (refineStep l)
 unfolding refineSteps
 more-steps a b l e = rw e
 
 -- What is left to do is as many steps on the first k rectangles as there are.
-pub record Refining (m₀ : List ℕ) (n : ℕ) (m : List ℕ) (k from : ℕ) : Type 0 where
+pub record Refining (m₀ : List ℕ) (n : ℕ) (m : List ℕ) (k : ℕ) (s : Search) : Type 0 where
   pub few : k ≤ n
-  pub from-le : from ≤ k
   pub fits : 4 * k ≤ length m
   pub same-length : length m ≡ length m₀
-  pub clear : (j : ℕ) → j < from → contained (rectsIn m k) j ≡ false
+  pub known : Known (rectsIn m k) s
   pub list : refine (rectsIn m₀ n) ≡ refineSteps k (rectsIn m k)
 
-pub refining-start : (m : List ℕ) (n : ℕ) → 4 * n ≤ length m → Refining m n m n 0
+pub refining-start : (m : List ℕ) (n : ℕ) → 4 * n ≤ length m → Refining m n m n (Contained 0)
 unfolding refine
 refining-start m n h = record {
   few = omega arith;
-  from-le = omega arith;
   fits = h;
   same-length = refl;
-  clear = λ j g. absurd (omega arith);
+  known = record { high = omega arith; uncontained = λ j g. absurd (omega arith) };
   list = rw (length-rects m n);
 }
 
-module _ (m₀ : List ℕ) (n : ℕ) (m : List ℕ) (k from : ℕ) (v : Refining m₀ n m k from) where
+module _ (m₀ : List ℕ) (n : ℕ) (m : List ℕ) (k : ℕ) (t : Search) (v : Refining m₀ n m k t) where
   pub refining-end : k ≤ 0 → Refined m₀ n m k
   unfolding refineSteps
   refining-end h =
@@ -168,19 +232,18 @@ module _ (m₀ : List ℕ) (n : ℕ) (m : List ℕ) (k from : ℕ) (v : Refining
       record { list = sym (v .list ∙ ap (λ (j : ℕ). refineSteps j (rectsIn m k)) e); fewer = v .few; same-length = v .same-length }
 
   module _ (s : Step) (m′ : List ℕ) (w : Stepped m k s m′) where
-    shortened : (i : ℕ) → s ≡ Shorter i → Shortened m k i m′
+    shortened : (i : Search) → s ≡ Shorter i → Shortened m k i m′
     shortened i e = rw e at w
 
-    pub refining-again : (i : ℕ) → s ≡ Shorter i → 0 < k → Refining m₀ n m′ (k - 1) i
+    pub refining-again : (i : Search) → s ≡ Shorter i → 0 < k → Refining m₀ n m′ (k - 1) i
     refining-again i e h =
         let z = shortened i e in
         let f : k ≡ suc (k - 1) = omega arith in
         record {
           few = omega (arith, v .few);
-          from-le = z .from-le;
           fits = rw (z .same-length) (omega (arith, v .fits));
           same-length = z .same-length ∙ v .same-length;
-          clear = z .clear;
+          known = z .known;
           list = v .list ∙ more-steps k (k - 1) (rectsIn m k) f ∙ rw (z .list);
         }
 

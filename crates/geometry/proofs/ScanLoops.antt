@@ -7,12 +7,14 @@ use native.Mathlib.Omega.{arith}
 use native.Mathlib.Nat.{sub-zero}
 use lib.ListN.{length, drop, getD}
 use lib.Dec.{ltb}
-use borrow.Author.Tests.{lt-ltb, le-ltb}
+use borrow.Author.Tests.{lt-ltb, le-ltb, eq-eqb, ne-eqb}
 use Rattle.polygons.specs.Lists.{any}
 use Rattle.geometry.specs.declared.rect.Rect.{Rect}
 use Rattle.geometry.specs.Cells.{noRect, valid, allValid}
 use Rattle.geometry.specs.Numbers.{rectAt, rectsIn}
 use Rattle.geometry.specs.Refine.{firstFrom, within, strictlyWithin, contained, firstContained, joinable, joins, partner, hasPartner, firstJoin}
+use Rattle.geometry.specs.Search.{inUnion, joinsUnion, unionPartner, UncontainedBefore, UnjoinedBefore, OnlyContainer}
+use Rattle.geometry.proofs.SearchLaws.{first-in-union}
 use Rattle.geometry.proofs.NumberLaws.{length-rects, rects-at, rects-take, rects-next, rects-end}
 
 -- Whether some rectangle passes is w, and it is settled by those from the i-th on.
@@ -116,19 +118,69 @@ module _ (m : List ℕ) (n i : ℕ) (h : i < n) (r : Rect) (e : r ≡ rectAt m i
   unfolding contained
   contained-after b g q = rw (at, rects-take m n i (omega arith), ← f, g) q
 
--- the first contained one
-pub contained-start : (m : List ℕ) (n from : ℕ) → from ≤ n → 4 * n ≤ length m → ((k : ℕ) → k < from → contained (rectsIn m n) k ≡ false)
-    → Find (contained (rectsIn m n)) m n from (firstContained (rectsIn m n))
-unfolding firstContained
-contained-start m n from g h f =
-    let e : n ≡ from + (n - from) = omega arith in
-    let s = first-skip (contained (rectsIn m n)) 0 from (n - from) (λ k _ l. f k (omega arith)) in
-    let z : 0 + from ≡ from = omega arith in
-    record {
-      i-le = g;
-      fits = h;
-      rest = rw (length-rects m n) (ap (firstFrom (contained (rectsIn m n)) 0) e ∙ (rw z at s));
-    }
+-- what comes first from 0 on comes first from a place on before which none passes
+module _ (p : ℕ → Bool) (m : List ℕ) (n from : ℕ) where
+  skipped : from ≤ n → 4 * n ≤ length m → ((k : ℕ) → k < from → p k ≡ false) → Find p m n from (firstFrom p 0 n)
+  skipped g h f =
+      let e : n ≡ from + (n - from) = omega arith in
+      let s = first-skip p 0 from (n - from) (λ k _ l. f k (omega arith)) in
+      let z : 0 + from ≡ from = omega arith in
+      record { i-le = g; fits = h; rest = ap (firstFrom p 0) e ∙ (rw z at s) }
+
+-- the first contained one, and the first that is joinable with a later one
+module _ (m : List ℕ) (n from : ℕ) (h : 4 * n ≤ length m) where
+  pub contained-start : UncontainedBefore (rectsIn m n) from
+      → Find (contained (rectsIn m n)) m n from (firstContained (rectsIn m n))
+  unfolding firstContained
+  contained-start v =
+      let e = length-rects m n in
+      let s = skipped (contained (rectsIn m n)) m n from (omega (arith, v .high)) h (v .uncontained) in
+      rw e s
+
+  pub join-start : UnjoinedBefore (rectsIn m n) from
+      → Find (hasPartner (rectsIn m n)) m n from (firstJoin (rectsIn m n))
+  unfolding firstJoin
+  join-start v =
+      let e = length-rects m n in
+      let s = skipped (hasPartner (rectsIn m n)) m n from (omega (arith, v .high)) h (v .unjoined) in
+      rw e s
+
+-- after a join at p: the first contained one, and the first that is joinable with the p-th
+module _ (m : List ℕ) (n p : ℕ) where
+  pub union-inside : OnlyContainer (rectsIn m n) p → p < n
+  union-inside v = let e = length-rects m n in omega (arith, v .inside)
+
+  pub union-start : 4 * n ≤ length m → OnlyContainer (rectsIn m n) p
+      → Find (inUnion (rectsIn m n) p) m n 0 (firstContained (rectsIn m n))
+  union-start h v = record {
+    i-le = omega arith;
+    fits = h;
+    rest = first-in-union (rectsIn m n) p v ∙ rw (length-rects m n, sub-zero);
+  }
+
+  pub union-partner-start : 4 * n ≤ length m → Find (joinsUnion (rectsIn m n) p) m n 0 (unionPartner (rectsIn m n) p)
+  unfolding unionPartner
+  union-partner-start h = record { i-le = omega arith; fits = h; rest = rw (length-rects m n, sub-zero) }
+
+  -- the i-th and the p-th
+  module _ (i : ℕ) where
+    pub in-union-same : i ≡ p → false ≡ inUnion (rectsIn m n) p i
+    unfolding inUnion
+    in-union-same e = rw (eq-eqb i p e)
+
+    pub joins-union-same : i ≡ p → false ≡ joinsUnion (rectsIn m n) p i
+    unfolding joinsUnion
+    joins-union-same e = rw (eq-eqb i p e)
+
+    module _ (r s : Rect) (b : Bool) (g : i < n) (h : p < n) (d : i ≡ p → ⊥) (e : r ≡ rectAt m i)
+        (f : s ≡ rectAt m p) where
+      pub in-union-other : b ≡ within r s → b ≡ inUnion (rectsIn m n) p i
+      unfolding inUnion
+      in-union-other q = rw (ne-eqb i p d, rects-at m n i g, rects-at m n p h, ← e, ← f) q
+
+      pub joins-union-other : b ≡ joinable r s → b ≡ joinsUnion (rectsIn m n) p i
+      unfolding joinsUnion
+      joins-union-other q = rw (ne-eqb i p d, rects-at m n i g, rects-at m n p h, ← e, ← f) q
 
 -- the partner of the i-th
 module _ (m : List ℕ) (n i : ℕ) where
@@ -149,10 +201,6 @@ module _ (m : List ℕ) (n i : ℕ) where
 
 -- the first that has a partner
 module _ (m : List ℕ) (n : ℕ) where
-  pub join-start : 4 * n ≤ length m → Find (hasPartner (rectsIn m n)) m n 0 (firstJoin (rectsIn m n))
-  unfolding firstJoin
-  join-start h = record { i-le = omega arith; fits = h; rest = rw (length-rects m n, sub-zero) }
-
   module _ (i w j : ℕ) (v : Find (hasPartner (rectsIn m n)) m n i w) (h : i < n) (e : j ≡ partner (rectsIn m n) i) where
     pub join-hit : j < n → i ≡ w
     unfolding hasPartner

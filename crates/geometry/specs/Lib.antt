@@ -7,3 +7,4 @@ pub mod Clip
 pub mod Place
 pub mod Numbers
 pub mod Pairs
+pub mod Search

@@ -1,15 +1,12 @@
 -- Lists of rectangles as numbers, four a rectangle: llx, lly, urx, ury.
-use Prim.Native.Nat.{ℕ, zero, suc, _+_, _-_, _*_, _≤_, _<_}
-use mathlib.Core.Bool.{false}
+use Prim.Native.Nat.{ℕ, zero, suc, _+_, _-_, _*_, _≤_}
 use mathlib.Core.List.{List, [], _∷_, _++_}
 use mathlib.Core.Option.{Option, none, some}
 use mathlib.Core.Path.{_≡_}
 use lib.ListN.{getD, set, length, take}
 use Rattle.geometry.specs.declared.rect.Rect.{Rect}
 use Rattle.geometry.specs.declared.polygon.Polygon.{Polygon}
-use Rattle.geometry.specs.declared.refine.Step.{Step}
-use Rattle.geometry.specs.declared.refine.Step.the-variants.{Shorter, Done}
-use Rattle.geometry.specs.Refine.{dropped, joined, contained, refineStep, refine}
+use Rattle.geometry.specs.Refine.{dropped, joined, refine}
 use Rattle.geometry.specs.declared.cut.Count.{Count}
 use Rattle.geometry.specs.declared.cut.Count.the-variants.{Rects, Over}
 
@@ -71,23 +68,6 @@ pub record Dropped (m : List ℕ) (n i : ℕ) (m' : List ℕ) : Type 0 where
 pub record Joined (m : List ℕ) (n i j : ℕ) (m' : List ℕ) : Type 0 where
   pub list : rectsIn m' (n - 1) ≡ joined (rectsIn m n) i j
   pub same-length : length m' ≡ length m
-
--- A step of refine on n rectangles shortened the list by one, and none is contained in another before the i-th.
-pub record Shortened (m : List ℕ) (n i : ℕ) (m' : List ℕ) : Type 0 where
-  pub list : rectsIn m' (n - 1) ≡ refineStep (rectsIn m n)
-  pub from-le : i ≤ n - 1
-  pub clear : (k : ℕ) → k < i → contained (rectsIn m' (n - 1)) k ≡ false
-  pub same-length : length m' ≡ length m
-
--- No step applies to n rectangles, and the numbers stayed.
-pub record Finished (m : List ℕ) (n : ℕ) (m' : List ℕ) : Type 0 where
-  pub none-applies : refineStep (rectsIn m n) ≡ rectsIn m n
-  pub same : m' ≡ m
-
--- what a step did
-abbrev pub Stepped : List ℕ → ℕ → Step → List ℕ → Type 0
-Stepped m n (Shorter i) m' = Shortened m n i m'
-Stepped m n Done m' = Finished m n m'
 
 -- The first n rectangles were refined, which leaves the first n'.
 pub record Refined (m : List ℕ) (n : ℕ) (m' : List ℕ) (n' : ℕ) : Type 0 where

@@ -29,6 +29,11 @@ pub record Clear (q : Rect → Rect → Bool) (l : List Rect) (i j : ℕ) : Type
   pub rows : Apart q l i
   pub row : (b : ℕ) → i < b → b < j → q (getD l i noRect) (getD l b noRect) ≡ false
 
+-- No rectangle before the i-th is near a later one, but for the i-th itself.
+pub record OthersApart (l : List Rect) (i : ℕ) : Type 0 where
+  pub apart : (a b : ℕ) → a < i → a < b → b < length l → (b ≡ i → ⊥)
+      → near (getD l a noRect) (getD l b noRect) ≡ false
+
 -- The i-th can be dropped, and then no rectangle before the given one is near a later one.
 pub record Dropping (p : Polygon) (i from : ℕ) : Type 0 where
   pub low : from ≤ i
@@ -36,11 +41,12 @@ pub record Dropping (p : Polygon) (i from : ℕ) : Type 0 where
   pub same : refine (dropped (rectsOf p) i) ≡ refine (rectsOf p)
   pub apart : Apart near (dropped (rectsOf p) i) from
 
--- The i-th and the j-th can be joined.
+-- The i-th and the j-th can be joined, and then no rectangle before their union is near another later one.
 pub record Joining (p : Polygon) (i j : ℕ) : Type 0 where
   pub after : i < j
   pub inside : j < p .count
   pub same : refine (joined (rectsOf p) i j) ≡ refine (rectsOf p)
+  pub others : OthersApart (joined (rectsOf p) i j) i
 
 -- what comes next in refining a polygon
 abbrev pub NextIs : Polygon → Next → Type 0

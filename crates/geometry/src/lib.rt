@@ -9,6 +9,7 @@ mod polygon;
 mod polygon_refine;
 mod rect;
 mod refine;
+mod scan;
 
 pub use common::common_parts;
 pub use cut::Count;
@@ -28,5 +29,5 @@ pub use rect::Common;
 pub use rect::Line;
 pub use rect::Rect;
 pub use rect::Side;
-pub use refine::is_within_any;
 pub use refine::refine_list;
+pub use scan::is_within_any;

@@ -3,7 +3,7 @@ ghost use mathlib.Core.Path.{_≡_};
 ghost use mathlib.Core.Bool.{true};
 ghost use Prim.Native.Nat.{_+_, _≤_, _<_};
 ghost use Rattle.geometry.specs.Numbers.{rectsOf, PolygonOf};
-ghost use Rattle.geometry.specs.Pairs.{near, Apart, Clear, NextIs};
+ghost use Rattle.geometry.specs.Pairs.{near, Apart, Clear, OthersApart, NextIs};
 ghost use Rattle.geometry.specs.Refine.{dropped, joins, joined, refine};
 use crate::polygon::Polygon;
 
@@ -114,7 +114,34 @@ impl Polygon {
         p
     }
 
-    // Its rectangles refined. After a drop the search goes on where it stood, after a join it starts anew.
+    // The first rectangle before the i-th that is near it, or i: before that place none is near a later one.
+    fn first_near(self, i: usize) -> usize
+        requires { ⌜ self .count ≤ 16 ⌝ }
+        requires { ⌜ i < self .count ⌝ }
+        requires { ⌜ OthersApart (rectsOf self) i ⌝ }
+        ensures { λ k. ⌜ k ≤ i ⌝ }
+        ensures { λ k. ⌜ Apart near (rectsOf self) k ⌝ }
+    {
+        let r = self.rects[i];
+        let mut k = 0;
+        while k < i {
+            let s = self.rects[k];
+            if r.is_within(s) {
+                return k;
+            }
+            if s.is_within(r) {
+                return k;
+            }
+            if s.is_joinable(r) {
+                return k;
+            }
+            k += 1;
+        }
+        k
+    }
+
+    // Its rectangles refined. After a drop the search goes on where it stood, after a join where the union is near an
+    // earlier rectangle, or else where it stood.
     pub fn refine(self) -> Polygon
         requires { ⌜ self .count ≤ 16 ⌝ }
         ensures { λ p. ⌜ PolygonOf (refine (rectsOf self)) p ⌝ }
@@ -131,6 +158,9 @@ impl Polygon {
                 Next::Join(i, j) => {
                     p = p.join(i, j);
                     from = 0;
+                    if 0 < i {
+                        from = p.first_near(i);
+                    }
                 }
                 Next::Done => {
                     return p;

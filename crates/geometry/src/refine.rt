@@ -1,109 +1,21 @@
 // Refine: drop contained rectangles and join fitting pairs until neither applies, in place.
 ghost use mathlib.Core.Path.{_≡_};
-ghost use Prim.Native.Nat.{ℕ, _+_, _-_, _*_, _≤_, _<_};
-ghost use mathlib.Core.Bool.{false};
-ghost use lib.ListN.{length, drop};
-ghost use Rattle.polygons.specs.Lists.{any};
-ghost use Rattle.geometry.specs.Numbers.{rectsIn, Dropped, Joined, Stepped, Refined};
-ghost use Rattle.geometry.specs.Refine.{within, strictlyWithin, contained, firstContained, partner, firstJoin};
+ghost use Prim.Native.Nat.{_+_, _-_, _*_, _≤_, _<_};
+ghost use lib.ListN.{length};
+ghost use Rattle.geometry.specs.Numbers.{rectsIn, Dropped, Joined, Refined};
+ghost use Rattle.geometry.specs.Search.{placeWithout, UncontainedBefore, UnjoinedBefore, AfterJoin, NextPair, Known, Stepped};
 use crate::numbers::put_rect;
 use crate::numbers::rect_at;
-use crate::rect::Rect;
-
-// Whether r is contained in one of the first n rectangles.
-pub fn is_within_any(list: &[u32], n: usize, r: Rect) -> bool
-    requires { ⌜ 4 * n ≤ length (now list) ⌝ }
-    ensures { λ b. ⌜ b ≡ any (within r) (rectsIn (now (list .entry)) n) ⌝ }
-{
-    let mut j = 0;
-    while j < n {
-        let s = rect_at(list, j);
-        if r.is_within(s) {
-            return true;
-        }
-        j += 1;
-    }
-    false
-}
-
-// Whether r is contained in, and not equal to, one of the rectangles from the given one to the n-th.
-fn is_strictly_within_any(list: &[u32], from: usize, n: usize, r: Rect) -> bool
-    requires { ⌜ (from ≤ n) × (4 * n ≤ length (now list)) ⌝ }
-    ensures { λ b. ⌜ b ≡ any (strictlyWithin r) (drop from (rectsIn (now (list .entry)) n)) ⌝ }
-{
-    let mut j = from;
-    while j < n {
-        let s = rect_at(list, j);
-        if r.is_strictly_within(s) {
-            return true;
-        }
-        j += 1;
-    }
-    false
-}
-
-// Whether the i-th of n rectangles is contained in another; of equal ones the later counts as contained.
-fn is_contained(list: &[u32], n: usize, i: usize) -> bool
-    requires { ⌜ (i < n) × (4 * n ≤ length (now list)) ⌝ }
-    ensures { λ b. ⌜ b ≡ contained (rectsIn (now (list .entry)) n) i ⌝ }
-{
-    let r = rect_at(list, i);
-    if is_within_any(list, i, r) {
-        return true;
-    }
-    is_strictly_within_any(list, i + 1, n, r)
-}
-
-// The first contained one of n rectangles, none of which is contained before the given one.
-fn first_contained(list: &[u32], n: usize, from: usize) -> usize
-    requires { ⌜ (from ≤ n) × (4 * n ≤ length (now list)) × ((k : ℕ) → k < from → contained (rectsIn (now list) n) k ≡ false) ⌝ }
-    ensures { λ r. ⌜ r ≡ firstContained (rectsIn (now (list .entry)) n) ⌝ }
-{
-    let mut i = from;
-    while i < n {
-        if is_contained(list, n, i) {
-            return i;
-        }
-        i += 1;
-    }
-    i
-}
-
-// The first later one of n rectangles that is joinable with the i-th; n where there is none.
-fn partner_of(list: &[u32], n: usize, i: usize) -> usize
-    requires { ⌜ (i < n) × (4 * n ≤ length (now list)) ⌝ }
-    ensures { λ r. ⌜ r ≡ partner (rectsIn (now (list .entry)) n) i ⌝ }
-{
-    let r = rect_at(list, i);
-    let mut j = i + 1;
-    while j < n {
-        let s = rect_at(list, j);
-        if r.is_joinable(s) {
-            return j;
-        }
-        j += 1;
-    }
-    j
-}
-
-// The first of n rectangles that is joinable with a later one; n where there is none.
-fn first_join(list: &[u32], n: usize) -> usize
-    requires { ⌜ 4 * n ≤ length (now list) ⌝ }
-    ensures { λ r. ⌜ r ≡ firstJoin (rectsIn (now (list .entry)) n) ⌝ }
-{
-    let mut i = 0;
-    while i < n {
-        if partner_of(list, n, i) < n {
-            return i;
-        }
-        i += 1;
-    }
-    i
-}
+use crate::scan::first_contained;
+use crate::scan::first_in_union;
+use crate::scan::first_join;
+use crate::scan::partner_of;
+use crate::scan::union_partner;
 
 // Takes the i-th of n rectangles out: the later ones move down.
 fn drop_rect(list: &mut [u32], n: usize, i: usize)
-    requires { ⌜ (i < n) × (4 * n ≤ length (now list)) ⌝ }
+    requires { ⌜ i < n ⌝ }
+    requires { ⌜ 4 * n ≤ length (now list) ⌝ }
     ensures { λ _. ⌜ Dropped (now (list .entry)) n i (now (list .exit)) ⌝ }
 {
     let mut k = i;
@@ -116,7 +28,9 @@ fn drop_rect(list: &mut [u32], n: usize, i: usize)
 
 // Puts the union of the i-th and the j-th of n rectangles at i and takes the j-th out.
 fn join_rects(list: &mut [u32], n: usize, i: usize, j: usize)
-    requires { ⌜ (i < j) × (j < n) × (4 * n ≤ length (now list)) ⌝ }
+    requires { ⌜ i < j ⌝ }
+    requires { ⌜ j < n ⌝ }
+    requires { ⌜ 4 * n ≤ length (now list) ⌝ }
     ensures { λ _. ⌜ Joined (now (list .entry)) n i j (now (list .exit)) ⌝ }
 {
     let r = rect_at(list, i);
@@ -125,29 +39,105 @@ fn join_rects(list: &mut [u32], n: usize, i: usize, j: usize)
     drop_rect(list, n, j);
 }
 
-// What a step did: one rectangle less, and from where on the next may be contained; or none applies.
+// Where the search for the next step goes on.
+enum Search {
+    // Before this place none is contained in another.
+    Contained(usize),
+    // The place of the last union: only in it can another be contained. Before the second place none is joinable with a
+    // later one, but the union may be.
+    Union(usize, usize),
+}
+
+// What a step did: one rectangle less, and where the search goes on; or none applies.
 enum Step {
-    Shorter(usize),
+    Shorter(Search),
     Done,
 }
 
-// One step on n rectangles, none of which is contained in another before the given one.
-fn refine_step(list: &mut [u32], n: usize, from: usize) -> Step
-    requires { ⌜ (0 < n) × (from ≤ n) × (4 * n ≤ length (now list)) × ((k : ℕ) → k < from → contained (rectsIn (now list) n) k ≡ false) ⌝ }
+// The new place of what stood at k, when the i-th is taken out.
+fn place_without(k: usize, i: usize) -> usize
+    ensures { λ r. ⌜ r ≡ placeWithout k i ⌝ }
+{
+    if i < k {
+        return k - 1;
+    }
+    k
+}
+
+// The step that joins the i-th and the j-th of n rectangles, the next pair. Before the given one none is joinable with
+// a later one but these two.
+fn join_pair(list: &mut [u32], n: usize, i: usize, j: usize, from: usize) -> Step
+    requires { ⌜ 4 * n ≤ length (now list) ⌝ }
+    requires { ⌜ NextPair (rectsIn (now list) n) i j from ⌝ }
+    ensures { λ s. ⌜ Stepped (now (list .entry)) n s (now (list .exit)) ⌝ }
+{
+    join_rects(list, n, i, j);
+    let next = place_without(from, j);
+    Step::Shorter(Search::Union(i, next))
+}
+
+// The step on n rectangles, none of which is contained in another. Before the given one none is joinable with a later
+// one.
+fn join_step(list: &mut [u32], n: usize, from: usize) -> Step
+    requires { ⌜ 4 * n ≤ length (now list) ⌝ }
+    requires { ⌜ UnjoinedBefore (rectsIn (now list) n) from ⌝ }
+    ensures { λ s. ⌜ Stepped (now (list .entry)) n s (now (list .exit)) ⌝ }
+{
+    let i = first_join(list, n, from);
+    if n <= i {
+        return Step::Done;
+    }
+    let j = partner_of(list, n, i);
+    join_pair(list, n, i, j, i)
+}
+
+// The step on n rectangles, none of which is contained in another before the given one.
+fn drop_step(list: &mut [u32], n: usize, from: usize) -> Step
+    requires { ⌜ 4 * n ≤ length (now list) ⌝ }
+    requires { ⌜ UncontainedBefore (rectsIn (now list) n) from ⌝ }
     ensures { λ s. ⌜ Stepped (now (list .entry)) n s (now (list .exit)) ⌝ }
 {
     let i = first_contained(list, n, from);
     if i < n {
         drop_rect(list, n, i);
-        return Step::Shorter(i);
+        return Step::Shorter(Search::Contained(i));
     }
-    let a = first_join(list, n);
-    if n <= a {
-        return Step::Done;
+    join_step(list, n, 0)
+}
+
+// The step on n rectangles after a join, with the union at the given place.
+fn union_step(list: &mut [u32], n: usize, at: usize, from: usize) -> Step
+    requires { ⌜ 4 * n ≤ length (now list) ⌝ }
+    requires { ⌜ AfterJoin (rectsIn (now list) n) at from ⌝ }
+    ensures { λ s. ⌜ Stepped (now (list .entry)) n s (now (list .exit)) ⌝ }
+{
+    let i = first_in_union(list, n, at);
+    if i < n {
+        drop_rect(list, n, i);
+        let union = place_without(at, i);
+        let next = place_without(from, i);
+        return Step::Shorter(Search::Union(union, next));
     }
-    let b = partner_of(list, n, a);
-    join_rects(list, n, a, b);
-    Step::Shorter(0)
+    let j = union_partner(list, n, at);
+    if n <= j {
+        return join_step(list, n, from);
+    }
+    if j < at {
+        return join_pair(list, n, j, at, from);
+    }
+    join_pair(list, n, at, j, from)
+}
+
+// One step on n rectangles.
+fn refine_step(list: &mut [u32], n: usize, s: Search) -> Step
+    requires { ⌜ 4 * n ≤ length (now list) ⌝ }
+    requires { ⌜ Known (rectsIn (now list) n) s ⌝ }
+    ensures { λ t. ⌜ Stepped (now (list .entry)) n t (now (list .exit)) ⌝ }
+{
+    match s {
+        Search::Contained(from) => drop_step(list, n, from),
+        Search::Union(at, from) => union_step(list, n, at, from),
+    }
 }
 
 // Refines the first n rectangles of a list in place; answers how many are left.
@@ -156,12 +146,12 @@ pub fn refine_list(list: &mut [u32], n: usize) -> usize
     ensures { λ m. ⌜ Refined (now (list .entry)) n (now (list .exit)) m ⌝ }
 {
     let mut m = n;
-    let mut from = 0;
+    let mut s = Search::Contained(0);
     while 0 < m {
-        let Step::Shorter(next) = refine_step(list, m, from) else {
+        let Step::Shorter(next) = refine_step(list, m, s) else {
             return m;
         };
-        from = next;
+        s = next;
         m -= 1;
     }
     m

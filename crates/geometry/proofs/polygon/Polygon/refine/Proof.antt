@@ -2,7 +2,7 @@
 use borrow.Author.Needs.{needs}
 use Rattle.geometry.specs.Numbers.{rectsOf}
 use Rattle.geometry.proofs.ArrayLaws.{of-map}
-use Rattle.geometry.proofs.PairLoops.{Refines, refines-start, drop-inside, drop-less, refines-drop, join-after, join-inside, join-less, refines-join, refines-done, refines-end}
+use Rattle.geometry.proofs.PairLoops.{Refines, refines-start, drop-inside, drop-less, refines-drop, join-after, join-inside, join-less, union-inside, union-others, refines-join, refines-join-first, refines-done, refines-end}
 use Rattle.geometry.proofs.polygon.Polygon.refine.Statement.{statement}
 use Rattle.geometry.proofs.polygon.Polygon.refine.Tie as tie
 
@@ -39,11 +39,20 @@ enum-known-next-2 c = search needs
 join-requires : tie.Need-join-requires Inv-loop μ-loop
 join-requires c κs = (search needs, (search join-after, search join-inside))
 
+first-near-requires : tie.Need-first-near-requires Inv-loop μ-loop
+first-near-requires c κs = (search needs, (search (union-inside, of-map), search (union-others, of-map)))
+
 loop-less-2 : tie.Need-loop-less-2 Inv-loop μ-loop
 loop-less-2 c = search (join-less, of-map)
 
 loop-again-2 : tie.Need-loop-again-2 Inv-loop μ-loop
 loop-again-2 c = search (refines-join, of-map)
+
+loop-less-3 : tie.Need-loop-less-3 Inv-loop μ-loop
+loop-less-3 c = search (join-less, of-map)
+
+loop-again-3 : tie.Need-loop-again-3 Inv-loop μ-loop
+loop-again-3 c = search (refines-join-first, of-map)
 
 enum-told : tie.Need-enum-told Inv-loop μ-loop
 enum-told c = search needs
@@ -69,8 +78,11 @@ refine-spec =
     loop-again
     enum-known-next-2
     join-requires
+    first-near-requires
     loop-less-2
     loop-again-2
+    loop-less-3
+    loop-again-3
     enum-told
     returns
     returns-2)

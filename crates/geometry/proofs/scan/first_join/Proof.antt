@@ -1,17 +1,17 @@
--- `refine::first_join` meets its contract; its loop is in ScanLoops.
+-- `scan::first_join` meets its contract; its loop is in ScanLoops.
 use Prim.Native.Nat.{_-_}
 use borrow.Author.Needs.{needs}
 use Rattle.geometry.specs.Refine.{hasPartner, firstJoin}
 use Rattle.geometry.specs.Numbers.{rectsIn}
 use Rattle.geometry.proofs.ScanLoops.{Find, join-start, join-hit, join-miss, find-end}
-use Rattle.geometry.proofs.refine.first_join.Statement.{statement}
-use Rattle.geometry.proofs.refine.first_join.Tie as tie
+use Rattle.geometry.proofs.scan.first_join.Statement.{statement}
+use Rattle.geometry.proofs.scan.first_join.Tie as tie
 
 abbrev Inv-loop : tie.InvT-loop
-Inv-loop list n i₀ i = Find (hasPartner (rectsIn list n)) list n i (firstJoin (rectsIn list n))
+Inv-loop list n from i₀ i = Find (hasPartner (rectsIn list n)) list n i (firstJoin (rectsIn list n))
 
 abbrev μ-loop : tie.MeasureT-loop
-μ-loop list n i₀ i = n - i
+μ-loop list n from i₀ i = n - i
 
 loop-holds : tie.Need-loop-holds Inv-loop μ-loop
 loop-holds c = search join-start

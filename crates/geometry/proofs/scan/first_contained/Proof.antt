@@ -1,11 +1,11 @@
--- `refine::first_contained` meets its contract; its loop is in ScanLoops.
+-- `scan::first_contained` meets its contract; its loop is in ScanLoops.
 use Prim.Native.Nat.{_-_}
 use borrow.Author.Needs.{needs}
 use Rattle.geometry.specs.Refine.{contained, firstContained}
 use Rattle.geometry.specs.Numbers.{rectsIn}
 use Rattle.geometry.proofs.ScanLoops.{Find, contained-start, find-hit, find-miss, find-end}
-use Rattle.geometry.proofs.refine.first_contained.Statement.{statement}
-use Rattle.geometry.proofs.refine.first_contained.Tie as tie
+use Rattle.geometry.proofs.scan.first_contained.Statement.{statement}
+use Rattle.geometry.proofs.scan.first_contained.Tie as tie
 
 abbrev Inv-loop : tie.InvT-loop
 Inv-loop list n from i₀ i = Find (contained (rectsIn list n)) list n i (firstContained (rectsIn list n))

@@ -1,8 +1,8 @@
--- `refine::is_contained` meets its contract; the laws that it needs are in ScanLoops.
+-- `scan::is_contained` meets its contract; the laws that it needs are in ScanLoops.
 use borrow.Author.Needs.{needs}
 use Rattle.geometry.proofs.ScanLoops.{contained-before, contained-after}
-use Rattle.geometry.proofs.refine.is_contained.Statement.{statement}
-use Rattle.geometry.proofs.refine.is_contained.Tie as tie
+use Rattle.geometry.proofs.scan.is_contained.Statement.{statement}
+use Rattle.geometry.proofs.scan.is_contained.Tie as tie
 
 rect-at-requires : tie.Need-rect-at-requires
 rect-at-requires c κs = search needs

@@ -1,12 +1,12 @@
--- `refine::is_within_any` meets its contract; its loop is in ScanLoops.
+-- `scan::is_within_any` meets its contract; its loop is in ScanLoops.
 use Prim.Native.Nat.{_-_}
 use borrow.Author.Needs.{needs}
 use Rattle.polygons.specs.Lists.{any}
 use Rattle.geometry.specs.Refine.{within}
 use Rattle.geometry.specs.Numbers.{rectsIn}
 use Rattle.geometry.proofs.ScanLoops.{Scan, scan-all, scan-hit, scan-miss, scan-end}
-use Rattle.geometry.proofs.refine.is_within_any.Statement.{statement}
-use Rattle.geometry.proofs.refine.is_within_any.Tie as tie
+use Rattle.geometry.proofs.scan.is_within_any.Statement.{statement}
+use Rattle.geometry.proofs.scan.is_within_any.Tie as tie
 
 abbrev Inv-loop : tie.InvT-loop
 Inv-loop list n r j₀ j = Scan (within r) list n j (any (within r) (rectsIn list n))

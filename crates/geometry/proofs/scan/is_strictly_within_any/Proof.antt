@@ -1,4 +1,4 @@
--- `refine::is_strictly_within_any` meets its contract; its loop is in ScanLoops.
+-- `scan::is_strictly_within_any` meets its contract; its loop is in ScanLoops.
 use Prim.Native.Nat.{_-_}
 use lib.ListN.{drop}
 use borrow.Author.Needs.{needs}
@@ -6,8 +6,8 @@ use Rattle.polygons.specs.Lists.{any}
 use Rattle.geometry.specs.Refine.{strictlyWithin}
 use Rattle.geometry.specs.Numbers.{rectsIn}
 use Rattle.geometry.proofs.ScanLoops.{Scan, scan-start, scan-hit, scan-miss, scan-end}
-use Rattle.geometry.proofs.refine.is_strictly_within_any.Statement.{statement}
-use Rattle.geometry.proofs.refine.is_strictly_within_any.Tie as tie
+use Rattle.geometry.proofs.scan.is_strictly_within_any.Statement.{statement}
+use Rattle.geometry.proofs.scan.is_strictly_within_any.Tie as tie
 
 abbrev Inv-loop : tie.InvT-loop
 Inv-loop list from n r j₀ j = Scan (strictlyWithin r) list n j (any (strictlyWithin r) (drop from (rectsIn list n)))

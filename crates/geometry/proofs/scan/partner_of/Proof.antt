@@ -1,11 +1,11 @@
--- `refine::partner_of` meets its contract; its loop is in ScanLoops.
+-- `scan::partner_of` meets its contract; its loop is in ScanLoops.
 use Prim.Native.Nat.{_-_}
 use borrow.Author.Needs.{needs}
 use Rattle.geometry.specs.Refine.{joins, partner}
 use Rattle.geometry.specs.Numbers.{rectsIn}
 use Rattle.geometry.proofs.ScanLoops.{Find, partner-start, partner-hit, partner-miss, find-end}
-use Rattle.geometry.proofs.refine.partner_of.Statement.{statement}
-use Rattle.geometry.proofs.refine.partner_of.Tie as tie
+use Rattle.geometry.proofs.scan.partner_of.Statement.{statement}
+use Rattle.geometry.proofs.scan.partner_of.Tie as tie
 
 abbrev Inv-loop : tie.InvT-loop
 Inv-loop list n i r j₀ j = Find (joins (rectsIn list n) i) list n j (partner (rectsIn list n) i)
