@@ -5,7 +5,7 @@ use mathlib.Core.Bool.{Bool, true, false}
 use mathlib.Core.List.{List, [], _∷_, _++_, flatMap}
 use mathlib.Core.Option.{Option, none, some, bind}
 use native.Mathlib.Omega.{arith}
-use native.Mathlib.Decide.{decLe}
+use native.Mathlib.Decide.{decLe, decLt}
 use lib.ListN.{length, take, drop, getD, set, length-set}
 use lib.Seq.{drop-drop, getD-drop, getD-set-same, getD-set-other, drop-set-lt, getD-append-seam, length-take-le}
 use Rattle.geometry.specs.declared.rect.Cell.{Cell}
@@ -36,7 +36,7 @@ use Rattle.index.proofs.WalkLoop.{children-count}
 use Rattle.step2.specs.Choose.{Routing, ChosenBranch, ChosenAt, NoneChosen}
 use Rattle.emission.specs.Path.{partOn, placeOn, lineOn, polygonOn, rowAt, wayAt, PathNode, PathFrom}
 use Rattle.emission.proofs.RowLaws.{row-of}
-use Rattle.insertion.specs.Descent.{childOr, itemsAt, LevelPut, Descending, Kept, Reached, Stopped, Descended}
+use Rattle.insertion.specs.Descent.{childOr, itemsAt, LevelPut, Descending, Kept, Linked, Reached, Stopped, Descended}
 
 abbrev laws : Laws (planeSpace fanout)
 laws = plane-space-laws fanout
@@ -76,6 +76,10 @@ module _ (path m : List ℕ) (c : Cell) (d : Descending 0 path m c) where
     kept = record { same-length = refl; part = refl; above = refl };
     is = record {
       from = unfold PathFrom in record { walk = d .walk; room = d .room; few = d .few; line = let u = d .unsplit in omega arith };
+      linked = record {
+        child = λ j h. absurd (omega arith);
+        fine = λ j h. subst (λ (i : ℕ). planeSpace fanout .Fine (polygonOn path i)) (let z : 0 ≡ j = omega arith in z) (d .fine);
+      };
       unsplit = λ j h. subst (λ (i : ℕ). lineOn path i ≡ 0) (let z : 0 ≡ j = omega arith in z) (d .unsplit);
       ways = λ j h t. subst (λ (i : ℕ). descend (planeSpace fanout) i (polygonOn path i) (itemsAt i m (partOn path i)) (entryOf c t) ≡ some (wayAt i path m (entryOf c t)))
           (let z : 0 ≡ j = omega arith in z) (leaf-way t);
@@ -240,6 +244,27 @@ module _ (n : ℕ) (path m : List ℕ) (c : Cell) (d : Descending (suc n) path m
       unfolding P.descend bind wayAt
       turned t h = rw (items-b, x .chosen, h, row-same, place-same, grown-same)
 
+      link-same : partOn path₃ n ≡ childAt m (partOn path₃ (suc n)) (placeOn path₃ (suc n))
+      link-same = kept .part ∙ v .part ∙ ap (λ (i : ℕ). childAt m i place) (sym part-same) ∙ ap (λ (i : ℕ). childAt m (partOn path₃ (suc n)) i) (sym place-same)
+
+      fine-same : planeSpace fanout .Fine (polygonOn path₃ (suc n))
+      fine-same = subst (λ (p : List Rect). planeSpace fanout .Fine p) (sym (same-polygon path₃ path (suc n) (same-drop path₃ path (68 * suc n + 2) (68 * suc n + 3) above-same (omega arith)))) (d .fine)
+
+      linked : Linked n path₃ m → Linked (suc n) path₃ m
+      linked z = record { child = λ j i. child j i (decLt j n); fine = λ j i. fine j i (decLe j n) }
+        where
+          child : (j : ℕ) → j < suc n → Dec (j < n) → partOn path₃ j ≡ childAt m (partOn path₃ (suc j)) (placeOn path₃ (suc j))
+          child j i (yes h) = z .child j h
+          child j i (no h) =
+              let e : n ≡ j = omega arith in
+              subst (λ (y : ℕ). partOn path₃ y ≡ childAt m (partOn path₃ (suc y)) (placeOn path₃ (suc y))) e link-same
+
+          fine : (j : ℕ) → j ≤ suc n → Dec (j ≤ n) → planeSpace fanout .Fine (polygonOn path₃ j)
+          fine j i (yes h) = z .fine j h
+          fine j i (no h) =
+              let e : suc n ≡ j = omega arith in
+              subst (λ (y : ℕ). planeSpace fanout .Fine (polygonOn path₃ y)) e fine-same
+
       reached : Reached n path₂ m c path₃ → Reached (suc n) path m c path₃
       reached z =
           let f = d .few in
@@ -252,6 +277,7 @@ module _ (n : ℕ) (path m : List ℕ) (c : Cell) (d : Descending (suc n) path m
           let pc : placeOn path₃ (suc n) < countAt m (partOn path₃ (suc n)) = subst (λ (j : ℕ). placeOn path₃ (suc n) < countAt m j) (sym part-same) (let e = place-same in omega arith) in
           record {
             from = from-here (record { walk = subst (Walkable (suc n) m 0) (sym part-same) (d .walk); room = omega arith; few = omega arith; line = omega arith }) pc (z .from);
+            linked = linked (z .linked);
             unsplit = λ j i. go j i (decLe j n);
             ways = λ j i t. up j i (decLe j n) t;
           }

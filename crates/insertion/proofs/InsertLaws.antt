@@ -22,7 +22,7 @@ use Rattle.plane.specs.Plane.{planeSpace, planeRoot}
 use Rattle.plane.proofs.Rects.{plane-space-laws}
 use Rattle.plane.proofs.Steps.{plane-steps}
 use Rattle.plane.proofs.Roots.{plane-root-laws}
-use Rattle.memory.specs.Layout.{partsOf}
+use Rattle.memory.specs.Layout.{partsOf, bitsSet}
 use Rattle.memory.specs.Reading.{reading}
 use Rattle.memory.specs.Image.{emitNode, memoryOf, image}
 use Rattle.memory.proofs.ReadingLaws.{ReadSound, read-sound, RightLength, length-right}
@@ -30,6 +30,7 @@ use Rattle.memory.proofs.SoundTested.{test-of-sound}
 use Rattle.memory.proofs.ImageLaws.{image-reads, image-length}
 use Rattle.memory.proofs.NodeImage.{length-node}
 use Rattle.memory.specs.Fanout.{fanout}
+use Rattle.index.specs.declared.answer.Inserted.{Inserted}
 use Rattle.index.specs.declared.answer.Inserted.the-variants as I
 use Rattle.index.specs.Answers.{insertEnd, insertRead}
 use Rattle.index.specs.Changes.{entryOf, insertedIndex}
@@ -37,14 +38,19 @@ use Rattle.index.specs.Walks.{Walkable}
 use Rattle.index.proofs.TreeWalk.{tree-walkable}
 use Rattle.emission.specs.declared.whole.Emitted.{Emitted}
 use Rattle.emission.specs.Emits.{countLimit}
-use Rattle.emission.specs.Path.{PathFrom, plannedTree}
+use Rattle.emission.specs.Path.{lineOn, PathFrom, plannedTree}
 use Rattle.emission.specs.Whole.{TreeRoom, TreeEmitted}
 use Rattle.index.specs.Count.{entriesAt}
 use Rattle.index.specs.Held.{heldRead}
 use Rattle.index.proofs.CountWalk.{held-few, tree-held}
 use Rattle.layout.specs.Writing.{written}
-use Rattle.insertion.specs.Insert.{Inserting, PathPlanned, PathRefused, PathFound, Built}
+use Rattle.insertion.specs.Planning.{Plannable, FullLevels, PlanMade}
+use Rattle.insertion.specs.Insert.{Inserting, PathReady, PathPlanned, PathRefused, PathFound, Built, BuiltInPlace}
 use Rattle.layout.proofs.WritingLaws.{written-image}
+use Rattle.insertion.specs.Growing.{grownTree, Growing, Grown}
+use Rattle.insertion.proofs.PlanLoop.{plan-start, plan-end}
+use Rattle.insertion.proofs.RootLaws.{ready-planned, ready-more}
+use Rattle.insertion.proofs.GrowTree.{tree-grown, path-growing, nodes-grown, reads-grown}
 
 module _ (m : List ℕ) (level root : ℕ) (c : Cell) (v : Inserting m level root c) where
   read-tree : ReadSound fanout m (v .tree-in .tree)
@@ -55,6 +61,10 @@ module _ (m : List ℕ) (level root : ℕ) (c : Cell) (v : Inserting m level roo
 
   pub build-right : RightLength m
   build-right = length-right m (read-tree .right)
+
+  -- the numbers that say which parts are in use
+  pub build-head : 8 ≤ length m
+  build-head = let a = build-right .length-is in omega arith
 
   pub build-level : level ≤ 255
   build-level = let a = read-tree .levels in let b = read-tree .few-parts in let d = v .tree-in .level-is in omega arith
@@ -103,6 +113,22 @@ module _ (m : List ℕ) (level root : ℕ) (c : Cell) (t : ℕ) (v : Inserting m
     zeroed = refl;
   }
 
+  -- refusal 8 before the tree after is counted: each node that is split adds one at least
+  built-early : (path : List ℕ) → PathReady m level c path → (n : ℕ) → FullLevels level path m n → N < bitsSet m + n → (w : List ℕ) → Built m w e m w I.NodeLimit
+  unfolding insertEnd
+  built-early path r n f h w =
+      let a = ready-more m level root c v path r n f t in
+      let le = a .2 in
+      let nodes-x : nodeCount (planeSpace fanout) (some x) ≡ bitsSet m = unfold nodes in sound-x .bits in
+      let o : N < nodeCount (planeSpace fanout) (some (a .0)) = omega arith in
+      record {
+        answer = sym (read-is ∙ rw (a .1, lt-leb (nodeCount (planeSpace fanout) (some (a .0))) N o));
+        memory = refl;
+        memory-length = refl;
+        work-length = refl;
+        zeroed = refl;
+      }
+
   module _ (path : List ℕ) (p : PathPlanned m level c path) where
     abbrev y : Tree (planeSpace fanout)
     y = plannedTree level path m e
@@ -126,6 +152,31 @@ module _ (m : List ℕ) (level root : ℕ) (c : Cell) (t : ℕ) (v : Inserting m
           zeroed = refl;
         }
 
+    sound-y : SoundTree (planeSpace fanout) (planeRoot fanout) y
+    sound-y = insert-sound (planeSpace fanout) (plane-space-laws fanout) (plane-steps fanout (omega arith)) (planeRoot fanout) (plane-root-laws fanout) (omega arith) (some x) e y gives (sound-x .sound) (v .grid) not-held
+
+    entries-y : length (entries (planeSpace fanout) (some y)) ≡ length (entries (planeSpace fanout) (some x)) + 1
+    entries-y =
+        let a = insert-entries (planeSpace fanout) (plane-space-laws fanout) (plane-steps fanout (omega arith)) (planeRoot fanout) (plane-root-laws fanout) (omega arith) (some x) e y gives (λ z. true) in
+        let b = countOf-every (entries (planeSpace fanout) (some y)) in
+        let d = countOf-every (entries (planeSpace fanout) (some x)) in
+        let f = countOf-every (e ∷ []) in
+        omega arith
+
+    -- the insertion is accepted: the memory reads as the tree after, which has no more nodes than there are parts
+    built-accepted : (w m′ w′ : List ℕ) (n : ℕ) → count ≤ N → reading fanout m′ ≡ some (some y) → length m′ ≡ length m → length w′ ≡ length w
+        → n ≡ length (entries (planeSpace fanout) (some x)) → Built m w e m′ w′ (I.Accepted (n + 1))
+    unfolding insertEnd
+    built-accepted w m′ w′ n fits r l k b =
+        let outcome : limited (planeSpace fanout) N (insertTree (planeSpace fanout) (planeRoot fanout) (some x) e) ≡ accepted (some y) = rw (gives, le-leb count N fits) in
+        record {
+          answer = ap I.Accepted (let f = entries-y in let g : n + 1 ≡ length (entries (planeSpace fanout) (some y)) = omega arith in g) ∙ sym (read-is ∙ ap insertEnd outcome);
+          memory = r ∙ sym (index-is ∙ ap (λ o. some (outcomeIndex (planeSpace fanout) (some x) o)) outcome);
+          memory-length = l;
+          work-length = k;
+          zeroed = refl;
+        }
+
     module _ (k : ℕ) (q : k ≡ min countLimit count) (h : k ≤ N) where
       few : N ≤ 256
       few = sound-x .few-parts
@@ -140,23 +191,9 @@ module _ (m : List ℕ) (level root : ℕ) (c : Cell) (t : ℕ) (v : Inserting m
           let r = length-right m (sound-x .right) .length-is in
           record { fits = omega arith; small = omega arith }
 
-      sound-y : SoundTree (planeSpace fanout) (planeRoot fanout) y
-      sound-y = insert-sound (planeSpace fanout) (plane-space-laws fanout) (plane-steps fanout (omega arith)) (planeRoot fanout) (plane-root-laws fanout) (omega arith) (some x) e y gives (sound-x .sound) (v .grid) not-held
-
-      outcome : limited (planeSpace fanout) N (insertTree (planeSpace fanout) (planeRoot fanout) (some x) e) ≡ accepted (some y)
-      outcome = rw (gives, le-leb count N fits)
-
       count-y : nodes (planeSpace fanout) (suc (y .level)) (top (planeSpace fanout) y) ≡ count
       unfolding nodes
       count-y = refl
-
-      entries-y : length (entries (planeSpace fanout) (some y)) ≡ length (entries (planeSpace fanout) (some x)) + 1
-      entries-y =
-          let a = insert-entries (planeSpace fanout) (plane-space-laws fanout) (plane-steps fanout (omega arith)) (planeRoot fanout) (plane-root-laws fanout) (omega arith) (some x) e y gives (λ z. true) in
-          let b = countOf-every (entries (planeSpace fanout) (some y)) in
-          let d = countOf-every (entries (planeSpace fanout) (some x)) in
-          let f = countOf-every (e ∷ []) in
-          omega arith
 
       module _ (w w′ : List ℕ) (r : Emitted) (l : length w ≡ length m) (z : TreeEmitted w y w′ r) where
         pub parts-some : 1 ≤ r .parts
@@ -180,19 +217,36 @@ module _ (m : List ℕ) (level root : ℕ) (c : Cell) (t : ℕ) (v : Inserting m
             ∙ ap (λ (j : ℕ). memoryOf N j (emitNode fanout (y .level) 0 (top (planeSpace fanout) y))) (z .height-is)
 
         pub built-tree : (m′ : List ℕ) (n : ℕ) → m′ ≡ written (length m) (r .parts) (r .height) w′ → n ≡ length (entries (planeSpace fanout) (some x)) → Built m w e m′ w′ (I.Accepted (n + 1))
-        unfolding insertEnd
         built-tree m′ n a b =
             let i = length-right m (sound-x .right) .length-is in
             let tested = test-of-sound fanout y sound-y in
             let c-le : nodes (planeSpace fanout) (suc (y .level)) (top (planeSpace fanout) y) ≤ N = let f = fits in let d = count-y in omega arith in
             let im = a ∙ image-is in
-            record {
-              answer = ap I.Accepted (let f = entries-y in let g : n + 1 ≡ length (entries (planeSpace fanout) (some y)) = omega arith in g) ∙ sym (read-is ∙ ap insertEnd outcome);
-              memory = ap (reading fanout) im ∙ image-reads fanout N y (omega arith) (sound-x .some-parts) few c-le tested ∙ sym (index-is ∙ ap (λ o. some (outcomeIndex (planeSpace fanout) (some x) o)) outcome);
-              memory-length = ap length im ∙ image-length fanout N y (omega arith) (sound-x .some-parts) few c-le tested ∙ sym i;
-              work-length = z .same-length;
-              zeroed = refl;
-            }
+            built-accepted w m′ w′ n fits (ap (reading fanout) im ∙ image-reads fanout N y (omega arith) (sound-x .some-parts) few c-le tested)
+            (ap length im ∙ image-length fanout N y (omega arith) (sound-x .some-parts) few c-le tested ∙ sym i) (z .same-length) b
+
+    -- no node is split, and the path was written in place
+    module _ (z : lineOn path 0 ≡ 0) where
+      planned-x : PathPlanned m (x .level) c path
+      planned-x = subst (λ (i : ℕ). PathPlanned m i c path) (sym (v .tree-in .level-is)) p
+
+      pub grow-path : Growing level path m
+      grow-path = subst (λ (i : ℕ). Growing i path m) (v .tree-in .level-is) (path-growing m c x reads path planned-x z)
+
+      y-grown : y ≡ grownTree (x .level) path m e
+      y-grown = ap (λ (i : ℕ). plannedTree i path m e) (sym (v .tree-in .level-is)) ∙ tree-grown m c (x .level) path planned-x z t
+
+      pub built-grown : (w m′ : List ℕ) (n : ℕ) → Grown level path m e m′ → n ≡ length (entries (planeSpace fanout) (some x)) → Built m w e m′ w (I.Accepted (n + 1))
+      built-grown w m′ n g b =
+          let g′ : Grown (x .level) path m e m′ = subst (λ (i : ℕ). Grown i path m e m′) (sym (v .tree-in .level-is)) g in
+          let sound = subst (λ (u : Tree (planeSpace fanout)). SoundTree (planeSpace fanout) (planeRoot fanout) u) y-grown sound-y in
+          let c-is : count ≡ nodeCount (planeSpace fanout) (some x) = ap (λ (u : Tree (planeSpace fanout)). nodeCount (planeSpace fanout) (some u)) y-grown ∙ nodes-grown m c x reads path planned-x z t m′ g′ in
+          let f : nodeCount (planeSpace fanout) (some x) ≤ N = unfold nodes in sound-x .fits in
+          built-accepted w m′ w n (omega arith) (reads-grown m c x reads path planned-x z t m′ g′ sound ∙ ap (λ (u : Tree (planeSpace fanout)). some (some u)) (sym y-grown)) (g .same-length) refl b
+
+-- in place, for the work area that there is
+pub built-in-place : (m w : List ℕ) (e : CellEntry) (m′ : List ℕ) (r : Inserted) → BuiltInPlace m e m′ r → Built m w e m′ w r
+built-in-place m w e m′ r b = b w
 
 -- The same for the code, from what finding the path told.
 module _ (m : List ℕ) (level root : ℕ) (c : Cell) (v : Inserting m level root c) where
@@ -206,40 +260,77 @@ module _ (m : List ℕ) (level root : ℕ) (c : Cell) (v : Inserting m level roo
     pub build-seven : (t : ℕ) (w : List ℕ) → b ≡ false → Built m w (entryOf c t) m w I.PolygonLimit
     build-seven t w n = built-seven m level root c t v w w (subst (λ (x : Bool). PathFound m level c path x) n f) refl
 
-    module _ (n : b ≡ true) where
-      planned : PathPlanned m level c path
-      planned = subst (λ (x : Bool). PathFound m level c path x) n f
+    pub build-ready : b ≡ true → PathReady m level c path
+    build-ready n = subst (λ (x : Bool). PathFound m level c path x) n f
 
-      module _ (t k : ℕ) (q : k ≡ min countLimit (nodeCount (planeSpace fanout) (some (plannedTree level path m (entryOf c t))))) where
-        pub build-eight : (w : List ℕ) (room : ℕ) → room ≡ partsOf m → room < k → Built m w (entryOf c t) m w I.NodeLimit
-        build-eight w room e h = built-eight m level root c t v path planned w w k q (omega arith) refl
+  module _ (path : List ℕ) (r : PathReady m level c path) where
+    pub ready-path : PathFrom level path m
+    ready-path = r .plannable .path-is .from
 
-        module _ (room : ℕ) (room-is : room ≡ partsOf m) (fits-in : k ≤ room) (w : List ℕ) (l : length w ≡ length m) where
-          h : k ≤ partsOf m
-          h = omega arith
+    pub ready-plannable : Plannable level path m c
+    ready-plannable = r .plannable
 
-          pub emit-room : TreeRoom w (plannedTree level path m (entryOf c t))
-          emit-room = tree-room m level root c t v path planned k q h w l
+    module _ (n : ℕ) (f : FullLevels level path m n) where
+      -- 8 early
+      module _ (bits : ℕ) (bits-is : bits ≡ bitsSet m) where
+        pub early-fits : Fits w32 (bits + n)
+        early-fits =
+            let a = f .most in
+            let b = build-level m level root c v in
+            let d = read-tree m level root c v .bits in
+            let g = read-tree m level root c v .fits in
+            let h = read-tree m level root c v .few-parts in
+            omega arith
 
-          module _ (w′ : List ℕ) (r : Emitted) (z : TreeEmitted w (plannedTree level path m (entryOf c t)) w′ r) where
-            pub put-some : 1 ≤ r .parts
-            put-some = parts-some m level root c t v path planned k q h w w′ r l z
+        pub build-early : (room : ℕ) → room ≡ partsOf m → room < bits + n → (t : ℕ) (w : List ℕ) → Built m w (entryOf c t) m w I.NodeLimit
+        build-early room room-is h t w = built-early m level root c t v path r n f (omega arith) w
 
-            pub put-few : r .parts ≤ 256
-            put-few = parts-few m level root c t v path planned k q h w w′ r l z
+      -- the plan
+      pub build-planned : (path′ : List ℕ) → PlanMade level path m c path′ → PathPlanned m level c path′
+      build-planned path′ made = ready-planned m level root c v path r path′ made
 
-            pub put-fit : 64 + 128 * r .parts ≤ length m
-            put-fit = parts-fit m level root c t v path planned k q h w w′ r l z
+      -- in place
+      module _ (z : n ≡ 0) where
+        none-planned : PathPlanned m level c path
+        none-planned = build-planned path (plan-end level path m n c 0 path (plan-start level path m n c (r .plannable) f) (omega arith))
 
-            pub put-long : length w′ ≡ length m
-            put-long = work-long m level root c t v path planned k q h w w′ r l z
+        no-line : lineOn path 0 ≡ 0
+        no-line = r .plannable .unsplit 0 (omega arith)
 
-            pub build-accepted : (m′ : List ℕ) (x : ℕ) → m′ ≡ written (length m) (r .parts) (r .height) w′ → x ≡ length (entriesAt level m 0 root) → Built m w (entryOf c t) m′ w′ (I.Accepted (x + 1))
-            build-accepted m′ x a e = built-tree m level root c t v path planned k q h w w′ r l z m′ x a (e ∙ held-is)
+        pub build-growing : Growing level path m
+        build-growing = grow-path m level root c 0 v path none-planned no-line
 
-pub path-from : (m : List ℕ) (level : ℕ) (c : Cell) (path : List ℕ) (b : Bool) → PathFound m level c path b → b ≡ true → PathFrom level path m
-path-from m level c path b f n = go b f n
-  where
-    go : (b : Bool) → PathFound m level c path b → b ≡ true → PathFrom level path m
-    go true f n = f .from
-    go false f n = let z : _≡_ {A = ℕ} 0 1 = cc in absurd (omega arith)
+        pub build-grown : (t : ℕ) (m′ : List ℕ) (x : ℕ) → Grown level path m (entryOf c t) m′ → x ≡ length (entriesAt level m 0 root) → BuiltInPlace m (entryOf c t) m′ (I.Accepted (x + 1))
+        build-grown t m′ x g e w = built-grown m level root c t v path none-planned no-line w m′ x g (e ∙ held-is)
+
+  module _ (path : List ℕ) (p : PathPlanned m level c path) where
+    pub build-path : PathFrom level path m
+    build-path = p .from
+
+    -- anew
+    module _ (t k : ℕ) (q : k ≡ min countLimit (nodeCount (planeSpace fanout) (some (plannedTree level path m (entryOf c t))))) where
+      pub build-eight : (w : List ℕ) (room : ℕ) → room ≡ partsOf m → room < k → Built m w (entryOf c t) m w I.NodeLimit
+      build-eight w room e h = built-eight m level root c t v path p w w k q (omega arith) refl
+
+      module _ (room : ℕ) (room-is : room ≡ partsOf m) (fits-in : k ≤ room) (w : List ℕ) (l : length w ≡ length m) where
+        h : k ≤ partsOf m
+        h = omega arith
+
+        pub emit-room : TreeRoom w (plannedTree level path m (entryOf c t))
+        emit-room = tree-room m level root c t v path p k q h w l
+
+        module _ (w′ : List ℕ) (r : Emitted) (z : TreeEmitted w (plannedTree level path m (entryOf c t)) w′ r) where
+          pub put-some : 1 ≤ r .parts
+          put-some = parts-some m level root c t v path p k q h w w′ r l z
+
+          pub put-few : r .parts ≤ 256
+          put-few = parts-few m level root c t v path p k q h w w′ r l z
+
+          pub put-fit : 64 + 128 * r .parts ≤ length m
+          put-fit = parts-fit m level root c t v path p k q h w w′ r l z
+
+          pub put-long : length w′ ≡ length m
+          put-long = work-long m level root c t v path p k q h w w′ r l z
+
+          pub build-accepted : (m′ : List ℕ) (x : ℕ) → m′ ≡ written (length m) (r .parts) (r .height) w′ → x ≡ length (entriesAt level m 0 root) → Built m w (entryOf c t) m′ w′ (I.Accepted (x + 1))
+          build-accepted m′ x a e = built-tree m level root c t v path p k q h w w′ r l z m′ x a (e ∙ held-is)

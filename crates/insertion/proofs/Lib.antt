@@ -4,9 +4,15 @@ pub mod NodePlan
 pub mod PlanTree
 pub mod PathLaws
 pub mod PlanLoop
+pub mod SplitCount
 pub mod LineLaws
 pub mod DescentWays
 pub mod RootLaws
+pub mod GrowPart
+pub mod GrowLeaf
+pub mod GrowNode
+pub mod GrowWays
+pub mod GrowTree
 pub mod InsertLaws
 pub mod FirstLaws
 pub mod InsertWays

@@ -55,7 +55,7 @@ module _ (level : ℕ) (path m : List ℕ) (c : Cell) (f : Full 0 level path m c
   unfolding GoodWay row
   full-leaf t =
       let g = f .path-is .goods 0 (omega arith) t in
-      let l = level-length level path m c (f .path-is) 0 (omega arith) (f .splits) t in
+      let l = level-length level path m c (f .path-is) 0 (omega arith) (f .splits .all) t in
       let e = f .eight in
       subst (λ (es : List CellEntry). FullLeaf es) (entries-are t) (record { count = omega arith; grid = g .real; apart = g .apart })
 
@@ -126,7 +126,7 @@ module _ (n level : ℕ) (path m : List ℕ) (c : Cell) (f : Full (suc n) level 
   node-level r l t =
       let w = f .path-is .ways (suc n) (f .below) t in
       let g = f .path-is .goods (suc n) (f .below) t in
-      let o = level-length level path m c (f .path-is) (suc n) (f .below) (f .splits) t in
+      let o = level-length level path m c (f .path-is) (suc n) (f .below) (f .splits .all) t in
       let e = f .eight in
       let q = f .splits .all n (omega arith) t in
       let y = f .splits .each n (omega arith) t .line q in

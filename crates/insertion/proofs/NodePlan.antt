@@ -1,5 +1,5 @@
 -- The line of a routing node on the path whose child on the path is split: the entries that the code groups are those of the definition.
-use Prim.Native.Nat.{ℕ, zero, suc, _+_, _-_, _<_, _≤_}
+use Prim.Native.Nat.{ℕ, suc, _+_, _<_, _≤_}
 use mathlib.Core.Bool.{true, false}
 use mathlib.Core.Path.{_≡_, sym, ap, _∙_, subst}
 use mathlib.Core.List.{List, [], _∷_, _++_, map, flatMap, append-nil}
@@ -18,7 +18,7 @@ use Rattle.tree.specs.Split.{lineOf, split}
 use Rattle.tree.specs.Plan.{Way, descend, row, groups, few, lineAt}
 use Rattle.tree.specs.Pass.{wayHeld, Bag, Alike}
 use Rattle.tree.proofs.Laws.{Laws, Steps, Fit, onSide}
-use Rattle.tree.proofs.Fits.{FitAt, length-halfItems}
+use Rattle.tree.proofs.Fits.{length-halfItems}
 use Rattle.tree.proofs.Emission.{groups-is}
 use Rattle.plane.specs.Lines.{CellEntry, holdsOn, nodeLine}
 use Rattle.plane.specs.Plane.{planeSpace}
@@ -37,7 +37,7 @@ use Rattle.emission.specs.Path.{partOn, placeOn, lineOn, polygonOn, rowAt, wayA
 use Rattle.emission.proofs.RowLaws.{row-of}
 use Rattle.insertion.specs.Descent.{itemsAt}
 use Rattle.insertion.proofs.DescentLaws.{items-are}
-use Rattle.tree.proofs.GoodWays.{GoodWay}
+use Rattle.tree.proofs.GoodWays.{GoodWay, way-fits}
 use Rattle.tree.proofs.Ways.{Descent, descent, way-entries}
 use Rattle.tree.proofs.SplitGroups.{split-groups, few-row, row-entries, line-row, bag-keep, bag-length, bag-all, alike-mid, alike-all, map-append}
 use Rattle.layout.specs.Nodes.{countAt}
@@ -47,13 +47,6 @@ laws = plane-space-laws fanout
 
 abbrev steps : Steps (planeSpace fanout)
 steps = plane-steps fanout (omega arith)
-
--- where a node of the way has one too many, its line fits
-pub way-fits : (n : ℕ) (w : Way (planeSpace fanout) n) → GoodWay (planeSpace fanout) n w → fanout < length (row (planeSpace fanout) n w)
-    → FitAt (planeSpace fanout) n (lineOf (planeSpace fanout) n (row (planeSpace fanout) n w)) (row (planeSpace fanout) n w)
-unfolding row GoodWay
-way-fits zero es g o = g .fits o
-way-fits (suc n) w g o = g .fits o
 
 fits-same : (gs hs : List (List CellEntry)) (l : Line) → Alike (planeSpace fanout) gs hs → Fits holdsOn fanout hs l → Fits holdsOn fanout gs l
 fits-same gs hs l a f =
@@ -163,7 +156,7 @@ module _ (n : ℕ) (path m : List ℕ) (e : CellEntry) (v : Walkable (suc n) m 0
     halves-are : map (held (planeSpace fanout) (suc n)) (split (planeSpace fanout) n (polygonOn path n) (row (planeSpace fanout) n under))
         ≡ keep (entryOn (planeSpace fanout) (left l)) rows ∷ keep (entryOn (planeSpace fanout) (right l)) rows ∷ []
     halves-are =
-        split-groups (planeSpace fanout) n (polygonOn path n) (row (planeSpace fanout) n under) over (way-fits n under under-good over)
+        split-groups (planeSpace fanout) n (polygonOn path n) (row (planeSpace fanout) n under) over (way-fits (planeSpace fanout) n under under-good over)
         ∙ ap (λ (z : Line). keep (entryOn (planeSpace fanout) (left z)) rows ∷ keep (entryOn (planeSpace fanout) (right z)) rows ∷ []) line-is
 
     -- the groups that the code makes
@@ -198,7 +191,7 @@ module _ (n : ℕ) (path m : List ℕ) (e : CellEntry) (v : Walkable (suc n) m 0
     pub node-line-fits : fanout < length (row (planeSpace fanout) (suc n) w) → LineFits gs
     unfolding GoodWay
     node-line-fits o =
-        let f = way-fits (suc n) w good o in
+        let f = way-fits (planeSpace fanout) (suc n) w good o in
         let z = lineOf (planeSpace fanout) (suc n) (row (planeSpace fanout) (suc n) w) in
         let g : Fit (planeSpace fanout) (onSide (planeSpace fanout)) z (map (held (planeSpace fanout) (suc n)) (row (planeSpace fanout) (suc n) w)) = record {
           lefts = rw (← length-halfItems (planeSpace fanout) (suc n) (left z) (row (planeSpace fanout) (suc n) w)) (f .lefts);

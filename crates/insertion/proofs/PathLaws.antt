@@ -1,5 +1,5 @@
 -- A line written into the path leaves its nodes and polygons, and so the way.
-use Prim.Native.Nat.{ℕ, zero, suc, _+_, _*_, _-_, _≤_, _<_}
+use Prim.Native.Nat.{ℕ, zero, suc, _+_, _*_, _≤_, _<_}
 use mathlib.Core.Path.{_≡_, sym, ap, _∙_, subst}
 use mathlib.Core.List.{List}
 use mathlib.Core.Option.{some}
@@ -19,7 +19,7 @@ use Rattle.index.specs.Changes.{entryOf}
 use Rattle.index.specs.Walks.{Walkable}
 use Rattle.emission.specs.Path.{partOn, placeOn, lineOn, polygonOn, wayAt, PathNode, PathFrom}
 use Rattle.tree.proofs.GoodWays.{GoodWay}
-use Rattle.layout.specs.Nodes.{countAt}
+use Rattle.layout.specs.Nodes.{countAt, childAt}
 use Rattle.insertion.specs.Descent.{itemsAt}
 use Rattle.insertion.specs.Planning.{GoodPath}
 
@@ -105,6 +105,10 @@ module _ (path : List ℕ) (n x : ℕ) where
     pub good-kept : (level : ℕ) (c : Cell) → x < 131072 → GoodPath level path m c → GoodPath level path′ m c
     good-kept level c s g = record {
       from = from-kept level s (g .from);
+      linked = record {
+        child = λ j h. part-kept j ∙ g .linked .child j h ∙ sym (ap (λ (i : ℕ). childAt m i (placeOn path′ (suc j))) (part-kept (suc j)) ∙ ap (λ (i : ℕ). childAt m (partOn path (suc j)) i) (place-kept (suc j)));
+        fine = λ j h. subst (λ (p : List Rect). planeSpace fanout .Fine p) (sym (polygon-kept j (path-few j (below-from level j (g .from) h)))) (g .linked .fine j h);
+      };
       grid = g .grid;
       ways = λ j h t.
           let f = below-from level j (g .from) h in

@@ -1,4 +1,4 @@
--- The bounds of what the loop of the plan reads and writes.
+-- The bounds of what the loops of the plan read and write.
 use Prim.Native.Nat.{ℕ, _+_, _*_, _≤_, _<_}
 use mathlib.Core.List.{List}
 use native.Mathlib.Omega.{arith}
@@ -9,26 +9,38 @@ use Rattle.geometry.specs.declared.rect.Cell.{Cell}
 use Rattle.memory.proofs.ReadingLaws.{level-range}
 use Rattle.memory.specs.Fanout.{fanout}
 use Rattle.layout.specs.Nodes.{PartIn}
-use Rattle.emission.specs.Path.{partOn, PathNode}
+use Rattle.emission.specs.Path.{partOn, PathNode, PathFrom}
+use Rattle.emission.proofs.PathLaws.{path-node}
 use Rattle.insertion.proofs.NodeBounds.{part-in, line-in, part-ends}
+use Rattle.insertion.proofs.PathLaws.{path-below}
 use Rattle.insertion.proofs.PlanLoop.{Planning, plan-node}
 
-module _ (level : ℕ) (path₀ m : List ℕ) (c : Cell) (n : ℕ) (path : List ℕ) (a : Planning level path₀ m c n path) (h : n ≤ level) where
+-- the next level is a number of the code
+next-fits : (n : ℕ) (path m : List ℕ) → PathNode n path m → Fits w32 (n + 1)
+next-fits n path m node =
+    let w = node .walk in
+    let l = level-range fanout m n 0 (partOn path n) (w .node) (w .from) (w .reads) in
+    let b = w .below in
+    omega arith
+
+-- of the loop that counts the nodes that are split
+module _ (level : ℕ) (path m : List ℕ) (n : ℕ) (f : PathFrom level path m) (h : n ≤ level) where
   node : PathNode n path m
-  node = plan-node level path₀ m c n path a h
+  node = path-node path m n (path-below path m level n f h)
 
-  pub plan-part : 68 * n < length path
-  plan-part = part-in n path m node
+  pub count-part : 68 * n < length path
+  count-part = part-in n path m node
 
+  pub count-in : PartIn m (partOn path n)
+  count-in = part-ends n path m node
+
+  pub count-next : Fits w32 (n + 1)
+  count-next = next-fits n path m node
+
+-- of the loop that writes their lines
+module _ (level : ℕ) (path₀ m : List ℕ) (splits : ℕ) (c : Cell) (n : ℕ) (path : List ℕ) (a : Planning level path₀ m splits c n path) (h : n < splits) where
   pub plan-line : 68 * n + 2 < length path
-  plan-line = line-in n path m node
-
-  pub plan-in : PartIn m (partOn path n)
-  plan-in = part-ends n path m node
+  plan-line = line-in n path m (plan-node level path₀ m splits c n path a h)
 
   pub plan-next : Fits w32 (n + 1)
-  plan-next =
-      let w = node .walk in
-      let l = level-range fanout m n 0 (partOn path n) (w .node) (w .from) (w .reads) in
-      let b = w .below in
-      omega arith
+  plan-next = next-fits n path m (plan-node level path₀ m splits c n path a h)

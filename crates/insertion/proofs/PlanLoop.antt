@@ -20,10 +20,11 @@ use Rattle.memory.specs.Fanout.{fanout}
 use Rattle.index.specs.Changes.{entryOf}
 use Rattle.index.specs.Walks.{Walkable}
 use Rattle.emission.specs.Path.{partOn, lineOn, polygonOn, wayAt, PathNode, PathFrom}
-use Rattle.insertion.specs.Planning.{GoodPath, Plannable, PlannedAt, Planned, SplitBelow, Full, LineOfLevel, PlanMade}
+use Rattle.insertion.specs.Planning.{GoodPath, Plannable, PlannedAt, FullLevels, AllSplit, SplitBelow, Full, LineOfLevel, PlanMade}
+use Rattle.tree.proofs.GoodWays.{way-fits}
 use Rattle.tree.proofs.SplitGroups.{split-one, split-two, few-row}
 use Rattle.layout.specs.Nodes.{countAt}
-use Rattle.insertion.proofs.NodePlan.{way-fits, row-length-is}
+use Rattle.insertion.proofs.NodePlan.{row-length-is}
 use Rattle.emission.proofs.PathLaws.{path-node}
 use Rattle.insertion.proofs.PathLaws.{part-kept, line-kept, line-put, way-kept, polygon-kept, path-few, good-kept, path-below}
 
@@ -34,7 +35,7 @@ module _ (level : ℕ) (path m : List ℕ) (c : Cell) (g : GoodPath level path m
   abbrev rowAt-length : ℕ → ℕ → ℕ
   rowAt-length n t = length (row (planeSpace fanout) n (wayAt n path m (entryOf c t)))
 
-  leaf-length : (t : ℕ) → rowAt-length 0 t ≡ countAt m (partOn path 0) + 1
+  pub leaf-length : (t : ℕ) → rowAt-length 0 t ≡ countAt m (partOn path 0) + 1
   unfolding row wayAt
   leaf-length t =
       let k = partOn path 0 in
@@ -42,7 +43,7 @@ module _ (level : ℕ) (path m : List ℕ) (c : Cell) (g : GoodPath level path m
       let b = entries-length (part m k) (itemCount (part m k)) in
       omega arith
 
-  few-is : (n t : ℕ) → few (planeSpace fanout) n (wayAt n path m (entryOf c t)) ≡ leb (rowAt-length n t) fanout
+  pub few-is : (n t : ℕ) → few (planeSpace fanout) n (wayAt n path m (entryOf c t)) ≡ leb (rowAt-length n t) fanout
   few-is n t = few-row (planeSpace fanout) n (wayAt n path m (entryOf c t))
 
   node-length : (n : ℕ) → suc n ≤ level → (t : ℕ)
@@ -53,14 +54,14 @@ module _ (level : ℕ) (path m : List ℕ) (c : Cell) (g : GoodPath level path m
       → length (split (planeSpace fanout) n (polygonOn path n) (row (planeSpace fanout) n (wayAt n path m (entryOf c t)))) ≡ 2
   split-below n h t f =
       let o = leb-false (rowAt-length n t) fanout (sym (few-is n t) ∙ f) in
-      split-two (planeSpace fanout) n (polygonOn path n) (row (planeSpace fanout) n (wayAt n path m (entryOf c t))) o (way-fits n (wayAt n path m (entryOf c t)) (g .goods n h t) o)
+      split-two (planeSpace fanout) n (polygonOn path n) (row (planeSpace fanout) n (wayAt n path m (entryOf c t))) o (way-fits (planeSpace fanout) n (wayAt n path m (entryOf c t)) (g .goods n h t) o)
 
   -- a node whose child on the path is split, or a leaf, gets one item more
-  pub level-length : (n : ℕ) → n ≤ level → SplitBelow n path m c → (t : ℕ) → rowAt-length n t ≡ countAt m (partOn path n) + 1
+  pub level-length : (n : ℕ) → n ≤ level → AllSplit n path m c → (t : ℕ) → rowAt-length n t ≡ countAt m (partOn path n) + 1
   level-length zero h s t = leaf-length t
   level-length (suc n) h s t =
       let a = node-length n h t in
-      let b = split-below n (omega arith) t (s .all n (omega arith) t) in
+      let b = split-below n (omega arith) t (s n (omega arith) t) in
       omega arith
 
   -- above a node that is not split none is
@@ -72,15 +73,29 @@ module _ (level : ℕ) (path m : List ℕ) (c : Cell) (g : GoodPath level path m
       let d = walk-at (suc n) h .few in
       few-is (suc n) t ∙ le-leb (rowAt-length (suc n) t) fanout (omega arith)
 
-  all-few : (n j t : ℕ) → few (planeSpace fanout) n (wayAt n path m (entryOf c t)) ≡ true → n + j ≤ level → few (planeSpace fanout) (n + j) (wayAt (n + j) path m (entryOf c t)) ≡ true
+  pub all-few : (n j t : ℕ) → few (planeSpace fanout) n (wayAt n path m (entryOf c t)) ≡ true → n + j ≤ level → few (planeSpace fanout) (n + j) (wayAt (n + j) path m (entryOf c t)) ≡ true
   all-few n zero t f h = subst (λ (i : ℕ). few (planeSpace fanout) i (wayAt i path m (entryOf c t)) ≡ true) (let e : n ≡ n + zero = omega arith in e) f
   all-few n (suc j) t f h =
       subst (λ (i : ℕ). few (planeSpace fanout) i (wayAt i path m (entryOf c t)) ≡ true) (let e : suc (n + j) ≡ n + suc j = omega arith in e)
       (upper-few (n + j) (omega arith) t (all-few n j t f (omega arith)))
 
--- Before the node on the path at level n is looked at: those below are split, and those from n on have no line yet.
-pub record Planning (level : ℕ) (path₀ m : List ℕ) (c : Cell) (n : ℕ) (path : List ℕ) : Type 0 where
-  pub n-le : n ≤ level + 1
+  -- a node that has eight items and gets one more is split
+  eight-split : (n : ℕ) → n ≤ level → AllSplit n path m c → countAt m (partOn path n) ≡ 8 → (t : ℕ) → few (planeSpace fanout) n (wayAt n path m (entryOf c t)) ≡ false
+  eight-split n h s e t = let l = level-length n h s t in few-is n t ∙ lt-leb (rowAt-length n t) fanout (omega arith)
+
+  -- all of those that have eight are
+  pub full-split : (n : ℕ) → n ≤ level + 1 → ((j : ℕ) → j < n → countAt m (partOn path j) ≡ 8) → AllSplit n path m c
+  full-split zero h e j i t = absurd (omega arith)
+  full-split (suc n) h e j i t = go (ℕ-discrete j n) (full-split n (omega arith) (λ k o. e k (omega arith)))
+    where
+      go : Dec (j ≡ n) → AllSplit n path m c → few (planeSpace fanout) j (wayAt j path m (entryOf c t)) ≡ false
+      go (yes z) below = subst (λ (x : ℕ). few (planeSpace fanout) x (wayAt x path m (entryOf c t)) ≡ false) (sym z) (eight-split n (omega arith) below (e n (omega arith)) t)
+      go (no z) below = below j (omega arith) t
+
+-- Before the node on the path at level n gets its line: those below have theirs, and those from n on have none yet.
+pub record Planning (level : ℕ) (path₀ m : List ℕ) (k : ℕ) (c : Cell) (n : ℕ) (path : List ℕ) : Type 0 where
+  pub n-le : n ≤ k
+  pub levels : FullLevels level path m k
   pub path-is : GoodPath level path m c
   pub splits : SplitBelow n path m c
   pub rest : (j : ℕ) → n ≤ j → j ≤ level → lineOn path j ≡ 0
@@ -88,9 +103,10 @@ pub record Planning (level : ℕ) (path₀ m : List ℕ) (c : Cell) (n : ℕ) (p
   pub part : partOn path level ≡ partOn path₀ level
   pub polygon : polygonOn path level ≡ polygonOn path₀ level
 
-pub plan-start : (level : ℕ) (path m : List ℕ) (c : Cell) → Plannable level path m c → Planning level path m c 0 path
-plan-start level path m c g = record {
+pub plan-start : (level : ℕ) (path m : List ℕ) (splits : ℕ) (c : Cell) → Plannable level path m c → FullLevels level path m splits → Planning level path m splits c 0 path
+plan-start level path m splits c g f = record {
   n-le = omega arith;
+  levels = f;
   path-is = g .path-is;
   splits = record { each = λ j h t. absurd (omega arith); all = λ j h t. absurd (omega arith) };
   rest = λ j h i. g .unsplit j i;
@@ -99,17 +115,21 @@ plan-start level path m c g = record {
   polygon = refl;
 }
 
-module _ (level : ℕ) (path₀ m : List ℕ) (c : Cell) (n : ℕ) (path : List ℕ) (a : Planning level path₀ m c n path) where
+module _ (level : ℕ) (path₀ m : List ℕ) (splits : ℕ) (c : Cell) (n : ℕ) (path : List ℕ) (a : Planning level path₀ m splits c n path) where
+  in-path : n < splits → n ≤ level
+  in-path h = let i = a .levels .most in omega arith
+
   -- the node at level n on the path
-  pub plan-node : n ≤ level → PathNode n path m
-  plan-node h = path-node path m n (path-below path m level n (a .path-is .from) h)
+  pub plan-node : n < splits → PathNode n path m
+  plan-node h = path-node path m n (path-below path m level n (a .path-is .from) (in-path h))
 
-  pub plan-full : (size : ℕ) → size ≡ countAt m (partOn path n) → n ≤ level → 8 ≤ size → Full n level path m c
-  plan-full size e h f =
-      let w = plan-node h .walk .few in
-      record { path-is = a .path-is; below = h; splits = a .splits; eight = omega arith }
+  pub plan-full : n < splits → Full n level path m c
+  plan-full h = record { path-is = a .path-is; below = in-path h; splits = a .splits; eight = a .levels .full n h }
 
-  module _ (size : ℕ) (size-is : size ≡ countAt m (partOn path n)) (r : ℕ) (h : n ≤ level) (full : 8 ≤ size) (l : LineOfLevel n path m c r) where
+  module _ (r : ℕ) (o : n < splits) (l : LineOfLevel n path m c r) where
+    h : n ≤ level
+    h = in-path o
+
     abbrev path₁ : List ℕ
     path₁ = set path (68 * n + 2) r
 
@@ -123,13 +143,11 @@ module _ (level : ℕ) (path₀ m : List ℕ) (c : Cell) (n : ℕ) (path : List 
     same-way j t i = way-kept path n r m j (entryOf c t) (from-n j i)
 
     not-few : (t : ℕ) → few (planeSpace fanout) n (wayAt n path m (entryOf c t)) ≡ false
-    not-few t =
-        let e = level-length level path m c (a .path-is) n h (a .splits) t in
-        few-row (planeSpace fanout) n (wayAt n path m (entryOf c t)) ∙ lt-leb (length (row (planeSpace fanout) n (wayAt n path m (entryOf c t)))) fanout (omega arith)
+    not-few t = eight-split level path m c (a .path-is) n h (a .splits .all) (a .levels .full n o) t
 
     planned-here : (t : ℕ) → PlannedAt n path₁ m (entryOf c t)
     planned-here t =
-        let rm = plan-node h .room in
+        let rm = plan-node o .room in
         let p = line-put path n r (omega arith) in
         let s = l t .some in
         let f : few (planeSpace fanout) n (wayAt n path₁ m (entryOf c t)) ≡ false = ap (few (planeSpace fanout) n) (same-way n t (le-refl n)) ∙ not-few t in
@@ -148,9 +166,18 @@ module _ (level : ℕ) (path₀ m : List ℕ) (c : Cell) (n : ℕ) (path : List 
           line = λ z. ap rankLine k ∙ q .line (ap (few (planeSpace fanout) j) (sym w) ∙ z) ∙ ap (lineAt (planeSpace fanout) j) (sym w);
         }
 
-    pub plan-again : (path′ : List ℕ) (n′ : ℕ) → path′ ≡ path₁ → n′ ≡ n + 1 → Planning level path₀ m c n′ path′
+    -- the levels that are split are the same
+    levels-kept : FullLevels level path₁ m splits
+    levels-kept = record {
+      most = a .levels .most;
+      full = λ j i. ap (countAt m) (part-kept path n r j) ∙ a .levels .full j i;
+      next = λ i. let k = a .levels .next i in let e = ap (countAt m) (part-kept path n r splits) in omega arith;
+    }
+
+    pub plan-again : (path′ : List ℕ) (n′ : ℕ) → path′ ≡ path₁ → n′ ≡ n + 1 → Planning level path₀ m splits c n′ path′
     plan-again path′ n′ e f = rw (e, f) (record {
       n-le = omega arith;
+      levels = levels-kept;
       path-is = good-kept path n r m level c small (a .path-is);
       splits = record { each = λ j i t. each j i (ℕ-discrete j n) t; all = λ j i t. all j i (ℕ-discrete j n) t };
       rest = λ j i k. line-kept path n r j (λ (z : j ≡ n). omega arith) ∙ a .rest j (omega arith) k;
@@ -167,23 +194,30 @@ module _ (level : ℕ) (path₀ m : List ℕ) (c : Cell) (n : ℕ) (path : List 
         all j i (yes z) t = subst (λ (x : ℕ). few (planeSpace fanout) x (wayAt x path₁ m (entryOf c t)) ≡ false) (sym z) (ap (few (planeSpace fanout) n) (same-way n t (le-refl n)) ∙ not-few t)
         all j i (no z) t = ap (few (planeSpace fanout) j) (same-way j t (omega arith)) ∙ a .splits .all j (omega arith) t
 
-  made : Planned level path m c → PlanMade level path₀ m c path
-  made p = record { path-is = a .path-is; planned = p; same-length = a .same-length; part = a .part; polygon = a .polygon }
-
-  -- a node that gets no item too many: the plan is done
-  pub plan-stop : (size : ℕ) → size ≡ countAt m (partOn path n) → n ≤ level → size < 8 → PlanMade level path₀ m c path
-  plan-stop size size-is h f = made (record { each = λ j i t. each j i (decLt j n) t })
+  -- the nodes that are split have their lines, and none above is split
+  pub plan-end : splits ≤ n → PlanMade level path₀ m c path
+  plan-end o = record {
+    path-is = a .path-is;
+    planned = record { each = λ j i t. each j i (decLt j n) t };
+    same-length = a .same-length;
+    part = a .part;
+    polygon = a .polygon;
+  }
     where
-      here : (t : ℕ) → few (planeSpace fanout) n (wayAt n path m (entryOf c t)) ≡ true
-      here t =
-          let e = level-length level path m c (a .path-is) n h (a .splits) t in
-          few-row (planeSpace fanout) n (wayAt n path m (entryOf c t)) ∙ le-leb (length (row (planeSpace fanout) n (wayAt n path m (entryOf c t)))) fanout (omega arith)
+      n-is : n ≡ splits
+      n-is = let i = a .n-le in omega arith
+
+      here : n ≤ level → (t : ℕ) → few (planeSpace fanout) n (wayAt n path m (entryOf c t)) ≡ true
+      here h t =
+          let e = level-length level path m c (a .path-is) n h (a .splits .all) t in
+          let f : countAt m (partOn path n) < 8 = subst (λ (x : ℕ). x ≤ level → countAt m (partOn path x) < 8) (sym n-is) (a .levels .next) h in
+          few-is level path m c (a .path-is) n t ∙ le-leb (length (row (planeSpace fanout) n (wayAt n path m (entryOf c t)))) fanout (omega arith)
 
       each : (j : ℕ) → j ≤ level → Dec (j < n) → (t : ℕ) → PlannedAt j path m (entryOf c t)
       each j i (yes z) t = a .splits .each j z t
       each j i (no z) t =
           let q : n + (j - n) ≡ j = omega arith in
-          let w : few (planeSpace fanout) j (wayAt j path m (entryOf c t)) ≡ true = subst (λ (x : ℕ). few (planeSpace fanout) x (wayAt x path m (entryOf c t)) ≡ true) q (all-few level path m c (a .path-is) n (j - n) t (here t) (omega arith)) in
+          let w : few (planeSpace fanout) j (wayAt j path m (entryOf c t)) ≡ true = subst (λ (x : ℕ). few (planeSpace fanout) x (wayAt x path m (entryOf c t)) ≡ true) q (all-few level path m c (a .path-is) n (j - n) t (here (omega arith) t) (omega arith)) in
           record {
             split = eq-eqb (lineOn path j) 0 (a .rest j (omega arith) i) ∙ sym w;
             line = λ y. absurd (no-both (few (planeSpace fanout) j (wayAt j path m (entryOf c t))) w y);
@@ -192,7 +226,3 @@ module _ (level : ℕ) (path₀ m : List ℕ) (c : Cell) (n : ℕ) (path : List 
           no-both : (b : Bool) → b ≡ true → b ≡ false → ⊥
           no-both true x y = let z : _≡_ {A = ℕ} 0 1 = cc in absurd (omega arith)
           no-both false x y = let z : _≡_ {A = ℕ} 0 1 = cc in absurd (omega arith)
-
-  -- all nodes on the path are split
-  pub plan-end : level < n → PlanMade level path₀ m c path
-  plan-end h = made (record { each = λ j i t. a .splits .each j (omega arith) t })

@@ -24,10 +24,9 @@ use Rattle.plane.specs.Plane.{planeSpace, planeRoot}
 use Rattle.plane.specs.Candidates.{rankLine}
 use Rattle.memory.specs.Fanout.{fanout}
 use Rattle.emission.specs.Path.{lineOn, polygonOn, wayAt, rowUnder, cutUnder, plannedTree}
-use Rattle.tree.proofs.GoodWays.{GoodWay}
+use Rattle.tree.proofs.GoodWays.{GoodWay, way-fits}
 use Rattle.insertion.specs.Planning.{PlannedAt}
 use Rattle.tree.proofs.SplitGroups.{split-two, few-row}
-use Rattle.insertion.proofs.NodePlan.{way-fits}
 
 -- the branches of a node, by a plan and by the definition
 same-cut : {A : Type 0} (b d : Bool) (k l : Line) (p : List Rect) (f g : List (Side Line) → List A) (ss : List (Side Line)) → b ≡ d → (d ≡ false → k ≡ l) → ((ts : List (Side Line)) → f ts ≡ g ts)
@@ -73,7 +72,7 @@ module _ (n : ℕ) (path m : List ℕ) (e : CellEntry) (h : (j : ℕ) → j ≤ 
   unfolding plannedTree
   two f =
       let o = leb-false (length (row (planeSpace fanout) n w)) fanout (sym (few-row (planeSpace fanout) n w) ∙ f) in
-      let len : length (emit (planeSpace fanout) n [] p w) ≡ 2 = ap length (emit-all (planeSpace fanout) n p w) ∙ split-two (planeSpace fanout) n p (row (planeSpace fanout) n w) o (way-fits n w good o) in
+      let len : length (emit (planeSpace fanout) n [] p w) ≡ 2 = ap length (emit-all (planeSpace fanout) n p w) ∙ split-two (planeSpace fanout) n p (row (planeSpace fanout) n w) o (way-fits (planeSpace fanout) n w good o) in
       rooted-two (emit (planeSpace fanout) n [] p w) len ∙ rw (h n (le-refl n) .split ∙ f, cut-emitted)
 
   -- what takes the root's place, as the tree after

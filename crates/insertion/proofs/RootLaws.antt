@@ -1,7 +1,7 @@
 -- The start of an insertion at the root, and its path found: the tree after is the planned one.
 use Prim.Native.Nat.{ℕ, zero, suc, _+_, _*_, _≤_}
 use mathlib.Core.Bool.{Bool, true, false}
-use mathlib.Core.Path.{_≡_, sym, ap, _∙_, subst}
+use mathlib.Core.Path.{_≡_, refl, sym, ap, _∙_, subst}
 use mathlib.Core.List.{List, [], _∷_, flatMap}
 use mathlib.Core.Option.{Option, none, some, bind, Option·some-injective}
 use native.Mathlib.Omega.{arith}
@@ -18,7 +18,7 @@ use Rattle.geometry.proofs.CellLaws.{grid-of}
 use Rattle.geometry.proofs.NumberLaws.{length-rects}
 use Rattle.tree.specs.Nodes.{Item, held}
 use Rattle.tree.specs.Sound.{Count, SoundItem, SoundItems}
-use Rattle.tree.specs.Tree.{Tree, top, entries, SoundTree}
+use Rattle.tree.specs.Tree.{Tree, top, entries, nodeCount, SoundTree}
 use Rattle.tree.specs.Insert.{insertTree}
 use Rattle.tree.specs.Plan.{Way, descend}
 use Rattle.tree.specs.Query.{ofCell, holds}
@@ -47,12 +47,14 @@ use Rattle.emission.specs.Path.{partOn, polygonOn, wayAt, plannedTree}
 use Rattle.index.specs.Held.{heldRead}
 use Rattle.tree.proofs.GoodWays.{GoodWay}
 use Rattle.insertion.specs.Descent.{itemsAt, LevelPut, Descending, Kept, Reached, Stopped, Descended}
-use Rattle.insertion.specs.Planning.{GoodPath, Plannable, PlanMade}
-use Rattle.insertion.specs.Insert.{Inserting, PathPlanned, PathRefused}
+use Rattle.insertion.specs.Planning.{GoodPath, FullLevels, PlanMade}
+use Rattle.insertion.specs.Insert.{Inserting, PathReady, PathPlanned, PathRefused, PathFound}
 use Rattle.insertion.proofs.DescentLaws.{items-are, same-drop, same-polygon}
 use Rattle.tree.proofs.Ways.{sound-way}
+use Rattle.tree.proofs.SplitNodes.{nodes-after}
 use Rattle.layout.specs.Nodes.{PartIn}
 use Rattle.insertion.proofs.PlanTree.{planned-insert}
+use Rattle.insertion.proofs.SplitCount.{split-often}
 
 abbrev laws : Laws (planeSpace fanout)
 laws = plane-space-laws fanout
@@ -164,19 +166,48 @@ module _ (m : List ℕ) (c : Cell) (x : Tree (planeSpace fanout)) (reads : readi
       good-top t = sound-way (planeSpace fanout) laws steps (x .level) p (x .items) (entryOf c t) (wayAt (x .level) path₂ m (entryOf c t)) (way-2 t) fine-p grown-items (sound .count) has-p fresh .way
 
       good-path : GoodPath (x .level) path₂ m c
-      good-path = record { from = z .from; grid = grid; ways = z .ways; goods = λ j h t. good-below path₂ m (entryOf c t) (x .level) j h (good-top t) }
+      good-path = record { from = z .from; linked = z .linked; grid = grid; ways = z .ways; goods = λ j h t. good-below path₂ m (entryOf c t) (x .level) j h (good-top t) }
 
-      module _ (path₃ : List ℕ) (made : PlanMade (x .level) path₂ m c path₃) where
-        planned : PathPlanned m (x .level) c path₃
-        planned = record {
-          from = made .path-is .from;
-          after = λ y h t.
-              let same : some x ≡ some y = Option·some-injective (some x) (some y) (sym reads ∙ h) in
-              subst (λ (o : Option (Tree (planeSpace fanout))). insertTree (planeSpace fanout) (planeRoot fanout) o (entryOf c t) ≡ some (plannedTree (x .level) path₃ m (entryOf c t))) same
-              (planned-insert x path₃ m (entryOf c t) (λ j i. made .planned .each j i t) (made .path-is .goods (x .level) (le-refl (x .level)) t)
-              (sym (made .polygon ∙ polygon-2))
-              (ap (λ (l : List (Item (planeSpace fanout) (x .level))). descend (planeSpace fanout) (x .level) (polygonOn path₃ (x .level)) l (entryOf c t)) (sym (ap (itemsAt (x .level) m) (made .part ∙ part-2) ∙ items-x)) ∙ made .path-is .ways (x .level) (le-refl (x .level)) t));
-        }
+      ready : PathReady m (x .level) c path₂
+      ready = record {
+        plannable = record { path-is = good-path; unsplit = z .unsplit };
+        top = part-2;
+        polygon = λ y h.
+            let same : x ≡ y = Option·some-injective x y (Option·some-injective (some x) (some y) (sym reads ∙ h)) in
+            polygon-2 ∙ ap (λ (u : Tree (planeSpace fanout)). planeRoot fanout .growRoot (u .root) c) same;
+      }
+
+  -- a path that is ready
+  module _ (path₂ : List ℕ) (r : PathReady m (x .level) c path₂) where
+    -- and planned
+    module _ (path₃ : List ℕ) (made : PlanMade (x .level) path₂ m c path₃) where
+      planned : PathPlanned m (x .level) c path₃
+      planned = record {
+        from = made .path-is .from;
+        good = made .path-is;
+        planned = made .planned;
+        top = made .part ∙ r .top;
+        after = λ y h t.
+            let same : some x ≡ some y = Option·some-injective (some x) (some y) (sym reads ∙ h) in
+            subst (λ (o : Option (Tree (planeSpace fanout))). insertTree (planeSpace fanout) (planeRoot fanout) o (entryOf c t) ≡ some (plannedTree (x .level) path₃ m (entryOf c t))) same
+            (planned-insert x path₃ m (entryOf c t) (λ j i. made .planned .each j i t) (made .path-is .goods (x .level) (le-refl (x .level)) t)
+            (sym (made .polygon ∙ r .polygon x reads))
+            (ap (λ (l : List (Item (planeSpace fanout) (x .level))). descend (planeSpace fanout) (x .level) (polygonOn path₃ (x .level)) l (entryOf c t)) (sym (ap (itemsAt (x .level) m) (made .part ∙ r .top) ∙ items-x)) ∙ made .path-is .ways (x .level) (le-refl (x .level)) t));
+      }
+
+    way-ready : (t : ℕ) → descend (planeSpace fanout) (x .level) p (x .items) (entryOf c t) ≡ some (wayAt (x .level) path₂ m (entryOf c t))
+    way-ready t =
+        ap (λ (l : List Rect). descend (planeSpace fanout) (x .level) l (x .items) (entryOf c t)) (sym (r .polygon x reads))
+        ∙ ap (λ (l : List (Item (planeSpace fanout) (x .level))). descend (planeSpace fanout) (x .level) (polygonOn path₂ (x .level)) l (entryOf c t)) (sym (ap (itemsAt (x .level) m) (r .top) ∙ items-x))
+        ∙ r .plannable .path-is .ways (x .level) (le-refl (x .level)) t
+
+    -- the tree after has a node more for each split at least
+    pub more-nodes : (n : ℕ) → FullLevels (x .level) path₂ m n → (t : ℕ)
+        → (y : Tree (planeSpace fanout)) × (insertTree (planeSpace fanout) (planeRoot fanout) (some x) (entryOf c t) ≡ some y) × (n + nodeCount (planeSpace fanout) (some x) ≤ nodeCount (planeSpace fanout) (some y))
+    more-nodes n f t =
+        let s = split-often (x .level) path₂ m c n (r .plannable .path-is) f t in
+        let a = nodes-after (planeSpace fanout) laws steps (planeRoot fanout) x (entryOf c t) (wayAt (x .level) path₂ m (entryOf c t)) (way-ready t) fine-p grown-items (sound .count) has-p fresh in
+        (a .0, a .1, let b = a .2 in omega arith)
 
 -- the first rectangle of a part
 pub first-in : (p l : List ℕ) → length p ≡ 128 → l ≡ rectNumbers p → 4 ≤ length l
@@ -223,7 +254,7 @@ module _ (m : List ℕ) (level root : ℕ) (c : Cell) (v : Inserting m level roo
         (root-descending m c tree (v .tree-in .reads) (v .grid) tree-new path path₁ (subst (λ (i : ℕ). 68 * i + 68 ≤ length path) (sym (v .tree-in .level-is)) h) put-tree)
 
     module _ (path₂ : List ℕ) (b : Bool) (z : Descended level path₁ m c path₂ b) where
-      pub find-refused : b ≡ false → PathRefused m c
+      find-refused : b ≡ false → PathRefused m c
       find-refused n = record {
         after = λ y k t.
             let same : some tree ≡ some y = Option·some-injective (some tree) (some y) (sym (v .tree-in .reads) ∙ k) in
@@ -242,15 +273,26 @@ module _ (m : List ℕ) (level root : ℕ) (c : Cell) (v : Inserting m level roo
         z-tree : Descended (tree .level) path₁ m c path₂ true
         z-tree = subst (λ (i : ℕ). Descended i path₁ m c path₂ true) (sym (v .tree-in .level-is)) reached
 
-        find-good : GoodPath level path₂ m c
-        find-good = subst (λ (i : ℕ). GoodPath i path₂ m c) (v .tree-in .level-is) (good-path m c tree (v .tree-in .reads) (v .grid) tree-new path path₁ put-tree path₂ (z-tree .kept) (z-tree .is))
+        find-ready : PathReady m level c path₂
+        find-ready = subst (λ (i : ℕ). PathReady m i c path₂) (v .tree-in .level-is) (ready m c tree (v .tree-in .reads) (v .grid) tree-new path path₁ put-tree path₂ (z-tree .kept) (z-tree .is))
 
-        pub find-plannable : Plannable level path₂ m c
-        find-plannable = record { path-is = find-good; unsplit = reached .is .unsplit }
+      pub find-found : PathFound m level c path₂ b
+      find-found = go b refl
+        where
+          go : (d : Bool) → b ≡ d → PathFound m level c path₂ d
+          go true n = find-ready n
+          go false n = find-refused n
 
-        pub find-planned : (path₃ : List ℕ) → PlanMade level path₂ m c path₃ → PathPlanned m level c path₃
-        find-planned path₃ made = subst (λ (i : ℕ). PathPlanned m i c path₃) (v .tree-in .level-is)
-            (planned m c tree (v .tree-in .reads) (v .grid) tree-new path path₁ put-tree path₂ (z-tree .kept) (z-tree .is) path₃ (subst (λ (i : ℕ). PlanMade i path₂ m c path₃) (sym (v .tree-in .level-is)) made))
+  module _ (path : List ℕ) (r : PathReady m level c path) where
+    r-tree : PathReady m (tree .level) c path
+    r-tree = subst (λ (i : ℕ). PathReady m i c path) (sym (v .tree-in .level-is)) r
 
-        pub plan-length : (path₃ : List ℕ) → PlanMade level path₂ m c path₃ → length path₃ ≡ length path
-        plan-length path₃ made = made .same-length ∙ find-length
+    -- the plan was made
+    pub ready-planned : (path′ : List ℕ) → PlanMade level path m c path′ → PathPlanned m level c path′
+    ready-planned path′ made = subst (λ (i : ℕ). PathPlanned m i c path′) (v .tree-in .level-is)
+        (planned m c tree (v .tree-in .reads) (v .grid) tree-new path r-tree path′ (subst (λ (i : ℕ). PlanMade i path m c path′) (sym (v .tree-in .level-is)) made))
+
+    -- the tree after has a node more for each split at least
+    pub ready-more : (n : ℕ) → FullLevels level path m n → (t : ℕ)
+        → (y : Tree (planeSpace fanout)) × (insertTree (planeSpace fanout) (planeRoot fanout) (some tree) (entryOf c t) ≡ some y) × (n + nodeCount (planeSpace fanout) (some tree) ≤ nodeCount (planeSpace fanout) (some y))
+    ready-more n f t = more-nodes m c tree (v .tree-in .reads) (v .grid) tree-new path r-tree n (subst (λ (i : ℕ). FullLevels i path m n) (sym (v .tree-in .level-is)) f) t

@@ -11,15 +11,16 @@ use Rattle.tree.specs.Tree.{Tree}
 use Rattle.tree.specs.Insert.{insertTree}
 use Rattle.plane.specs.Lines.{CellEntry}
 use Rattle.plane.specs.Plane.{planeSpace, planeRoot}
-use Rattle.memory.specs.Layout.{partsOf}
+use Rattle.memory.specs.Layout.{partsOf, rootIn}
 use Rattle.memory.specs.Reading.{reading}
 use Rattle.memory.specs.Fanout.{fanout}
 use Rattle.index.specs.declared.answer.Inserted.{Inserted}
 use Rattle.index.specs.Answers.{insertRead}
 use Rattle.index.specs.Changes.{entryOf, InsertMemory, workAfter}
 use Rattle.index.specs.Open.{TreeIn}
-use Rattle.emission.specs.Path.{PathFrom, plannedTree}
+use Rattle.emission.specs.Path.{partOn, polygonOn, PathFrom, plannedTree}
 use Rattle.index.specs.Held.{heldRead}
+use Rattle.insertion.specs.Planning.{GoodPath, Plannable, Planned}
 
 -- The memory reads as a tree that does not hold the cell, which is on the grid.
 pub record Inserting (m : List ℕ) (level root : ℕ) (c : Cell) : Type 0 where
@@ -27,9 +28,20 @@ pub record Inserting (m : List ℕ) (level root : ℕ) (c : Cell) : Type 0 where
   pub grid : onGrid c ≡ true
   pub new : heldRead c (reading fanout m) ≡ false
 
+-- Steps 1 to 3 are done: the path leads from the root, whose rectangle has grown to the cell, down to the leaf; no node
+-- is split so far.
+pub record PathReady (m : List ℕ) (level : ℕ) (c : Cell) (path : List ℕ) : Type 0 where
+  pub plannable : Plannable level path m c
+  pub top : partOn path level ≡ rootIn m
+  pub polygon : (x : Tree (planeSpace fanout)) → reading fanout m ≡ some (some x)
+      → polygonOn path level ≡ planeRoot fanout .growRoot (x .root) c
+
 -- the path and its plan give the tree after
 pub record PathPlanned (m : List ℕ) (level : ℕ) (c : Cell) (path : List ℕ) : Type 0 where
   pub from : PathFrom level path m
+  pub good : GoodPath level path m c
+  pub planned : Planned level path m c
+  pub top : partOn path level ≡ rootIn m
   pub after : (x : Tree (planeSpace fanout)) → reading fanout m ≡ some (some x) → (t : ℕ)
       → insertTree (planeSpace fanout) (planeRoot fanout) (some x) (entryOf c t) ≡ some (plannedTree level path m (entryOf c t))
 
@@ -39,7 +51,7 @@ pub record PathRefused (m : List ℕ) (c : Cell) : Type 0 where
       → insertTree (planeSpace fanout) (planeRoot fanout) (some x) (entryOf c t) ≡ none
 
 abbrev pub PathFound : List ℕ → ℕ → Cell → List ℕ → Bool → Type 0
-PathFound m level c path true = PathPlanned m level c path
+PathFound m level c path true = PathReady m level c path
 PathFound m level c path false = PathRefused m c
 
 -- The insertion was decided, and the index written where it is accepted; the work area is still to be zeroed.
@@ -49,6 +61,10 @@ pub record Built (m w : List ℕ) (e : CellEntry) (m' w' : List ℕ) (r : Insert
   pub memory-length : length m' ≡ length m
   pub work-length : length w' ≡ length w
   pub zeroed : workAfter r w ≡ replicate (length w) 0
+
+-- The same without a work area: whatever there is, it is as it was.
+abbrev pub BuiltInPlace : List ℕ → CellEntry → List ℕ → Inserted → Type 0
+BuiltInPlace m e m' r = (w : List ℕ) → Built m w e m' w r
 
 -- An insertion into the index that the memory reads as ended with the answer r, and left m' and w'.
 pub record InsertDone (m w : List ℕ) (e : CellEntry) (m' w' : List ℕ) (r : Inserted) : Type 0 where

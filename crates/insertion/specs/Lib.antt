@@ -1,3 +1,4 @@
 pub mod Descent
 pub mod Planning
+pub mod Growing
 pub mod Insert

@@ -1,5 +1,5 @@
 -- The plan of the splits: the line of each node on the path that gets one item too many, from the leaf up.
-use Prim.Native.Nat.{ℕ, _≤_, _<_}
+use Prim.Native.Nat.{ℕ, _+_, _≤_, _<_}
 use mathlib.Core.Bool.{true, false}
 use mathlib.Core.List.{List}
 use mathlib.Core.Option.{some}
@@ -18,11 +18,12 @@ use Rattle.split_line.specs.LineNumber.{LineIs}
 use Rattle.emission.specs.Path.{partOn, lineOn, polygonOn, wayAt, PathFrom}
 use Rattle.tree.proofs.GoodWays.{GoodWay}
 use Rattle.layout.specs.Nodes.{countAt}
-use Rattle.insertion.specs.Descent.{itemsAt}
+use Rattle.insertion.specs.Descent.{itemsAt, Linked}
 
 -- A path that is that of the definition from each level on, through sound nodes.
 pub record GoodPath (n : ℕ) (path m : List ℕ) (c : Cell) : Type 0 where
   pub from : PathFrom n path m
+  pub linked : Linked n path m
   pub grid : onGrid c ≡ true
   pub ways : (j : ℕ) → j ≤ n → (t : ℕ)
       → descend (planeSpace fanout) j (polygonOn path j) (itemsAt j m (partOn path j)) (entryOf c t) ≡ some (wayAt j path m (entryOf c t))
@@ -36,16 +37,28 @@ pub record Plannable (n : ℕ) (path m : List ℕ) (c : Cell) : Type 0 where
 -- The path says at a level whether its node is split, and at which line.
 pub record PlannedAt (n : ℕ) (path m : List ℕ) (e : CellEntry) : Type 0 where
   pub split : eqb (lineOn path n) 0 ≡ few (planeSpace fanout) n (wayAt n path m e)
-  pub line : few (planeSpace fanout) n (wayAt n path m e) ≡ false → rankLine (lineOn path n) ≡ lineAt (planeSpace fanout) n (wayAt n path m e)
+  pub line : few (planeSpace fanout) n (wayAt n path m e) ≡ false
+      → rankLine (lineOn path n) ≡ lineAt (planeSpace fanout) n (wayAt n path m e)
 
 -- It says so at each level.
 pub record Planned (n : ℕ) (path m : List ℕ) (c : Cell) : Type 0 where
   pub each : (j : ℕ) → j ≤ n → (t : ℕ) → PlannedAt j path m (entryOf c t)
 
--- The nodes below a level are all split, at the lines that the path says.
+-- The first n nodes on the path from the leaf up, and no others, have eight items. Each of them gets one item more, so
+-- it is split.
+pub record FullLevels (level : ℕ) (path m : List ℕ) (n : ℕ) : Type 0 where
+  pub most : n ≤ level + 1
+  pub full : (j : ℕ) → j < n → countAt m (partOn path j) ≡ 8
+  pub next : n ≤ level → countAt m (partOn path n) < 8
+
+-- The nodes below a level are all split.
+abbrev pub AllSplit : ℕ → List ℕ → List ℕ → Cell → Type 0
+AllSplit n path m c = (j : ℕ) → j < n → (t : ℕ) → few (planeSpace fanout) j (wayAt j path m (entryOf c t)) ≡ false
+
+-- They are split at the lines that the path says.
 pub record SplitBelow (n : ℕ) (path m : List ℕ) (c : Cell) : Type 0 where
   pub each : (j : ℕ) → j < n → (t : ℕ) → PlannedAt j path m (entryOf c t)
-  pub all : (j : ℕ) → j < n → (t : ℕ) → few (planeSpace fanout) j (wayAt j path m (entryOf c t)) ≡ false
+  pub all : AllSplit n path m c
 
 -- The node on the path at a level gets one item too many: it has eight, and the nodes below it are split.
 pub record Full (n level : ℕ) (path m : List ℕ) (c : Cell) : Type 0 where

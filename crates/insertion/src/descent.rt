@@ -1,4 +1,5 @@
-// Steps 1 to 3 of an insertion: the path from the root down to the leaf that gets the entry, with each polygon as it grows.
+// Steps 1 to 3 of an insertion: the path from the root down to the leaf that gets the entry, with each polygon as it
+// grows.
 ghost use Prim.Native.Nat.{_*_, _+_, _≤_};
 ghost use lib.ListN.{length};
 ghost use Rattle.geometry.specs.Numbers.{rectsOf};

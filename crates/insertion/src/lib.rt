@@ -1,6 +1,8 @@
 // Insertion: steps 1 to 4 of document 01.
+mod building;
 mod descent;
 mod first;
+mod growing;
 mod insert_call;
 mod planning;
 

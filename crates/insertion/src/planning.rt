@@ -1,5 +1,6 @@
 // Step 4, planned: which nodes on the path are split, and at which lines.
-ghost use Rattle.insertion.specs.Planning.{Plannable, Full, LineOfLevel, PlanMade};
+ghost use Rattle.emission.specs.Path.{PathFrom};
+ghost use Rattle.insertion.specs.Planning.{Plannable, FullLevels, Full, LineOfLevel, PlanMade};
 use emission::PATH_LEVEL;
 use emission::PATH_LINE;
 use emission::PATH_PLACE;
@@ -25,21 +26,34 @@ fn line_at(m: &[u32], path: &[u32], n: u32, level: u32, c: Cell) -> u32
     node_line(m, n, 0, k, place, below, c)
 }
 
-// Writes the lines of the nodes that are split into the path, from the leaf up.
-pub fn plan(m: &[u32], level: u32, c: Cell, path: &mut [u32])
-    requires { ⌜ Plannable level (now path) (now m) c ⌝ }
-    ensures { λ _. ⌜ PlanMade level (now (path .entry)) (now (m .entry)) c (now (path .exit)) ⌝ }
+// How many nodes on the path are split. From the leaf up, each that has eight items gets one more; a node with fewer
+// has room for the new
+// item, so none above it gets one.
+pub fn split_count(m: &[u32], path: &[u32], level: u32) -> u32
+    requires { ⌜ PathFrom level (now path) (now m) ⌝ }
+    ensures { λ n. ⌜ FullLevels level (now (path .entry)) (now (m .entry)) n ⌝ }
 {
     let mut n: u32 = 0;
     while n <= level {
-        let at = PATH_LEVEL * (n as usize);
-        let k = path[at];
-        // with the new item it has at most eight: it is not split, nor is any above
+        let k = path[PATH_LEVEL * (n as usize)];
         if count_at(m, k) < FANOUT {
-            return;
+            return n;
         }
+        n += 1;
+    }
+    n
+}
+
+// Writes the lines of the nodes that are split into the path, from the leaf up.
+pub fn plan(m: &[u32], level: u32, splits: u32, c: Cell, path: &mut [u32])
+    requires { ⌜ Plannable level (now path) (now m) c ⌝ }
+    requires { ⌜ FullLevels level (now path) (now m) splits ⌝ }
+    ensures { λ _. ⌜ PlanMade level (now (path .entry)) (now (m .entry)) c (now (path .exit)) ⌝ }
+{
+    let mut n: u32 = 0;
+    while n < splits {
         let line = line_at(m, path, n, level, c);
-        path[at + PATH_LINE] = line;
+        path[PATH_LEVEL * (n as usize) + PATH_LINE] = line;
         n += 1;
     }
 }

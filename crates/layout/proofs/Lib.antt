@@ -12,3 +12,5 @@ pub mod WritingLaws
 pub mod PartCopies
 pub mod NodeStore
 pub mod LoadedLaws
+pub mod BesideLaws
+pub mod LoadedParts

@@ -13,7 +13,7 @@ use Rattle.geometry.proofs.Booleans.{split-and}
 use Rattle.geometry.specs.Numbers.{numbersOf}
 use Rattle.geometry.proofs.NumberLaws.{length-rects, numbers-take}
 use Rattle.tree.proofs.Lists.{flatMap-append, flatMap-one}
-use Rattle.memory.specs.Layout.{allZero, rectCount, itemCount, polygonIn, entryIn, entriesIn, restZero}
+use Rattle.memory.specs.Layout.{allZero, rectCount, itemCount, polygonIn, entryIn, entriesIn, childrenIn, restZero}
 use Rattle.memory.specs.Image.{padded, entryNumbers, nodePart}
 use Rattle.memory.proofs.ReadingLaws.{zero-at}
 use Rattle.layout.specs.declared.node.Node.{Node}
@@ -123,6 +123,13 @@ pub leaf-image : (p : List ℕ) → length p ≡ 128 → rectCount p ≤ 16 → 
     → p ≡ nodePart (polygonIn p) (itemCount p) (flatMap entryNumbers (entriesIn p (itemCount p)))
 leaf-image p long few items rest =
     part-image 3 p long few (omega arith) rest _ (entries-numbers p (itemCount p) (omega arith))
+
+-- a routing node's part is the image of its polygon and its children
+pub routing-image : (p : List ℕ) → length p ≡ 128 → rectCount p ≤ 16 → itemCount p ≤ 8 → restZero 1 p ≡ true
+    → p ≡ nodePart (polygonIn p) (itemCount p) (childrenIn p)
+routing-image p long few items rest =
+    let e : itemCount p ≡ 1 * itemCount p = omega arith in
+    part-image 1 p long few (omega arith) rest _ (ap (λ (j : ℕ). take j (drop 66 p)) e)
 
 -- a part after the numbers of another were copied into it
 part-copied : (p q : List ℕ) → length p ≡ 128 → length q ≡ 128 → take 128 p ++ drop 128 q ≡ p

@@ -100,3 +100,7 @@ put-part m k p = let e : 64 + 128 * k + 128 - (64 + 128 * k) ≡ 128 = omega ari
 pub node-set : (m : List ℕ) (k : ℕ) (n : Node) (p : List ℕ) → p ≡ withNode (take (64 + 128 * k + 128 - (64 + 128 * k)) (drop (64 + 128 * k) m)) n
     → putMid (64 + 128 * k) (64 + 128 * k + 128 - (64 + 128 * k)) m p ≡ setPart m k (withNode (part m k) n)
 node-set m k n p e = put-part m k p ∙ ap (setPart m k) (e ∙ ap (λ (q : List ℕ). withNode q n) (part-is m k))
+
+-- part k is lent on, and comes back with other numbers
+pub part-replaced : (m : List ℕ) (k : ℕ) (p q : List ℕ) → p ≡ q → putMid (64 + 128 * k) (64 + 128 * k + 128 - (64 + 128 * k)) m p ≡ setPart m k q
+part-replaced m k p q e = put-part m k p ∙ ap (setPart m k) e

@@ -5,3 +5,4 @@ pub mod Writing
 pub mod Parts
 pub mod Items
 pub mod Loaded
+pub mod Beside

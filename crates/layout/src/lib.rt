@@ -48,6 +48,7 @@ pub use reading::part_at;
 pub use reading::rect_count;
 pub use reading::rects;
 pub use store::put_node;
+pub use store::replace_node;
 pub use store::set_node;
 pub use writing::put_tree;
 pub use zeros::all_zero;

@@ -69,3 +69,13 @@ pub fn set_node(m: &mut [u32], k: u32, node: Node)
     let e = a + PART;
     store_items(&mut m[a..e], node);
 }
+
+// Writes a node with its polygon to its part of the index.
+pub fn replace_node(m: &mut [u32], k: u32, p: Polygon, node: Node)
+    requires { ⌜ PartIn (now m) k × (p .count ≤ 16) ⌝ }
+    ensures { λ _. ⌜ now (m .exit) ≡ setPart (now (m .entry)) k (nodePart (rectsOf p) (node .count) (node .items)) ⌝ }
+{
+    let a = HEAD + PART * (k as usize);
+    let e = a + PART;
+    store_node(&mut m[a..e], p, node);
+}

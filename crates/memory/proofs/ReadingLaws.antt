@@ -12,6 +12,7 @@ use native.Mathlib.Decide.{decLt}
 use borrow.Author.Tests.{leb-true, ltb-true, eqb-true, le-leb, lt-ltb, eq-eqb}
 use lib.Dec.{leb, ltb, eqb}
 use lib.ListN.{length, take, drop, getD, set, replicate, length-append, length-take, length-drop, length-replicate}
+use Rattle.geometry.specs.declared.rect.Rect.{Rect}
 use Rattle.geometry.proofs.Booleans.{both, split-and, all4}
 use Rattle.tree.specs.Lists.{All, Pairs, total}
 use Rattle.tree.specs.Nodes.{Item, nodes}
@@ -340,30 +341,30 @@ module _ (fanout : ℕ) where
     module _ (n lo k i : ℕ) (b : Item (planeSpace fanout) (suc (suc n))) (before : readNode fanout (suc n) m lo k ≡ some b) (inside : i < length (childrenIn (part m k)))
         (parts-same : (j : ℕ) → lo ≤ j → j < k → (j < lowAt lo (childrenIn (part m k)) i) ⊎ (getD (childrenIn (part m k)) i 0 < j) → part m′ j ≡ part m j)
         (use-same : (j : ℕ) → lo ≤ j → j < k → (j < lowAt lo (childrenIn (part m k)) i) ⊎ (getD (childrenIn (part m k)) i 0 < j) → inUse m′ j ≡ inUse m j)
-        (fits : nodeFits fanout 1 m′ k ≡ true) (polygon : polygonIn (part m′ k) ≡ polygonIn (part m k)) where
-      -- where the branch changed and the node has the same children, the node reads as before with that branch changed
+        (fits : nodeFits fanout 1 m′ k ≡ true) (r : List Rect) (polygon : r ≡ polygonIn (part m′ k)) where
+      -- where the branch changed and the node has the same children, the node reads as before with that branch changed; r is its polygon now
       pub change-node : (c : Item (planeSpace fanout) (suc n)) → childrenIn (part m′ k) ≡ childrenIn (part m k)
           → readNode fanout n m′ (lowAt lo (childrenIn (part m k)) i) (getD (childrenIn (part m k)) i 0) ≡ some c
-          → readNode fanout (suc n) m′ lo k ≡ some (record { poly = b .poly; child = set (b .child) i c })
+          → readNode fanout (suc n) m′ lo k ≡ some (record { poly = r; child = set (b .child) i c })
       change-node c q e =
           let p = node-parts n m lo k b before in
           let ks = childrenIn (part m k) in
-          make-node n m′ lo k (record { poly = b .poly; child = set (b .child) i c }) (record {
+          make-node n m′ lo k (record { poly = r; child = set (b .child) i c }) (record {
             fits = fits;
-            polygon = p .polygon ∙ sym polygon;
+            polygon = polygon;
             row = ap (λ l. readRow (readNode fanout n m′) lo k l) q
                 ∙ change-row (readNode fanout n m) (readNode fanout n m′) lo k ks i (b .child) c (p .row) inside (agree-beside n lo k ks i parts-same use-same) e;
           })
 
       -- where the node has the same children without the i-th, it reads as before without that branch
       pub remove-node : childrenIn (part m′ k) ≡ take i (childrenIn (part m k)) ++ drop (i + 1) (childrenIn (part m k))
-          → readNode fanout (suc n) m′ lo k ≡ some (record { poly = b .poly; child = take i (b .child) ++ drop (i + 1) (b .child) })
+          → readNode fanout (suc n) m′ lo k ≡ some (record { poly = r; child = take i (b .child) ++ drop (i + 1) (b .child) })
       remove-node q =
           let p = node-parts n m lo k b before in
           let ks = childrenIn (part m k) in
-          make-node n m′ lo k (record { poly = b .poly; child = take i (b .child) ++ drop (i + 1) (b .child) }) (record {
+          make-node n m′ lo k (record { poly = r; child = take i (b .child) ++ drop (i + 1) (b .child) }) (record {
             fits = fits;
-            polygon = p .polygon ∙ sym polygon;
+            polygon = polygon;
             row = ap (λ l. readRow (readNode fanout n m′) lo k l) q
                 ∙ remove-row (readNode fanout n m) (readNode fanout n m′) lo k ks i (b .child) (node-lower n m′) (p .row) inside (agree-beside n lo k ks i parts-same use-same);
           })

@@ -16,8 +16,8 @@ use Rattle.memory.specs.Layout.{partsOf, part, inUse, bitsSet, othersZero, item
 use Rattle.memory.specs.Reading.{readNode}
 use Rattle.memory.proofs.ReadingLaws.{fits-as, of-fits}
 use Rattle.memory.specs.Fanout.{fanout}
+use Rattle.layout.specs.Beside.{Beside}
 use Rattle.layout.specs.Gap.{ItemDropped}
-use Rattle.removal.specs.Parts.{Beside}
 use Rattle.removal.specs.Below.{nodeLeft, RemovedBelow}
 
 branch-if : (n : ℕ) (b : Item (planeSpace fanout) (suc n)) (l : List (Item (planeSpace fanout) n)) → 1 ≤ length l

@@ -22,10 +22,10 @@ use Rattle.layout.specs.PartSet.{setPart, freed, UsedPart}
 use Rattle.layout.proofs.GapLists.{length-without}
 use Rattle.layout.proofs.GapLaws.{entry-at}
 use Rattle.layout.proofs.PartSetLaws.{set-part, set-length, set-in-use, set-bits}
+use Rattle.layout.proofs.BesideLaws.{beside-wider, set-beside, set-unused, freed-beside, freed-unused, freed-bits}
 use Rattle.index.specs.Walks.{cellTest}
 use Rattle.removal.specs.Place.{EntryPlace, HoldsCell}
 use Rattle.removal.specs.Below.{TakesItem, LeafShorter, NodeFreed, EntryTaken, Removable, RemovedBelow}
-use Rattle.removal.proofs.FrameLaws.{beside-wider, set-beside, set-unused, freed-beside, freed-unused, freed-bits}
 use Rattle.removal.proofs.TreeLaws.{no-items, without-at, holder, holder-has, all-at}
 use Rattle.removal.proofs.BelowLaws.{removed-left, removed-gone, fits-dropped}
 

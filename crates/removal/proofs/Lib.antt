@@ -1,7 +1,6 @@
 pub mod TakeWays
 pub mod PlaceLoops
 pub mod TreeLaws
-pub mod FrameLaws
 pub mod BelowLaws
 pub mod LeafRemoved
 pub mod NodeRemoved

@@ -22,18 +22,18 @@ use Rattle.memory.specs.Layout.{partsOf, part, inUse, bitsSet, itemCount, polyg
 use Rattle.memory.specs.Reading.{readNode}
 use Rattle.memory.proofs.ReadingLaws.{NodeParts, FitsAs, node-parts, fits-as, length-right, part-length, lowAt, low-from, low-to, part-below, row-at, row-length, change-node, remove-node}
 use Rattle.memory.specs.Fanout.{fanout}
+use Rattle.layout.specs.Beside.{Beside}
 use Rattle.layout.specs.Nodes.{countAt, childAt}
 use Rattle.layout.specs.Gap.{withoutAt}
 use Rattle.layout.specs.PartSet.{setPart, freed, UsedPart}
 use Rattle.layout.proofs.GapLists.{length-without}
 use Rattle.layout.proofs.PartSetLaws.{set-part, set-in-use, set-bits}
+use Rattle.layout.proofs.BesideLaws.{beside-wider, beside-then, set-beside, set-unused, freed-beside, freed-unused, freed-bits}
 use Rattle.index.specs.Walks.{hasTest, Walkable}
 use Rattle.index.proofs.CheckLaws.{node-polygon}
 use Rattle.index.proofs.WalkRows.{walkable, walk-polygon}
-use Rattle.removal.specs.Parts.{Beside}
 use Rattle.removal.specs.Place.{ChildHas, ChildrenHave}
 use Rattle.removal.specs.Below.{nodeLeft, TakesItem, NodeShorter, NodeFreed, BranchTaken, Removable, RemovedBelow}
-use Rattle.removal.proofs.FrameLaws.{beside-wider, beside-then, set-beside, set-unused, freed-beside, freed-unused, freed-bits}
 use Rattle.removal.proofs.PlaceLoops.{ChildNumbers, child-numbers}
 use Rattle.removal.proofs.TreeLaws.{no-items, all-at, total-at, without-at, holder, holder-has, has-holds}
 use Rattle.removal.proofs.BelowLaws.{removed-left, removed-gone, fits-dropped, fits-kept}
@@ -200,7 +200,7 @@ module _ (n : ℕ) (m : List ℕ) (lo k : ℕ) (c : Cell) (v : Removable (suc n)
           let u = ap (total (nodes (planeSpace fanout) (suc n))) w in
           removed-left (suc n) m lo k c m₁ (v .walk .node) (v .walk .reads) (r .unused) beside₁ (set bs i y) w (omega arith)
           (change-node fanout m m₁ parts-are n lo k i (v .walk .node) (v .walk .reads) (in-row i (q .inside)) parts₁ uses₁
-          (fits-kept 1 m k m₁ (parts .fits) (r .beside .same-length) part-kept use-kept) (ap polygonIn part-kept) y (ap childrenIn part-kept) (r .after y (rw child-was e)))
+          (fits-kept 1 m k m₁ (parts .fits) (r .beside .same-length) part-kept use-kept) (v .walk .node .poly) (parts .polygon ∙ ap polygonIn (sym part-kept)) y (ap childrenIn part-kept) (r .after y (rw child-was e)))
           (omega arith)
 
       pub child-stays : t ≡ true → RemovedBelow (suc n) m lo k c m₁ true
@@ -260,7 +260,7 @@ module _ (n : ℕ) (m : List ℕ) (lo k : ℕ) (c : Cell) (v : Removable (suc n)
             (λ j x y w. b₂ .parts j (inl y) ∙ parts₁ j x y w)
             (λ j x y w. b₂ .in-use j (let l = v .walk .below in omega arith) (inl y) ∙ uses₁ j x y w)
             (fits-dropped 1 m k m₁ (setPart m₁ k p) p (parts .fits) long part-kept (set-in-use m₁ k p ends size k (v .walk .below) ∙ used₁ .used) same d f)
-            (ap polygonIn same ∙ d .polygon ∙ ap polygonIn part-kept) kids)
+            (v .walk .node .poly) (parts .polygon ∙ sym (ap polygonIn same ∙ d .polygon ∙ ap polygonIn part-kept)) kids)
             (omega arith))
 
         -- the node lost its only branch

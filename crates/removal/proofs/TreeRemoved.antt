@@ -1,13 +1,12 @@
 -- Removal from the tree that a memory reads as: what the memory reads as once the root is left, or gone.
-use Prim.Native.Nat.{ℕ, suc, _+_, _-_, _≤_, _<_}
+use Prim.Native.Nat.{ℕ, suc, _+_, _-_, _≤_}
 use mathlib.Core.Path.{_≡_, refl, sym, ap, _∙_}
 use mathlib.Core.Bool.{Bool, true, false, not}
 use mathlib.Core.List.{List, [], _∷_}
 use mathlib.Core.Option.{none, some, Option·some-injective}
 use native.Mathlib.Omega.{arith}
 use borrow.Author.Tests.{not-true, not-false}
-use lib.ListN.{length, getD, set, take, drop, length-set, length-take, length-drop}
-use lib.Seq.{getD-take, getD-drop, ext-getD}
+use lib.ListN.{length, getD, set, take, drop, length-set}
 use Rattle.geometry.specs.declared.rect.Cell.{Cell}
 use Rattle.tree.specs.Lists.{total, countOf, notEmpty}
 use Rattle.tree.specs.Nodes.{Item, held, nodes}
@@ -21,12 +20,13 @@ use Rattle.tree.proofs.Depth.{top-sound}
 use Rattle.tree.proofs.RemoveIndex.{remove-entries, remove-sound}
 use Rattle.plane.specs.Plane.{planeSpace, planeRoot}
 use Rattle.plane.proofs.Rects.{plane-space-laws}
-use Rattle.memory.specs.Layout.{rightLength, bitsSet, rootIn, allZero}
+use Rattle.memory.specs.Layout.{bitsSet, rootIn, allZero}
 use Rattle.memory.specs.Reading.{reading}
 use Rattle.memory.proofs.SoundTested.{test-of-sound}
 use Rattle.memory.proofs.ReadingLaws.{ReadAs, read-as, read-sound, make-reading, zeros-read, length-right}
 use Rattle.memory.specs.Fanout.{fanout}
 use Rattle.layout.specs.PartSet.{noTree}
+use Rattle.layout.proofs.BesideLaws.{right-same, head-same}
 use Rattle.index.specs.declared.answer.Removed.the-variants.{Accepted, CellNotHeld}
 use Rattle.index.specs.Answers.{removeEnd, removeRead}
 use Rattle.index.specs.Changes.{removedIndex}
@@ -34,7 +34,6 @@ use Rattle.index.specs.Count.{entriesAt}
 use Rattle.index.specs.Open.{TreeIn}
 use Rattle.index.proofs.WalkRows.{walkable}
 use Rattle.index.proofs.CountWalk.{tree-held}
-use Rattle.removal.specs.Parts.{Beside}
 use Rattle.removal.specs.Below.{nodeLeft, Removable, RemovedBelow}
 use Rattle.index.specs.Held.{heldRead}
 use Rattle.removal.specs.Tree.{RemoveDone}
@@ -46,21 +45,6 @@ unfolding heldRead removeRead removeEnd
 not-held m level root c b v e f =
     let h : holds (planeSpace fanout) c (some (v .tree)) ≡ false = sym (rw (v .reads) at e) ∙ not-true b f in
     record { answer = rw (v .reads, h); memory = refl; memory-length = refl }
-
--- a memory of the same length is right too
-right-same : (m m′ : List ℕ) → length m′ ≡ length m → rightLength m ≡ true → rightLength m′ ≡ true
-unfolding rightLength
-right-same m m′ l r = rw l r
-
--- the unused numbers of the first 64 are as they were
-head-same : (m : List ℕ) (k : ℕ) (m′ : List ℕ) → Beside m 0 k m′ → drop 10 (take 64 m′) ≡ drop 10 (take 64 m)
-head-same m k m′ v =
-    let l = v .same-length in
-    ext-getD 0 _ _ (simp (length-drop, length-take) (omega arith))
-    (λ x h.
-    let y : 10 + x < 64 = (let p = length-drop 10 (take 64 m′) in let q = length-take 64 m′ in omega arith) in
-    getD-drop 10 (take 64 m′) x 0 ∙ getD-take 64 m′ (10 + x) 0 y ∙ v .head (10 + x) (omega arith) y
-    ∙ sym (getD-drop 10 (take 64 m) x 0 ∙ getD-take 64 m (10 + x) 0 y))
 
 -- the memory has the numbers before the parts
 pub head-in : (m : List ℕ) (level root : ℕ) (c : Cell) (m₁ : List ℕ) (s : Bool) → TreeIn m level root → RemovedBelow level m 0 root c m₁ s → 64 ≤ length m₁

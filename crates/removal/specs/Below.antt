@@ -16,10 +16,10 @@ use Rattle.plane.specs.Plane.{planeSpace}
 use Rattle.memory.specs.Layout.{partsOf, part, bitsSet, itemCount, othersZero}
 use Rattle.memory.specs.Reading.{readNode}
 use Rattle.memory.specs.Fanout.{fanout}
+use Rattle.layout.specs.Beside.{Beside}
 use Rattle.layout.specs.Gap.{ItemIn}
 use Rattle.layout.specs.PartSet.{freed, UsedPart, EntryDroppedAt, BranchDroppedAt}
 use Rattle.index.specs.Walks.{Walkable}
-use Rattle.removal.specs.Parts.{Beside}
 
 -- The node at part k has an i-th item.
 pub record TakesItem (m : List ℕ) (k i : ℕ) : Type 0 where

@@ -1,4 +1,3 @@
-pub mod Parts
 pub mod Place
 pub mod Below
 pub mod Tree

@@ -33,3 +33,9 @@ module _ (S : Space) where
   unfoldable pub GoodWay : (n : ℕ) → Way S n → Type 0
   GoodWay zero es = LeafWay es
   GoodWay (suc n) w = NodeWay n w (GoodWay n (w .below))
+
+  -- where a node of the way has one item too many, its line fits
+  pub way-fits : (n : ℕ) (w : Way S n) → GoodWay n w → S .most < length (row S n w) → FitAt S n (lineOf S n (row S n w)) (row S n w)
+  unfolding row GoodWay
+  way-fits zero es g o = g .fits o
+  way-fits (suc n) w g o = g .fits o

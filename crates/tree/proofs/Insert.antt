@@ -31,7 +31,7 @@ module _ (S : Space) where
   rooted-entries n p (b ∷ []) = sym (append-nil (flatMap (held S n) (b .child)))
   rooted-entries n p (a ∷ b ∷ l) = refl
 
-  rooted-nodes : (n : ℕ) (p : S .Poly) (got : List (Item S (suc n))) → total (nodes S (suc n)) got ≤ nodeCount S (some (rooted S n p got))
+  pub rooted-nodes : (n : ℕ) (p : S .Poly) (got : List (Item S (suc n))) → total (nodes S (suc n)) got ≤ nodeCount S (some (rooted S n p got))
   unfolding total nodes
   rooted-nodes n p [] = omega arith
   rooted-nodes n p (b ∷ []) = omega arith

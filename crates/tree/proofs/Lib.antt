@@ -35,3 +35,4 @@ pub mod Pass
 pub mod GoodWays
 pub mod Ways
 pub mod SplitGroups
+pub mod SplitNodes

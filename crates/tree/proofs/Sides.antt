@@ -94,7 +94,7 @@ module _ (S : Space) where
       notEmpty-if (S .clip (left l) (b .poly)) (S .clip (right l) (b .poly)) (flatMap (half S n (left l)) (b .child)) (flatMap (half S n (right l)) (b .child)) (omega arith)
 
   -- nodes: the halves have at least as many
-  nodes-flatMap : (n : ℕ) (f g : Item S n → List (Item S n)) (l : List (Item S n)) → All (λ x. nodes S n x ≤ total (nodes S n) (f x) + total (nodes S n) (g x)) l
+  pub nodes-flatMap : (n : ℕ) (f g : Item S n → List (Item S n)) (l : List (Item S n)) → All (λ x. nodes S n x ≤ total (nodes S n) (f x) + total (nodes S n) (g x)) l
       → total (nodes S n) l ≤ total (nodes S n) (flatMap f l) + total (nodes S n) (flatMap g l)
   unfolding flatMap All total
   nodes-flatMap n f g [] h = omega arith

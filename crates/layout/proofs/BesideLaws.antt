@@ -6,15 +6,16 @@ use mathlib.Core.List.{List}
 use mathlib.Core.Logic.{_⊎_, inl, inr, _≢_}
 use native.Mathlib.Omega.{arith}
 use native.Mathlib.Decide.{ℕ-discrete}
-use lib.ListN.{length, replicate, length-replicate}
+use lib.ListN.{length, take, drop, replicate, length-take, length-drop, length-replicate}
+use lib.Seq.{getD-take, getD-drop, ext-getD}
 use Rattle.tree.proofs.Booleans.{contrary}
-use Rattle.memory.specs.Layout.{partsOf, part, inUse, bitsSet, allZero, othersZero}
+use Rattle.memory.specs.Layout.{partsOf, rightLength, part, inUse, bitsSet, allZero, othersZero}
 use Rattle.memory.proofs.ReadingLaws.{unused-zero, zero-unused, zeros-zero}
+use Rattle.layout.specs.Beside.{Beside}
 use Rattle.layout.specs.Nodes.{PartIn}
 use Rattle.layout.specs.PartSet.{setPart, withoutBit, freed, UsedPart}
 use Rattle.layout.proofs.FreeLaws.{cleared-length, cleared-bits, cleared-others, cleared-head, cleared-part}
 use Rattle.layout.proofs.PartSetLaws.{set-length, set-part, set-others, set-head, set-in-use, set-bits}
-use Rattle.removal.specs.Parts.{Beside}
 
 -- a wider range
 pub beside-wider : (m : List ℕ) (lo′ lo k k′ : ℕ) (m′ : List ℕ) → lo′ ≤ lo → k ≤ k′ → Beside m lo k m′ → Beside m lo′ k′ m′
@@ -37,6 +38,21 @@ beside-then m lo k m₁ m₂ v w = record {
   parts = λ j o. w .parts j o ∙ v .parts j o;
   in-use = λ j h o. w .in-use j h o ∙ v .in-use j h o;
 }
+
+-- a memory of the same length is right too
+pub right-same : (m m′ : List ℕ) → length m′ ≡ length m → rightLength m ≡ true → rightLength m′ ≡ true
+unfolding rightLength
+right-same m m′ l r = rw l r
+
+-- the unused numbers of the first 64 are as they were
+pub head-same : (m : List ℕ) (k : ℕ) (m′ : List ℕ) → Beside m 0 k m′ → drop 10 (take 64 m′) ≡ drop 10 (take 64 m)
+head-same m k m′ v =
+    let l = v .same-length in
+    ext-getD 0 _ _ (simp (length-drop, length-take) (omega arith))
+    (λ x h.
+    let y : 10 + x < 64 = (let p = length-drop 10 (take 64 m′) in let q = length-take 64 m′ in omega arith) in
+    getD-drop 10 (take 64 m′) x 0 ∙ getD-take 64 m′ (10 + x) 0 y ∙ v .head (10 + x) (omega arith) y
+    ∙ sym (getD-drop 10 (take 64 m) x 0 ∙ getD-take 64 m (10 + x) 0 y))
 
 outside : (k j : ℕ) → (j < k) ⊎ (k < j) → j ≢ k
 outside k j (inl x) = λ e. absurd (omega arith)

@@ -1,8 +1,8 @@
--- `insert_call::build_on_path` meets its contract; the laws that it needs are in InsertLaws.
+-- `building::build_on_path` meets its contract; the laws that it needs are in InsertLaws.
 use Rattle.insertion.proofs.InsertLaws.{build-room}
 use borrow.Author.Needs.{needs}
-use Rattle.insertion.proofs.insert_call.build_on_path.Statement.{statement}
-use Rattle.insertion.proofs.insert_call.build_on_path.Tie as tie
+use Rattle.insertion.proofs.building.build_on_path.Statement.{statement}
+use Rattle.insertion.proofs.building.build_on_path.Tie as tie
 
 slice-aggregate-build : tie.Need-slice-aggregate-build
 slice-aggregate-build c = search needs
@@ -23,7 +23,7 @@ slice-aggregate-build-2 : tie.Need-slice-aggregate-build-2
 slice-aggregate-build-2 c = search needs
 
 build-requires-2 : tie.Need-build-requires-2
-build-requires-2 c κs = (search needs, search needs, search build-room)
+build-requires-2 c κs = (search needs, (search needs, search build-room))
 
 same-length-3 : tie.Need-same-length-3
 same-length-3 c = search needs

@@ -1,4 +1,4 @@
--- What a change below a node leaves as it was.
+-- What a change in the subtree of a node leaves as it was.
 use Prim.Native.Nat.{ℕ, _≤_, _<_}
 use mathlib.Core.List.{List}
 use mathlib.Core.Logic.{_⊎_}

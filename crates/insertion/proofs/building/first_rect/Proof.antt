@@ -1,8 +1,8 @@
--- `insert_call::first_rect` meets its contract.
+-- `building::first_rect` meets its contract.
 use borrow.Author.Needs.{needs}
 use Rattle.insertion.proofs.RootLaws.{first-in, first-is}
-use Rattle.insertion.proofs.insert_call.first_rect.Statement.{statement}
-use Rattle.insertion.proofs.insert_call.first_rect.Tie as tie
+use Rattle.insertion.proofs.building.first_rect.Statement.{statement}
+use Rattle.insertion.proofs.building.first_rect.Tie as tie
 
 part-at-requires : tie.Need-part-at-requires
 part-at-requires c κs = search needs

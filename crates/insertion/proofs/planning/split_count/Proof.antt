@@ -1,0 +1,64 @@
+-- `planning::split_count` meets its contract; its loop is in SplitCount.
+use borrow.Author.Needs.{needs}
+use Prim.Native.Nat.{_+_, _-_}
+use Rattle.insertion.proofs.PlanBounds.{count-part, count-in, count-next}
+use Rattle.insertion.proofs.SplitCount.{Counting, counting-start, counting-stop, counting-again, counting-end}
+use Rattle.insertion.proofs.planning.split_count.Statement.{statement}
+use Rattle.insertion.proofs.planning.split_count.Tie as tie
+
+abbrev Inv-loop : tie.InvT-loop
+Inv-loop m path level n₀ n = Counting level path m n
+
+abbrev μ-loop : tie.MeasureT-loop
+μ-loop m path level n₀ n = level + 1 - n
+
+loop-holds : tie.Need-loop-holds Inv-loop μ-loop
+loop-holds c = search counting-start
+
+cast-k : tie.Need-cast-k Inv-loop μ-loop
+cast-k c = search needs
+
+mul-k : tie.Need-mul-k Inv-loop μ-loop
+mul-k c = search needs
+
+mul-k-2 : tie.Need-mul-k-2 Inv-loop μ-loop
+mul-k-2 c = search needs
+
+shared-slice-read-k : tie.Need-shared-slice-read-k Inv-loop μ-loop
+shared-slice-read-k c = search count-part
+
+count-at-requires : tie.Need-count-at-requires Inv-loop μ-loop
+count-at-requires c κs = search count-in
+
+returns : tie.Need-returns Inv-loop μ-loop
+returns c = search counting-stop
+
+add-n : tie.Need-add-n Inv-loop μ-loop
+add-n c = search count-next
+
+loop-less : tie.Need-loop-less Inv-loop μ-loop
+loop-less c = search needs
+
+loop-again : tie.Need-loop-again Inv-loop μ-loop
+loop-again c = search counting-again
+
+returns-2 : tie.Need-returns-2 Inv-loop μ-loop
+returns-2 c = search counting-end
+
+pub split-count-spec : {M : Type 1} → statement M
+split-count-spec =
+    tie.close
+    (tie.spec
+    Inv-loop
+    μ-loop
+    loop-holds
+    cast-k
+    mul-k
+    mul-k-2
+    shared-slice-read-k
+    count-at-requires
+    returns
+    add-n
+    loop-less
+    loop-again
+    returns-2)
