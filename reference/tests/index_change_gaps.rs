@@ -132,10 +132,8 @@ fn tall_trees() {
         tally.add_all(&gaps.tally());
     }
     say(&format!("gaps, tall trees: {tally}"));
-    tally.require(
-        20,
-        &["among gaps, no split", "accepted, 100 or more levels grown"],
-    );
+    tally.require(20, &["among gaps, no split"]);
+    tally.require(5, &["accepted, 100 or more levels grown"]);
 }
 
 /// How many levels the insertion makes grow.

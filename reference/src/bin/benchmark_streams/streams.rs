@@ -31,6 +31,9 @@ pub fn streams(n: usize) -> Vec<Stream> {
     for shape in [Shape::Random, Shape::Sorted] {
         streams.push(full(n, shape));
     }
+    for shape in [Shape::Sorted, Shape::Row, Shape::Diagonal] {
+        streams.push(going_on(n, shape));
+    }
     streams.push(with_dear_call(n));
     streams
 }
@@ -79,6 +82,18 @@ fn full(n: usize, shape: Shape) -> Stream {
             .iter()
             .map(|&cell| Command::Insert(cell))
             .collect(),
+    }
+}
+
+/// The stream that filled an index goes on: from the first insertion that is refused with 8.
+fn going_on(n: usize, shape: Shape) -> Stream {
+    let filling = filling(n, shape);
+    let cells = shape.cells(n, &mut random_of(n, shape));
+    let next = cells[filling.commands.len()..].iter().take(2 * n);
+    Stream {
+        name: format!("{} goes on", shape.name()),
+        index: answers(&filling).1,
+        commands: next.map(|&cell| Command::Insert(cell)).collect(),
     }
 }
 
