@@ -51,7 +51,7 @@ use Rattle.insertion.specs.Planning.{GoodPath, FullLevels, PlanMade}
 use Rattle.insertion.specs.Insert.{Inserting, PathReady, PathPlanned, PathRefused, PathFound}
 use Rattle.insertion.proofs.DescentLaws.{items-are, same-drop, same-polygon}
 use Rattle.tree.proofs.Ways.{sound-way}
-use Rattle.tree.proofs.SplitNodes.{nodes-after}
+use Rattle.tree.proofs.Insert.{nodes-after}
 use Rattle.layout.specs.Nodes.{PartIn}
 use Rattle.insertion.proofs.PlanTree.{planned-insert}
 use Rattle.insertion.proofs.SplitCount.{split-often}
@@ -206,7 +206,8 @@ module _ (m : List ℕ) (c : Cell) (x : Tree (planeSpace fanout)) (reads : readi
         → (y : Tree (planeSpace fanout)) × (insertTree (planeSpace fanout) (planeRoot fanout) (some x) (entryOf c t) ≡ some y) × (n + nodeCount (planeSpace fanout) (some x) ≤ nodeCount (planeSpace fanout) (some y))
     more-nodes n f t =
         let s = split-often (x .level) path₂ m c n (r .plannable .path-is) f t in
-        let a = nodes-after (planeSpace fanout) laws steps (planeRoot fanout) x (entryOf c t) (wayAt (x .level) path₂ m (entryOf c t)) (way-ready t) fine-p grown-items (sound .count) has-p fresh in
+        let way = wayAt (x .level) path₂ m (entryOf c t) in
+        let a = nodes-after (planeSpace fanout) laws steps (planeRoot fanout) (plane-root-laws fanout) (omega arith) x (entryOf c t) way (way-ready t) sound grid new in
         (a .0, a .1, let b = a .2 in omega arith)
 
 -- the first rectangle of a part

@@ -7,7 +7,7 @@ use native.Mathlib.Omega.{arith}
 use native.Mathlib.Decide.{decLt, ℕ-discrete}
 use Rattle.geometry.specs.declared.rect.Cell.{Cell}
 use Rattle.tree.specs.Plan.{few}
-use Rattle.tree.proofs.SplitNodes.{splits}
+use Rattle.tree.proofs.NodesGrow.{splits}
 use Rattle.plane.specs.Lines.{CellEntry}
 use Rattle.plane.specs.Plane.{planeSpace}
 use Rattle.memory.specs.Fanout.{fanout}

@@ -65,8 +65,7 @@ pub record Linked (n : ℕ) (path m : List ℕ) : Type 0 where
   pub fine : (j : ℕ) → j ≤ n → planeSpace fanout .Fine (polygonOn path j)
 
 -- The descent came to the leaf: from each level on the path is that of the definition, down to the leaf with the new
--- entry, and no node is
--- split so far.
+-- entry, and no node is split so far.
 pub record Reached (n : ℕ) (path m : List ℕ) (c : Cell) (path' : List ℕ) : Type 0 where
   pub from : PathFrom n path' m
   pub linked : Linked n path' m

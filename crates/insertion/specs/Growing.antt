@@ -24,8 +24,7 @@ use Rattle.emission.specs.Path.{partOn, placeOn, polygonOn, rowAt, wayAt, PathF
 use Rattle.insertion.specs.Descent.{Linked}
 
 -- The items that the node on the path at a level gets: a leaf has the entry behind its others; of the branches of a
--- routing node the one
--- gone to changes.
+-- routing node the one gone to changes.
 unfoldable pub grownItems : (n : ℕ) → List ℕ → List ℕ → CellEntry → List (Item (planeSpace fanout) n)
 grownItems zero path m e = wayAt zero path m e
 grownItems (suc n) path m e =
@@ -65,8 +64,7 @@ pub record Growing (n : ℕ) (path m : List ℕ) : Type 0 where
   pub unused : othersZero m (partsOf m) ≡ true
 
 -- The node on the path at a level, which read as b with its subtree in the parts from lo on, reads as the definition
--- has it, with as many
--- nodes; m′ is as m beside its subtree.
+-- has it, with as many nodes; m′ is as m beside its subtree.
 pub record GrownNode (n : ℕ) (path m : List ℕ) (e : CellEntry) (m′ : List ℕ) (lo : ℕ) (b : Item (planeSpace fanout) (suc n)) : Type 0 where
   pub reads : readNode fanout n m′ lo (partOn path n) ≡ some (grownNode n path m e)
   pub as-many : nodes (planeSpace fanout) (suc n) (grownNode n path m e) ≡ nodes (planeSpace fanout) (suc n) b

@@ -14,7 +14,8 @@ use layout::replace_node;
 
 // Writes the entry and the polygon to the leaf on the path.
 fn grow_leaf(m: &mut [u32], path: &[u32], c: Cell, tag: u32)
-    requires { ⌜ LevelIn 0 (now path) (now m) × (countAt (now m) (partOn (now path) 0) < 8) ⌝ }
+    requires { ⌜ LevelIn 0 (now path) (now m) ⌝ }
+    requires { ⌜ countAt (now m) (partOn (now path) 0) < 8 ⌝ }
     ensures { λ _. ⌜ now (m .exit) ≡ leafGrown (now (path .entry)) (now (m .entry)) (entryOf c tag) ⌝ }
 {
     let k = path[0];

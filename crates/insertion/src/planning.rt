@@ -27,8 +27,7 @@ fn line_at(m: &[u32], path: &[u32], n: u32, level: u32, c: Cell) -> u32
 }
 
 // How many nodes on the path are split. From the leaf up, each that has eight items gets one more; a node with fewer
-// has room for the new
-// item, so none above it gets one.
+// has room for the new item, so none above it gets one.
 pub fn split_count(m: &[u32], path: &[u32], level: u32) -> u32
     requires { ⌜ PathFrom level (now path) (now m) ⌝ }
     ensures { λ n. ⌜ FullLevels level (now (path .entry)) (now (m .entry)) n ⌝ }

@@ -72,7 +72,8 @@ pub fn set_node(m: &mut [u32], k: u32, node: Node)
 
 // Writes a node with its polygon to its part of the index.
 pub fn replace_node(m: &mut [u32], k: u32, p: Polygon, node: Node)
-    requires { ⌜ PartIn (now m) k × (p .count ≤ 16) ⌝ }
+    requires { ⌜ PartIn (now m) k ⌝ }
+    requires { ⌜ p .count ≤ 16 ⌝ }
     ensures { λ _. ⌜ now (m .exit) ≡ setPart (now (m .entry)) k (nodePart (rectsOf p) (node .count) (node .items)) ⌝ }
 {
     let a = HEAD + PART * (k as usize);

@@ -1,10 +1,10 @@
 -- Insertion into the whole index: what is accepted is sound, has room, and holds the old entries and the new one.
 use Prim.Native.Nat.{ℕ, zero, suc, _+_, _≤_}
 use mathlib.Core.Bool.{Bool, true, false, cond}
-use mathlib.Core.Path.{_≡_, refl, sym, subst}
+use mathlib.Core.Path.{_≡_, refl, sym, subst, _∙_}
 use mathlib.Core.List.{List, [], _∷_, flatMap, append-nil}
 use mathlib.Core.Logic.{_⊎_, inl, inr}
-use mathlib.Core.Option.{Option, none, some}
+use mathlib.Core.Option.{Option, none, some, bind, Option·some-injective}
 use lib.Dec.{leb}
 use native.Mathlib.Omega.{arith}
 use borrow.Author.Tests.{leb-true}
@@ -15,6 +15,7 @@ use Rattle.tree.specs.Sound.{SoundItem, SoundItems}
 use Rattle.tree.specs.Root.{Root}
 use Rattle.tree.specs.Tree.{Tree, Index, entries, nodeCount, SoundTree, Sound, height}
 use Rattle.tree.specs.Insert.{insertAt, rooted, refused, accepted, limited, insertTree, insert}
+use Rattle.tree.specs.Plan.{Way, descend, build}
 use Rattle.tree.specs.Query.{ofCell, holds}
 use Rattle.tree.proofs.Lists.{all-map}
 use Rattle.tree.proofs.Laws.{Laws, Steps, RootLaws}
@@ -22,7 +23,8 @@ use Rattle.tree.proofs.Keeps.{Good, Shape, one, two, sound-wider}
 use Rattle.tree.proofs.InsertAt.{Fresh, insert-good}
 use Rattle.tree.proofs.Any.{bind-some, any-false}
 use Rattle.tree.proofs.InsertEntries.{insert-adds}
-use Rattle.tree.proofs.NodesGrow.{insert-nodes}
+use Rattle.tree.proofs.Emission.{insert-is}
+use Rattle.tree.proofs.NodesGrow.{splits, way-nodes}
 
 module _ (S : Space) where
   rooted-entries : (n : ℕ) (p : S .Poly) (got : List (Item S (suc n))) → entries S (some (rooted S n p got)) ≡ flatMap (held S (suc n)) got
@@ -31,7 +33,7 @@ module _ (S : Space) where
   rooted-entries n p (b ∷ []) = sym (append-nil (flatMap (held S n) (b .child)))
   rooted-entries n p (a ∷ b ∷ l) = refl
 
-  pub rooted-nodes : (n : ℕ) (p : S .Poly) (got : List (Item S (suc n))) → total (nodes S (suc n)) got ≤ nodeCount S (some (rooted S n p got))
+  rooted-nodes : (n : ℕ) (p : S .Poly) (got : List (Item S (suc n))) → total (nodes S (suc n)) got ≤ nodeCount S (some (rooted S n p got))
   unfolding total nodes
   rooted-nodes n p [] = omega arith
   rooted-nodes n p (b ∷ []) = omega arith
@@ -101,14 +103,33 @@ module _ (S : Space) where
         let b = below t e t′ h in
         rw (b .gives, rooted-entries (t .level) (R .growRoot (t .root) (e .cell)) (b .got)) (insert-adds S T (t .level) (R .growRoot (t .root) (e .cell)) (t .items) e (b .got) (b .inserted) q)
 
+    -- The tree after has the nodes of the tree before, and one more for each node on the way that is split, at least.
+    pub nodes-after : (t : Tree S) (e : EntryOf S) (w : Way S (t .level))
+        → descend S (t .level) (R .growRoot (t .root) (e .cell)) (t .items) e ≡ some w
+        → SoundTree S R t → S .Real (e .cell) → holds S (e .cell) (some t) ≡ false
+        → (t′ : Tree S) × (insertTree S R (some t) e ≡ some t′) × (splits S (t .level) w + nodeCount S (some t) ≤ nodeCount S (some t′))
+    nodes-after t e w h s on f =
+        let p = R .growRoot (t .root) (e .cell) in
+        let got = build S (t .level) p w in
+        let fine = X .grow-fine (t .root) (e .cell) on (s .fine) in
+        let has = X .grow-has (t .root) (e .cell) (s .one) in
+        let a = way-nodes S W T (t .level) p (t .items) e w h fine (grown-items t e s) (s .count) has (fresh (some t) e f) in
+        let b = rooted-nodes (t .level) p got in
+        let gives : insertTree S R (some t) e ≡ some (rooted S (t .level) p got) =
+        unfold insertTree bind in rw (insert-is S (t .level) p (t .items) e, h) in
+        (rooted S (t .level) p got, gives, unfold nodes in omega arith)
+
     -- Nodes do not fall.
     pub nodes-grow : (i : Index S) (e : EntryOf S) (t′ : Tree S) → insertTree S R i e ≡ some t′ → Sound S R i → S .Real (e .cell) → holds S (e .cell) i ≡ false → nodeCount S i ≤ nodeCount S (some t′)
     nodes-grow none e t′ h s on f = omega arith
     nodes-grow (some t) e t′ h s on f =
         let b = below t e t′ h in
-        let k = insert-nodes S W T (t .level) (R .growRoot (t .root) (e .cell)) (t .items) e (b .got) (b .inserted) (X .grow-fine (t .root) (e .cell) on (s .fine)) (grown-items t e s) (s .count) (X .grow-has (t .root) (e .cell) (s .one)) (fresh (some t) e f) in
-        let m = rooted-nodes (t .level) (R .growRoot (t .root) (e .cell)) (b .got) in
-        rw (b .gives) (omega arith)
+        let p = R .growRoot (t .root) (e .cell) in
+        let d = bind-some (descend S (t .level) p (t .items) e) _ (b .got) (sym (insert-is S (t .level) p (t .items) e) ∙ b .inserted) in
+        let a = nodes-after t e (d .0) (d .1) s on f in
+        let same : a .0 ≡ t′ = Option·some-injective (a .0) t′ (sym (a .1) ∙ h) in
+        let k = a .2 in
+        rw (← same) (omega arith)
 
     -- The height stays or rises by one.
     pub insert-height : (i : Index S) (e : EntryOf S) (t′ : Tree S) → insertTree S R i e ≡ some t′ → (height S (some t′) ≡ height S i) ⊎ (height S (some t′) ≡ suc (height S i))

@@ -35,4 +35,3 @@ pub mod Pass
 pub mod GoodWays
 pub mod Ways
 pub mod SplitGroups
-pub mod SplitNodes

@@ -3,14 +3,13 @@ use Prim.Native.Nat.{ℕ, zero, suc, _+_, _≤_}
 use mathlib.Core.Bool.{Bool, true, false, not, cond}
 use mathlib.Core.Path.{_≡_, refl}
 use mathlib.Core.List.{List, [], _∷_, flatMap}
-use lib.Dec.{leb}
 use lib.ListN.{length, length-append}
 use native.Mathlib.Omega.{arith}
 use Rattle.tree.specs.Lists.{total, All}
 use Rattle.tree.specs.Space.{Space, Side, left, right}
 use Rattle.tree.specs.Nodes.{EntryOf, Item, on, nodes}
 use Rattle.tree.specs.Sound.{SoundItem}
-use Rattle.tree.specs.Split.{branchIf, half, split, halves, lineOf}
+use Rattle.tree.specs.Split.{branchIf, half}
 use Rattle.tree.proofs.Counts.{flatMap-none, total-append}
 use Rattle.tree.proofs.Lists.{all-map, all-any, all-flatMap}
 
@@ -120,22 +119,3 @@ module _ (S : Space) where
       let c = h .count .0 in
       let d = nodes-if n (S .clip (left l) (b .poly)) (S .clip (right l) (b .poly)) (flatMap (half S n (left l)) (b .child)) (flatMap (half S n (right l)) (b .child)) (omega arith) in
       omega arith
-
-  -- a node with any number of items: its two halves have at least as many nodes
-  pub nodes-both : (n : ℕ) (l : S .Line) (p q : S .Poly) (items : List (Item S n)) → 1 ≤ length items → All (SoundItem S n p) items
-      → 1 + total (nodes S n) items ≤ total (nodes S (suc n)) (halves S n l (record { poly = q; child = items }))
-  unfolding half
-  nodes-both n l p q items o h =
-      let k = notEmpty-flatMap (half S n (left l)) (half S n (right l)) items (all-map (SoundItem S n p) (λ x. 1 ≤ length (half S n (left l) x) + length (half S n (right l) x)) items (half-notEmpty n l p) h) in
-      let i = nodes-flatMap n (half S n (left l)) (half S n (right l)) items (all-map (SoundItem S n p) (λ x. nodes S n x ≤ total (nodes S n) (half S n (left l) x) + total (nodes S n) (half S n (right l) x)) items (nodes-halves n l p) h) in
-      let d = nodes-if n (S .clip (left l) q) (S .clip (right l) q) (flatMap (half S n (left l)) items) (flatMap (half S n (right l)) items) (omega arith) in
-      rw (total-append (nodes S (suc n)) (branchIf S (S .clip (left l) q) (flatMap (half S n (left l)) items)) (branchIf S (S .clip (right l) q) (flatMap (half S n (right l)) items))) (omega arith)
-
-  -- what takes a node's place has at least as many nodes
-  pub nodes-split : (n : ℕ) (p : S .Poly) (items : List (Item S n)) → 1 ≤ length items → All (SoundItem S n p) items → 1 + total (nodes S n) items ≤ total (nodes S (suc n)) (split S n p items)
-  unfolding split
-  nodes-split n p items o h = go (leb (length items) (S .most))
-    where
-      go : (b : Bool) → 1 + total (nodes S n) items ≤ total (nodes S (suc n)) (cond b (record { poly = p; child = items } ∷ []) (halves S n (lineOf S n items) (record { poly = p; child = items })))
-      go true = unfold total nodes in omega arith
-      go false = nodes-both n (lineOf S n items) p p items o h

@@ -23,88 +23,9 @@ abbrev grow-path-below : ℕ → In 2 grow-path-kinds.ps
 grow-path-below t =
     and 2 grow-path-kinds.ps (falls 2 grow-path-kinds.ps _<_ μ-grow-path t) grow-path.Pre
 
-grow-path-grow-leaf-requires : (t : ℕ) → grow-path-lts.Need-grow-leaf-requires (
-  grow-leaf-reads.Asked,
-  grow-leaf-reads.Learnt,
-  grow-path-below t,
-  grow-path.Post,
-  grow-node-reads.Asked,
-  grow-node-reads.Learnt,
-) (grow-path-at t) grow-path.Post
-grow-path-grow-leaf-requires t c κs = (search grow-leaf-in, search grow-leaf-room)
-
-grow-path-same-length : (t : ℕ) → grow-path-lts.Need-same-length (
-  grow-leaf-reads.Asked,
-  grow-leaf-reads.Learnt,
-  grow-path-below t,
-  grow-path.Post,
-  grow-node-reads.Asked,
-  grow-node-reads.Learnt,
-) (grow-path-at t) grow-path.Post
-grow-path-same-length t c = search needs
-
-grow-path-returns : (t : ℕ) → grow-path-lts.Need-returns (
-  grow-leaf-reads.Asked,
-  grow-leaf-reads.Learnt,
-  grow-path-below t,
-  grow-path.Post,
-  grow-node-reads.Asked,
-  grow-node-reads.Learnt,
-) (grow-path-at t) grow-path.Post
-grow-path-returns t c = search grow-leaf-done
-
-grow-path-sub-grow-path : (t : ℕ) → grow-path-lts.Need-sub-grow-path (
-  grow-leaf-reads.Asked,
-  grow-leaf-reads.Learnt,
-  grow-path-below t,
-  grow-path.Post,
-  grow-node-reads.Asked,
-  grow-node-reads.Learnt,
-) (grow-path-at t) grow-path.Post
-grow-path-sub-grow-path t c = search needs
-
-grow-path-grow-path-requires : (t : ℕ) → grow-path-lts.Need-grow-path-requires (
-  grow-leaf-reads.Asked,
-  grow-leaf-reads.Learnt,
-  grow-path-below t,
-  grow-path.Post,
-  grow-node-reads.Asked,
-  grow-node-reads.Learnt,
-) (grow-path-at t) grow-path.Post
-grow-path-grow-path-requires t c κs = (omega arith, search grow-below)
-
-grow-path-grow-node-requires : (t : ℕ) → grow-path-lts.Need-grow-node-requires (
-  grow-leaf-reads.Asked,
-  grow-leaf-reads.Learnt,
-  grow-path-below t,
-  grow-path.Post,
-  grow-node-reads.Asked,
-  grow-node-reads.Learnt,
-) (grow-path-at t) grow-path.Post
-grow-path-grow-node-requires t c κs = search grow-level
-
-grow-path-same-length-2 : (t : ℕ) → grow-path-lts.Need-same-length-2 (
-  grow-leaf-reads.Asked,
-  grow-leaf-reads.Learnt,
-  grow-path-below t,
-  grow-path.Post,
-  grow-node-reads.Asked,
-  grow-node-reads.Learnt,
-) (grow-path-at t) grow-path.Post
-grow-path-same-length-2 t c = search needs
-
-grow-path-returns-2 : (t : ℕ) → grow-path-lts.Need-returns-2 (
-  grow-leaf-reads.Asked,
-  grow-leaf-reads.Learnt,
-  grow-path-below t,
-  grow-path.Post,
-  grow-node-reads.Asked,
-  grow-node-reads.Learnt,
-) (grow-path-at t) grow-path.Post
-grow-path-returns-2 t c = search grow-done
-
-pub +grow-path-spec : {M : Type 1} → statement M
-+grow-path-spec = close μ-grow-path λ t. grow-path-lts.spec (
+-- what the proof knows of the functions that `grow_path` calls, itself below t among them
+abbrev grow-path-claims : ℕ → grow-path-lts.Claims
+grow-path-claims t = (
   grow-leaf-reads.Asked,
   grow-leaf-reads.Learnt,
   grow-path-below t,
@@ -112,6 +33,33 @@ pub +grow-path-spec : {M : Type 1} → statement M
   grow-node-reads.Asked,
   grow-node-reads.Learnt,
 )
+
+grow-path-grow-leaf-requires : (t : ℕ) → grow-path-lts.Need-grow-leaf-requires (grow-path-claims t) (grow-path-at t) grow-path.Post
+grow-path-grow-leaf-requires t c κs = (search grow-leaf-in, search grow-leaf-room)
+
+grow-path-same-length : (t : ℕ) → grow-path-lts.Need-same-length (grow-path-claims t) (grow-path-at t) grow-path.Post
+grow-path-same-length t c = search needs
+
+grow-path-returns : (t : ℕ) → grow-path-lts.Need-returns (grow-path-claims t) (grow-path-at t) grow-path.Post
+grow-path-returns t c = search grow-leaf-done
+
+grow-path-sub-grow-path : (t : ℕ) → grow-path-lts.Need-sub-grow-path (grow-path-claims t) (grow-path-at t) grow-path.Post
+grow-path-sub-grow-path t c = search needs
+
+grow-path-grow-path-requires : (t : ℕ) → grow-path-lts.Need-grow-path-requires (grow-path-claims t) (grow-path-at t) grow-path.Post
+grow-path-grow-path-requires t c κs = (omega arith, search grow-below)
+
+grow-path-grow-node-requires : (t : ℕ) → grow-path-lts.Need-grow-node-requires (grow-path-claims t) (grow-path-at t) grow-path.Post
+grow-path-grow-node-requires t c κs = search grow-level
+
+grow-path-same-length-2 : (t : ℕ) → grow-path-lts.Need-same-length-2 (grow-path-claims t) (grow-path-at t) grow-path.Post
+grow-path-same-length-2 t c = search needs
+
+grow-path-returns-2 : (t : ℕ) → grow-path-lts.Need-returns-2 (grow-path-claims t) (grow-path-at t) grow-path.Post
+grow-path-returns-2 t c = search grow-done
+
+pub +grow-path-spec : {M : Type 1} → statement M
++grow-path-spec = close μ-grow-path λ t. grow-path-lts.spec (grow-path-claims t)
     (grow-path-at t)
     grow-path.Post
     (grow-path-grow-leaf-requires t)
