@@ -1,20 +1,20 @@
 -- A tree whose path has no line: no node is split, and the tree after is read from the memory in which the path was
 -- written in place.
 use Prim.Native.Nat.{ℕ, zero, suc, _+_, _≤_, _<_}
-use mathlib.Core.Path.{_≡_, sym, ap, _∙_, subst}
+use mathlib.Core.Path.{_≡_, sym, ap, _∙_}
 use mathlib.Core.Bool.{true}
 use mathlib.Core.List.{List, [], flatMap}
 use mathlib.Core.Option.{some}
 use native.Mathlib.Omega.{arith}
 use native.Mathlib.Nat.{le-refl}
-use borrow.Author.Tests.{leb-true, eq-eqb}
+use borrow.Author.Tests.{eq-eqb}
 use lib.Dec.{eqb}
-use lib.ListN.{length, take, drop}
+use lib.ListN.{take, drop}
 use lib.Seq.{set-split}
 use Rattle.geometry.specs.declared.rect.Cell.{Cell}
 use Rattle.tree.specs.Nodes.{Item, nodes}
 use Rattle.tree.specs.Pass.{deep}
-use Rattle.tree.specs.Plan.{row, few, under}
+use Rattle.tree.specs.Plan.{under}
 use Rattle.tree.specs.Tree.{Tree, top, nodeCount, SoundTree}
 use Rattle.tree.proofs.Pass.{under-deep}
 use Rattle.plane.specs.Lines.{CellEntry}
@@ -30,7 +30,6 @@ use Rattle.emission.specs.Path.{partOn, placeOn, lineOn, polygonOn, rowAt, wayA
 use Rattle.emission.proofs.RowLaws.{row-count}
 use Rattle.insertion.specs.Growing.{grownItems, grownTree, Growing, GrownNode, Grown}
 use Rattle.insertion.specs.Insert.{PathPlanned}
-use Rattle.insertion.proofs.PlanLoop.{leaf-length, few-is, all-few}
 
 -- without sides all items are left
 all-left : (n : ℕ) (l : List (Item (planeSpace fanout) n)) → flatMap (deep (planeSpace fanout) n []) l ≡ l
@@ -51,39 +50,22 @@ row-grown (suc n) path m e f h =
     let s = set-split l i (record { poly = polygonOn path n; child = grownItems n path m e }) (omega arith) in
     rw (h n (omega arith), row-grown n path m e (f .2) (λ j k. h j (omega arith)), all-left (suc n) (take i l), all-left (suc n) (drop (i + 1) l), s, q)
 
-module _ (m : List ℕ) (c : Cell) (level : ℕ) (path : List ℕ) (p : PathPlanned m level c path) (z : lineOn path 0 ≡ 0) where
-  leaf-few : (t : ℕ) → few (planeSpace fanout) 0 (wayAt 0 path m (entryOf c t)) ≡ true
-  leaf-few t = sym (p .planned .each 0 (omega arith) t .split) ∙ eq-eqb (lineOn path 0) 0 z
+-- where no node on the path has a line, the tree that is planned is the grown one
+pub tree-grown : (m : List ℕ) (level : ℕ) (path : List ℕ) (e : CellEntry) → PathFrom level path m
+    → ((j : ℕ) → j ≤ level → lineOn path j ≡ 0)
+    → plannedTree level path m e ≡ grownTree level path m e
+unfolding plannedTree
+tree-grown m level path e from u =
+    let line : (j : ℕ) → j ≤ level → eqb (lineOn path j) 0 ≡ true = λ j h. eq-eqb (lineOn path j) 0 (u j h) in
+    rw (line level (le-refl level), row-grown level path m e from (λ j h. line j (omega arith)))
 
-  -- no node has a line
-  no-line : (j : ℕ) → j ≤ level → eqb (lineOn path j) 0 ≡ true
-  no-line j h =
-      let o : 0 + j ≤ level = omega arith in
-      let q : 0 + j ≡ j = omega arith in
-      p .planned .each j h 0 .split
-      ∙ subst (λ (i : ℕ). few (planeSpace fanout) i (wayAt i path m (entryOf c 0)) ≡ true) q (all-few level path m c (p .good) 0 j 0 (leaf-few 0) o)
-
-  -- the leaf has room
-  pub leaf-room : countAt m (partOn path 0) < 8
-  leaf-room =
-      let l = leaf-length level path m c (p .good) 0 in
-      let f : length (row (planeSpace fanout) 0 (wayAt 0 path m (entryOf c 0))) ≤ fanout =
-      leb-true _ fanout (sym (few-is level path m c (p .good) 0 0) ∙ leaf-few 0) in
-      omega arith
-
-  pub tree-grown : (t : ℕ) → plannedTree level path m (entryOf c t) ≡ grownTree level path m (entryOf c t)
-  unfolding plannedTree
-  tree-grown t =
-      rw (no-line level (le-refl level), row-grown level path m (entryOf c t) (p .from) (λ j h. no-line j (omega arith)))
-
-module _ (m : List ℕ) (c : Cell) (x : Tree (planeSpace fanout)) (reads : reading fanout m ≡ some (some x)) (path : List ℕ) (p : PathPlanned m (x .level) c path) (z : lineOn path 0 ≡ 0) where
+module _ (m : List ℕ) (c : Cell) (x : Tree (planeSpace fanout)) (reads : reading fanout m ≡ some (some x)) (path : List ℕ) (p : PathPlanned m (x .level) c path) where
   read : ReadAs fanout m x
   read = read-as fanout m x reads
 
   -- the path can be written in place
-  pub path-growing : Growing (x .level) path m
-  path-growing =
-      record { from = p .from; linked = p .good .linked; leaf = leaf-room m c (x .level) path p z; unused = read .others-zero }
+  pub path-growing : countAt m (partOn path 0) < 8 → Growing (x .level) path m
+  path-growing h = record { from = p .good .from; linked = p .good .linked; leaf = h; unused = read .others-zero }
 
   -- it was
   module _ (t : ℕ) (m′ : List ℕ) (g : Grown (x .level) path m (entryOf c t) m′) where

@@ -38,17 +38,19 @@ use Rattle.index.specs.Walks.{Walkable}
 use Rattle.index.proofs.TreeWalk.{tree-walkable}
 use Rattle.emission.specs.declared.whole.Emitted.{Emitted}
 use Rattle.emission.specs.Emits.{countLimit}
-use Rattle.emission.specs.Path.{lineOn, PathFrom, plannedTree}
+use Rattle.emission.specs.Path.{partOn, lineOn, PathFrom, plannedTree}
 use Rattle.emission.specs.Whole.{TreeRoom, TreeEmitted}
 use Rattle.index.specs.Count.{entriesAt}
 use Rattle.index.specs.Held.{heldRead}
 use Rattle.index.proofs.CountWalk.{held-few, tree-held}
+use Rattle.layout.specs.Nodes.{countAt}
 use Rattle.layout.specs.Writing.{written}
 use Rattle.insertion.specs.Planning.{Plannable, FullLevels, PlanMade}
 use Rattle.insertion.specs.Insert.{Inserting, PathReady, PathPlanned, PathRefused, PathFound, Built, BuiltInPlace}
 use Rattle.layout.proofs.WritingLaws.{written-image}
 use Rattle.insertion.specs.Growing.{grownTree, Growing, Grown}
 use Rattle.insertion.proofs.PlanLoop.{plan-start, plan-end}
+use Rattle.insertion.proofs.SplitCount.{none-split}
 use Rattle.insertion.proofs.RootLaws.{ready-planned, ready-more}
 use Rattle.insertion.proofs.GrowTree.{tree-grown, path-growing, nodes-grown, reads-grown}
 
@@ -226,23 +228,23 @@ module _ (m : List ℕ) (level root : ℕ) (c : Cell) (t : ℕ) (v : Inserting m
             (ap length im ∙ image-length fanout N y (omega arith) (sound-x .some-parts) few c-le tested ∙ sym i) (z .same-length) b
 
     -- no node is split, and the path was written in place
-    module _ (z : lineOn path 0 ≡ 0) where
+    module _ (u : (j : ℕ) → j ≤ level → lineOn path j ≡ 0) where
       planned-x : PathPlanned m (x .level) c path
       planned-x = subst (λ (i : ℕ). PathPlanned m i c path) (sym (v .tree-in .level-is)) p
 
-      pub grow-path : Growing level path m
-      grow-path = subst (λ (i : ℕ). Growing i path m) (v .tree-in .level-is) (path-growing m c x reads path planned-x z)
+      pub grow-path : countAt m (partOn path 0) < 8 → Growing level path m
+      grow-path h = subst (λ (i : ℕ). Growing i path m) (v .tree-in .level-is) (path-growing m c x reads path planned-x h)
 
       y-grown : y ≡ grownTree (x .level) path m e
-      y-grown = ap (λ (i : ℕ). plannedTree i path m e) (sym (v .tree-in .level-is)) ∙ tree-grown m c (x .level) path planned-x z t
+      y-grown = tree-grown m level path e (p .good .from) u ∙ ap (λ (i : ℕ). grownTree i path m e) (sym (v .tree-in .level-is))
 
       pub built-grown : (w m′ : List ℕ) (n : ℕ) → Grown level path m e m′ → n ≡ length (entries (planeSpace fanout) (some x)) → Built m w e m′ w (I.Accepted (n + 1))
       built-grown w m′ n g b =
           let g′ : Grown (x .level) path m e m′ = subst (λ (i : ℕ). Grown i path m e m′) (sym (v .tree-in .level-is)) g in
           let sound = subst (λ (u : Tree (planeSpace fanout)). SoundTree (planeSpace fanout) (planeRoot fanout) u) y-grown sound-y in
-          let c-is : count ≡ nodeCount (planeSpace fanout) (some x) = ap (λ (u : Tree (planeSpace fanout)). nodeCount (planeSpace fanout) (some u)) y-grown ∙ nodes-grown m c x reads path planned-x z t m′ g′ in
+          let c-is : count ≡ nodeCount (planeSpace fanout) (some x) = ap (λ (u : Tree (planeSpace fanout)). nodeCount (planeSpace fanout) (some u)) y-grown ∙ nodes-grown m c x reads path planned-x t m′ g′ in
           let f : nodeCount (planeSpace fanout) (some x) ≤ N = unfold nodes in sound-x .fits in
-          built-accepted w m′ w n (omega arith) (reads-grown m c x reads path planned-x z t m′ g′ sound ∙ ap (λ (u : Tree (planeSpace fanout)). some (some u)) (sym y-grown)) (g .same-length) refl b
+          built-accepted w m′ w n (omega arith) (reads-grown m c x reads path planned-x t m′ g′ sound ∙ ap (λ (u : Tree (planeSpace fanout)). some (some u)) (sym y-grown)) (g .same-length) refl b
 
 -- in place, for the work area that there is
 pub built-in-place : (m w : List ℕ) (e : CellEntry) (m′ : List ℕ) (r : Inserted) → BuiltInPlace m e m′ r → Built m w e m′ w r
@@ -294,18 +296,18 @@ module _ (m : List ℕ) (level root : ℕ) (c : Cell) (v : Inserting m level roo
         none-planned : PathPlanned m level c path
         none-planned = build-planned path (plan-end level path m n c 0 path (plan-start level path m n c (r .plannable) f) (omega arith))
 
-        no-line : lineOn path 0 ≡ 0
-        no-line = r .plannable .unsplit 0 (omega arith)
+        leaf-room : countAt m (partOn path 0) < 8
+        leaf-room = none-split level path m n f z .next (omega arith)
 
         pub build-growing : Growing level path m
-        build-growing = grow-path m level root c 0 v path none-planned no-line
+        build-growing = grow-path m level root c 0 v path none-planned (r .plannable .unsplit) leaf-room
 
         pub build-grown : (t : ℕ) (m′ : List ℕ) (x : ℕ) → Grown level path m (entryOf c t) m′ → x ≡ length (entriesAt level m 0 root) → BuiltInPlace m (entryOf c t) m′ (I.Accepted (x + 1))
-        build-grown t m′ x g e w = built-grown m level root c t v path none-planned no-line w m′ x g (e ∙ held-is)
+        build-grown t m′ x g e w = built-grown m level root c t v path none-planned (r .plannable .unsplit) w m′ x g (e ∙ held-is)
 
   module _ (path : List ℕ) (p : PathPlanned m level c path) where
     pub build-path : PathFrom level path m
-    build-path = p .from
+    build-path = p .good .from
 
     -- anew
     module _ (t k : ℕ) (q : k ≡ min countLimit (nodeCount (planeSpace fanout) (some (plannedTree level path m (entryOf c t))))) where

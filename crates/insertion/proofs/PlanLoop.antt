@@ -35,7 +35,7 @@ module _ (level : ℕ) (path m : List ℕ) (c : Cell) (g : GoodPath level path m
   abbrev rowAt-length : ℕ → ℕ → ℕ
   rowAt-length n t = length (row (planeSpace fanout) n (wayAt n path m (entryOf c t)))
 
-  pub leaf-length : (t : ℕ) → rowAt-length 0 t ≡ countAt m (partOn path 0) + 1
+  leaf-length : (t : ℕ) → rowAt-length 0 t ≡ countAt m (partOn path 0) + 1
   unfolding row wayAt
   leaf-length t =
       let k = partOn path 0 in
@@ -43,7 +43,7 @@ module _ (level : ℕ) (path m : List ℕ) (c : Cell) (g : GoodPath level path m
       let b = entries-length (part m k) (itemCount (part m k)) in
       omega arith
 
-  pub few-is : (n t : ℕ) → few (planeSpace fanout) n (wayAt n path m (entryOf c t)) ≡ leb (rowAt-length n t) fanout
+  few-is : (n t : ℕ) → few (planeSpace fanout) n (wayAt n path m (entryOf c t)) ≡ leb (rowAt-length n t) fanout
   few-is n t = few-row (planeSpace fanout) n (wayAt n path m (entryOf c t))
 
   node-length : (n : ℕ) → suc n ≤ level → (t : ℕ)
@@ -73,7 +73,7 @@ module _ (level : ℕ) (path m : List ℕ) (c : Cell) (g : GoodPath level path m
       let d = walk-at (suc n) h .few in
       few-is (suc n) t ∙ le-leb (rowAt-length (suc n) t) fanout (omega arith)
 
-  pub all-few : (n j t : ℕ) → few (planeSpace fanout) n (wayAt n path m (entryOf c t)) ≡ true → n + j ≤ level → few (planeSpace fanout) (n + j) (wayAt (n + j) path m (entryOf c t)) ≡ true
+  all-few : (n j t : ℕ) → few (planeSpace fanout) n (wayAt n path m (entryOf c t)) ≡ true → n + j ≤ level → few (planeSpace fanout) (n + j) (wayAt (n + j) path m (entryOf c t)) ≡ true
   all-few n zero t f h = subst (λ (i : ℕ). few (planeSpace fanout) i (wayAt i path m (entryOf c t)) ≡ true) (let e : n ≡ n + zero = omega arith in e) f
   all-few n (suc j) t f h =
       subst (λ (i : ℕ). few (planeSpace fanout) i (wayAt i path m (entryOf c t)) ≡ true) (let e : suc (n + j) ≡ n + suc j = omega arith in e)

@@ -183,9 +183,7 @@ module _ (m : List ℕ) (c : Cell) (x : Tree (planeSpace fanout)) (reads : readi
     module _ (path₃ : List ℕ) (made : PlanMade (x .level) path₂ m c path₃) where
       planned : PathPlanned m (x .level) c path₃
       planned = record {
-        from = made .path-is .from;
         good = made .path-is;
-        planned = made .planned;
         top = made .part ∙ r .top;
         after = λ y h t.
             let same : some x ≡ some y = Option·some-injective (some x) (some y) (sym reads ∙ h) in

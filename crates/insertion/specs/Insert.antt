@@ -18,9 +18,9 @@ use Rattle.index.specs.declared.answer.Inserted.{Inserted}
 use Rattle.index.specs.Answers.{insertRead}
 use Rattle.index.specs.Changes.{entryOf, InsertMemory, workAfter}
 use Rattle.index.specs.Open.{TreeIn}
-use Rattle.emission.specs.Path.{partOn, polygonOn, PathFrom, plannedTree}
+use Rattle.emission.specs.Path.{partOn, polygonOn, plannedTree}
 use Rattle.index.specs.Held.{heldRead}
-use Rattle.insertion.specs.Planning.{GoodPath, Plannable, Planned}
+use Rattle.insertion.specs.Planning.{GoodPath, Plannable}
 
 -- The memory reads as a tree that does not hold the cell, which is on the grid.
 pub record Inserting (m : List ℕ) (level root : ℕ) (c : Cell) : Type 0 where
@@ -38,9 +38,7 @@ pub record PathReady (m : List ℕ) (level : ℕ) (c : Cell) (path : List ℕ) :
 
 -- the path and its plan give the tree after
 pub record PathPlanned (m : List ℕ) (level : ℕ) (c : Cell) (path : List ℕ) : Type 0 where
-  pub from : PathFrom level path m
   pub good : GoodPath level path m c
-  pub planned : Planned level path m c
   pub top : partOn path level ≡ rootIn m
   pub after : (x : Tree (planeSpace fanout)) → reading fanout m ≡ some (some x) → (t : ℕ)
       → insertTree (planeSpace fanout) (planeRoot fanout) (some x) (entryOf c t) ≡ some (plannedTree level path m (entryOf c t))
