@@ -13,6 +13,7 @@ use Rattle.geometry.specs.Cells.{onGrid, valid}
 use Rattle.tree.specs.Tree.{Index, entries}
 use Rattle.tree.specs.Insert.{Outcome, refused, accepted}
 use Rattle.tree.specs.Query.{entryAt, visits, matches, windowVisits}
+use Rattle.tree.specs.Nearest.{nearest, walk}
 use Rattle.tree.specs.Calls.{insertion, removal}
 use Rattle.plane.specs.Lines.{CellEntry}
 use Rattle.plane.specs.Plane.{planeSpace, planeRoot}
@@ -31,6 +32,8 @@ use Rattle.index.specs.declared.answer.PointFound.{PointFound}
 use Rattle.index.specs.declared.answer.PointFound.the-variants as P
 use Rattle.index.specs.declared.answer.WindowFound.{WindowFound}
 use Rattle.index.specs.declared.answer.WindowFound.the-variants as W
+use Rattle.index.specs.declared.answer.NearestFound.{NearestFound}
+use Rattle.index.specs.declared.answer.NearestFound.the-variants as N
 
 -- an index of document 01's trees
 abbrev pub PlaneIndex : Type 0
@@ -110,3 +113,17 @@ windowWritten w (some i) list =
 
 unfoldable pub windowList : List ℕ → Rect → List ℕ → List ℕ
 windowList m w list = cond (rightLength m) (cond (valid w) (windowWritten w (reading fanout m) list) list) list
+
+-- 'The answer is the entry, the squared distance and the number of nodes entered.' '10, nothing is held'
+unfoldable pub nearestEnd : Cell → Option CellEntry → ℕ → NearestFound
+nearestEnd c none v = N.NothingHeld
+nearestEnd c (some e) v = N.Found (e .cell .x) (e .cell .y) (e .tag) (planeSpace fanout .distance c (e .cell)) v
+
+-- the entry by a look at all of them, the nodes entered by the walk
+unfoldable pub nearestRead : Cell → Option PlaneIndex → NearestFound
+nearestRead c none = N.NoTree
+nearestRead c (some i) = nearestEnd c (nearest (planeSpace fanout) c i) (walk (planeSpace fanout) c i .entered)
+
+-- nearest query: the index and the cell. Tests 1, 3, 4, 10
+unfoldable pub nearestAnswer : List ℕ → Cell → NearestFound
+nearestAnswer m c = cond (rightLength m) (cond (onGrid c) (nearestRead c (reading fanout m)) N.OffGrid) N.WrongLength

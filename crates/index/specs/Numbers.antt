@@ -12,6 +12,8 @@ use Rattle.index.specs.declared.answer.PointFound.{PointFound}
 use Rattle.index.specs.declared.answer.PointFound.the-variants as P
 use Rattle.index.specs.declared.answer.WindowFound.{WindowFound}
 use Rattle.index.specs.declared.answer.WindowFound.the-variants as W
+use Rattle.index.specs.declared.answer.NearestFound.{NearestFound}
+use Rattle.index.specs.declared.answer.NearestFound.the-variants as N
 
 -- a number of the table, and the values returned with it
 pub record Told : Type 0 where
@@ -61,3 +63,11 @@ windowTold W.WrongLength = refusal 1
 windowTold W.BadWindow = refusal 3
 windowTold W.NoTree = refusal 4
 windowTold (W.ShortList matches) = record { number = 9; values = matches ∷ [] }
+
+-- 'The answer is the entry, the squared distance and the number of nodes entered'; '10, nothing is held'
+abbrev pub nearestTold : NearestFound → Told
+nearestTold (N.Found x y tag distance visits) = accepts (x ∷ y ∷ tag ∷ distance ∷ visits ∷ [])
+nearestTold N.WrongLength = refusal 1
+nearestTold N.OffGrid = refusal 3
+nearestTold N.NoTree = refusal 4
+nearestTold N.NothingHeld = refusal 10

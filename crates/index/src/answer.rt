@@ -44,3 +44,18 @@ pub enum WindowFound {
     // the list is shorter than three numbers a match
     ShortList { matches: u32 },
 }
+
+pub enum NearestFound {
+    // the nearest entry, its squared distance, the nodes entered
+    Found {
+        x: u32,
+        y: u32,
+        tag: u32,
+        distance: u64,
+        visits: u32,
+    },
+    WrongLength,
+    OffGrid,
+    NoTree,
+    NothingHeld,
+}

@@ -12,6 +12,7 @@ mod window_query;
 
 pub use answer::Cleared;
 pub use answer::Inserted;
+pub use answer::NearestFound;
 pub use answer::PointFound;
 pub use answer::Removed;
 pub use answer::WindowFound;

@@ -11,7 +11,8 @@ use native.Mathlib.Decide.{decLe}
 use borrow.Author.Tests.{le-leb, lt-leb, leb-true, leb-false, ltb-true, ltb-false, eq-eqb, ne-eqb}
 use Rattle.tree.specs.Lists.{keep, All}
 use Rattle.tree.proofs.Lists.{all-map, all-any}
-use Rattle.tree.specs.Search.{first, least, Focus, pushed}
+use Rattle.polygons.specs.Lists.{least}
+use Rattle.tree.specs.Search.{first, Focus, pushed}
 use Rattle.plane.specs.Best.{focused, best, scan}
 
 module _ {A : Type 0} (f : A → ℕ) where

@@ -10,7 +10,7 @@ use native.Mathlib.Decide.{decLe}
 use Rattle.geometry.specs.declared.rect.Line.{Line}
 use Rattle.tree.specs.Lists.{All, keep}
 use Rattle.tree.proofs.Lists.{all-any, all-map}
-use Rattle.tree.specs.Search.{least}
+use Rattle.polygons.specs.Lists.{least}
 use Rattle.plane.specs.Best.{best}
 use Rattle.plane.specs.Lines.{CellEntry, holdsOn, fits, onBoth, lines, lineOr, nodeLine}
 use Rattle.plane.specs.Candidates.{Extent, extents, extentOn, rank, key, candidates, bestCandidate}

@@ -1,20 +1,16 @@
 -- The extent of a group as code collects it: entry by entry, or from parts.
-use Prim.Native.Nat.{ℕ, _≤_, min, max}
+use Prim.Native.Nat.{ℕ, _≤_, max}
 use mathlib.Core.Path.{_≡_, refl, _∙_}
 use mathlib.Core.List.{List, [], _∷_, _++_}
 use lib.ListN.{length}
 use native.Mathlib.Omega.{arith}
-use Rattle.tree.specs.Search.{least}
+use Rattle.polygons.specs.Lists.{least}
+use Rattle.polygons.proofs.LeastLaws.{least-append}
 use Rattle.plane.specs.Best.{greatest}
 use Rattle.plane.specs.Lines.{CellEntry, xOf, yOf}
 use Rattle.plane.specs.Candidates.{extentOf, cellExtent, joinExtents}
 
 module _ {A : Type 0} (f : A → ℕ) (b : A) (m : List A) where
-  least-append : (a : A) (l : List A) → least f ((a ∷ l) ++ (b ∷ m)) ≡ min (least f (a ∷ l)) (least f (b ∷ m))
-  unfolding least
-  least-append a [] = refl
-  least-append a (c ∷ l) = let i = least-append c l in omega arith
-
   greatest-append : (a : A) (l : List A) → greatest f ((a ∷ l) ++ (b ∷ m)) ≡ max (greatest f (a ∷ l)) (greatest f (b ∷ m))
   unfolding greatest
   greatest-append a [] = refl

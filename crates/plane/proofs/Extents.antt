@@ -14,7 +14,7 @@ use Rattle.tree.specs.Lists.{keep, notEmpty, All}
 use Rattle.tree.specs.Space.{Side, left, right}
 use Rattle.tree.specs.Pass.{Bag, Alike}
 use Rattle.tree.proofs.Lists.{all-map}
-use Rattle.tree.specs.Search.{least}
+use Rattle.polygons.specs.Lists.{least}
 use Rattle.plane.specs.Best.{greatest}
 use Rattle.plane.specs.Lines.{CellEntry, xOf, yOf, holdsOn, fits, onBoth, nodeLine}
 use Rattle.plane.specs.Candidates.{extentOf, extents, extentOn}

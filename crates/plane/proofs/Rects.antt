@@ -23,6 +23,7 @@ use Rattle.geometry.proofs.GrowLaws.{grow-has, grow-contains}
 use Rattle.geometry.proofs.CutLaws.{cut-cells}
 use Rattle.geometry.proofs.RefineLaws.{refine-cells, refine-length, refine-valid}
 use Rattle.geometry.proofs.ClipLaws.{side-cells, clip-valid}
+use Rattle.distance.proofs.DistanceLaws.{rect-least, rect-attained}
 use Rattle.tree.specs.Lists.{All}
 use Rattle.tree.specs.Space.{Side, left, right}
 use Rattle.tree.specs.Nodes.{on}
@@ -95,6 +96,8 @@ plane-laws fanout = record {
   same-self = λ c. both _ _ (eq-eqb (c .x) (c .x) refl) (eq-eqb (c .y) (c .y) refl);
   grow-cell = grow-has;
   grow-old = λ r c d h. within-cells r (grown r c) d (grow-contains r c) h;
+  distance-low = rect-least;
+  distance-met = rect-attained;
 }
 
 -- the laws of the tree's space

@@ -4,7 +4,7 @@ use mathlib.Core.Path.{_≡_, refl}
 use mathlib.Core.List.{[], _∷_, flatMap}
 use mathlib.Core.Option.{some, bind}
 use Rattle.polygons.specs.Limits.{atMost}
-use Rattle.polygons.specs.Lists.{any}
+use Rattle.polygons.specs.Lists.{any, least}
 use Rattle.geometry.specs.Cells.{hasCell, nonEmpty, area}
 use Rattle.geometry.specs.Common.{overlap, unlessEmpty, common}
 use Rattle.geometry.specs.Grow.{grown, extraArea}
@@ -17,7 +17,7 @@ use Rattle.tree.specs.Split.{half, split}
 use Rattle.tree.specs.Insert.{insertAt, insertTree}
 use Rattle.tree.specs.Tree.{Tree}
 use Rattle.tree.specs.Boxes.{anyHas}
-use Rattle.tree.specs.Search.{first, least}
+use Rattle.tree.specs.Search.{first}
 use Rattle.polygons.specs.Rules.{cutEach}
 use Rattle.tree.specs.Step2.{choose, grownPoly}
 use Rattle.plane.specs.Lines.{CellEntry, leafLine}

@@ -8,7 +8,7 @@ use Rattle.geometry.specs.Cells.{onGrid}
 use Rattle.geometry.specs.Clip.{below}
 use Rattle.geometry.proofs.Cases.{cell}
 use Rattle.tree.specs.Lists.{keep, All}
-use Rattle.tree.specs.Search.{least}
+use Rattle.polygons.specs.Lists.{least}
 use Rattle.plane.specs.Best.{greatest, scan}
 use Rattle.plane.specs.Lines.{CellEntry, holdsOn, nodeLine}
 use Rattle.plane.specs.Candidates.{extentOf, extents, candidates, bestCandidate, tried, leastKey, rankLine, keyLine}

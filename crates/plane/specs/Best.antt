@@ -5,7 +5,8 @@ use mathlib.Core.Bool.{Bool, cond}
 use mathlib.Core.List.{List, [], _∷_}
 use mathlib.Core.Option.{Option, none, some}
 use lib.Dec.{ltb, eqb}
-use Rattle.tree.specs.Search.{first, least, Focus}
+use Rattle.polygons.specs.Lists.{least}
+use Rattle.tree.specs.Search.{first, Focus}
 
 -- the greatest number that the elements give; 0 of none
 unfoldable pub greatest : {A : Type 0} → (A → ℕ) → List A → ℕ

@@ -8,7 +8,7 @@ use Rattle.geometry.specs.declared.rect.Cell.{Cell}
 use Rattle.geometry.specs.declared.rect.Line.{Line}
 use Rattle.geometry.specs.declared.rect.Line.the-variants.{AtX, AtY}
 use Rattle.tree.specs.Space.{Side, left, right}
-use Rattle.tree.specs.Search.{least}
+use Rattle.polygons.specs.Lists.{least}
 use Rattle.plane.specs.Best.{greatest, scan}
 use Rattle.plane.specs.Lines.{CellEntry, xOf, yOf, fits, onBoth, lineOr}
 

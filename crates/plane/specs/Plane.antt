@@ -16,11 +16,12 @@ use Rattle.geometry.specs.Grow.{grown, extraArea}
 use Rattle.geometry.specs.Cut.{cut}
 use Rattle.geometry.specs.Refine.{refine}
 use Rattle.geometry.specs.Clip.{below, clipRect}
+use Rattle.distance.specs.Distance.{squared, rectDistance}
 use Rattle.tree.specs.Space.{Space, Side, left, right}
 use Rattle.tree.specs.Root.{Root}
 use Rattle.tree.specs.Boxes.{Boxes}
 use Rattle.tree.specs.BoxSpace.{spaceOf, rootOf}
-use Rattle.plane.specs.Lines.{leafLine, nodeLine}
+use Rattle.plane.specs.Lines.{xOf, yOf, leafLine, nodeLine}
 
 -- the tree's side of a line as the geometry's
 abbrev pub rectSide : Side Line → RectSide
@@ -50,6 +51,9 @@ plane fanout = record {
   refine = refine;
   leafLine = leafLine;
   nodeLine = nodeLine fanout;
+  distance = squared;
+  minDistance = rectDistance;
+  ties = λ e. xOf e ∷ yOf e ∷ [];
   most = fanout;
 }
 

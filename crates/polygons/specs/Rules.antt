@@ -1,11 +1,12 @@
 -- The rules of lists of rectangles, over any rectangles: they look at a rectangle only through its own rules, which are their first argument.
 -- The geometry's rules and the tree's are both instances of these.
 -- docs/RULES.md 2.6, 2.13, 2.14, 4.5, 4.6, 4.9, 4.15
+use Prim.Native.Nat.{ℕ}
 use mathlib.Core.Bool.{Bool}
 use mathlib.Core.List.{List, [], _∷_, flatMap}
 use mathlib.Core.Option.{Option, some, bind}
 use Rattle.polygons.specs.Limits.{mostPieces, atMost}
-use Rattle.polygons.specs.Lists.{any}
+use Rattle.polygons.specs.Lists.{any, least}
 
 -- 'its cells are their union': some rectangle of the list has the cell
 abbrev pub unionHas : {A C : Type 0} → (A → C → Bool) → List A → C → Bool
@@ -35,3 +36,7 @@ clipEach clip p = flatMap clip p
 -- 'and refines them'
 abbrev pub clipRefine : {A : Type 0} → (A → List A) → (List A → List A) → List A → List A
 clipRefine clip refine p = refine (clipEach clip p)
+
+-- 'the least squared distance from the cell to a cell of the child's polygon': the least over its rectangles. distance gives that of one rectangle.
+abbrev pub leastDistance : {A C : Type 0} → (C → A → ℕ) → C → List A → ℕ
+leastDistance distance c p = least (distance c) p

@@ -12,7 +12,7 @@ use Rattle.tree.specs.Lists.{All, keep}
 use Rattle.tree.specs.Space.{Side}
 use Rattle.tree.specs.Nodes.{on, entryOn}
 use Rattle.tree.specs.Pass.{onAll}
-use Rattle.tree.specs.Search.{least}
+use Rattle.polygons.specs.Lists.{least}
 use Rattle.tree.proofs.Lists.{all-map, keep-append}
 use Rattle.plane.specs.Best.{greatest}
 use Rattle.plane.specs.Lines.{CellEntry, xOf, yOf}

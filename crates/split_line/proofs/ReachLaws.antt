@@ -12,7 +12,7 @@ use Rattle.geometry.specs.Cells.{onGrid}
 use Rattle.geometry.specs.Grow.{grown}
 use Rattle.geometry.specs.Refine.{union}
 use Rattle.geometry.proofs.CellLaws.{grid-of}
-use Rattle.tree.specs.Search.{least}
+use Rattle.polygons.specs.Lists.{least}
 use Rattle.plane.specs.Best.{greatest}
 use Rattle.plane.specs.Lines.{CellEntry}
 use Rattle.plane.specs.Plane.{cellRect}

@@ -9,13 +9,13 @@ use borrow.Author.Tests.{eq-eqb, ne-eqb}
 use lib.Dec.{eqb}
 use lib.ListN.{length, take, drop, getD, length-append}
 use lib.Seq.{take-at, drop-at, getD-at}
-use Rattle.polygons.specs.Lists.{any}
+use Rattle.polygons.specs.Lists.{any, least}
 use Rattle.geometry.specs.declared.rect.Cell.{Cell}
 use Rattle.geometry.specs.declared.rect.Rect.{Rect}
 use Rattle.geometry.specs.Cells.{noRect}
 use Rattle.tree.specs.Lists.{All}
 use Rattle.tree.specs.Space.{Branch}
-use Rattle.tree.specs.Search.{Focus, first, least}
+use Rattle.tree.specs.Search.{Focus, first}
 use Rattle.tree.specs.Boxes.{anyHas}
 use Rattle.tree.specs.Step2.{grownPoly, allBoxes, chosen, growing, choose}
 use Rattle.tree.proofs.Any.{any-append, any-none}

@@ -17,6 +17,7 @@ use Rattle.tree.proofs.Any.{any-from}
 use Rattle.tree.proofs.BoxLaws.{BoxLaws}
 use Rattle.tree.proofs.GrownPolygon.{clip-poly, has-some}
 use Rattle.tree.proofs.Booleans.{split-and}
+use Rattle.tree.proofs.PolyDistance.{poly-low, poly-met}
 
 -- The laws of the plane.
 pub space-laws : (B : Boxes) → BoxLaws B → Laws (spaceOf B)
@@ -32,6 +33,8 @@ space-laws B W = record {
   fine-real = λ p c f h. any-from (λ r. B .has r c) (B .Real c) p (all-map (λ r. B .valid r ≡ true) (λ r. B .has r c ≡ true → B .Real c) p (λ r. W .valid-real r c) (f .valid)) (unfold anyHas in h);
   same-is = W .same-is;
   same-self = W .same-self;
+  distance-low = poly-low B W;
+  distance-met = λ p c f. poly-met B W p c (f .lower) (f .valid);
 }
 
 -- Step 2 is as the tree asks; with the laws of the two lines, which are the plane's own, that is all of Steps.

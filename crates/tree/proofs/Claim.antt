@@ -3,7 +3,7 @@ use Prim.Native.Nat.{ℕ, _+_, _≤_, suc}
 use mathlib.Core.Bool.{Bool, true, false, cond, _&&_}
 use mathlib.Core.Path.{_≡_, refl, sym, ap, _∙_}
 use mathlib.Core.List.{map, List, [], _∷_, _++_}
-use mathlib.Core.Option.{none}
+use mathlib.Core.Option.{Option, none, some}
 use lib.ListN.{length}
 use native.Mathlib.Omega.{arith}
 use Rattle.tree.specs.Lists.{keep, All, countOf}
@@ -14,7 +14,8 @@ use Rattle.tree.specs.Tree.{Index, entries, nodeCount, Sound}
 use Rattle.tree.specs.Insert.{Outcome, refused, accepted, insert}
 use Rattle.tree.specs.Remove.{other, remove}
 use Rattle.tree.specs.Query.{ofCell, Window, holds}
-use Rattle.tree.specs.Calls.{Call, insertCall, removeCall, clearCall, pointCall, windowCall, Answer, refusal, reports, isAccepted, outcomeAnswer, outcomeIndex, insertion, answer, after, afterAll, answers}
+use Rattle.tree.specs.Nearest.{nearest, walk}
+use Rattle.tree.specs.Calls.{Call, insertCall, removeCall, clearCall, pointCall, windowCall, nearestCall, Answer, refusal, reports, isAccepted, outcomeAnswer, outcomeIndex, insertion, nearestEnd, answer, after, afterAll, answers}
 use Rattle.tree.specs.Record.{recorded, recordOf}
 use Rattle.tree.specs.Claim.{Reported, ReportedAll, IndexClaim, OnGrid, Claim}
 use Rattle.tree.proofs.Counts.{countOf-both, countOf-append, countOf-keep, countOf-every}
@@ -23,6 +24,9 @@ use Rattle.tree.proofs.Insert.{Inserted, insert-accepted}
 use Rattle.tree.proofs.RemoveIndex.{remove-entries, remove-nodes, remove-sound}
 use Rattle.tree.proofs.Depth.{within-parent, equal-depth, equally-deep}
 use Rattle.tree.proofs.Visits.{visits-height}
+use Rattle.tree.proofs.NearestLeast.{nearest-is}
+use Rattle.tree.proofs.NearestSame.{nearest-same}
+use Rattle.tree.proofs.NearestWalk.{walk-nearest, walk-few}
 use Rattle.tree.proofs.Leaves.{leaves-cover, one-leaf, cell-once}
 
 module _ (S : Space) (W : Laws S) (T : Steps S) (R : Root S) (X : RootLaws S R) (wide : 2 ≤ S .most) (Win : Window S) (N : ℕ) where
@@ -49,6 +53,7 @@ module _ (S : Space) (W : Laws S) (T : Steps S) (R : Root S) (X : RootLaws S R) 
   refused-step i r clearCall n s = record { state = s; report = tt }
   refused-step i r (pointCall c) n s = record { state = s; report = tt }
   refused-step i r (windowCall w) n s = record { state = s; report = tt }
+  refused-step i r (nearestCall c) n s = record { state = s; report = tt }
 
   inserted-state : (i j : Index S) (r : List (EntryOf S)) (e : EntryOf S) → State i r → Inserted S W T R X wide N i e j → State j (r ++ (e ∷ []))
   inserted-state i j r e s h = record {
@@ -79,6 +84,11 @@ module _ (S : Space) (W : Laws S) (T : Steps S) (R : Root S) (X : RootLaws S R) 
   remove-step i r c s true = let t = removed-state i r c s in record { state = t; report = long (remove S c i) (keep (other S c) r) t }
   remove-step i r c s false = refused-step i r (removeCall c) 6 s
 
+  nearest-step : (i : Index S) (r : List (EntryOf S)) (c : S .Cell) → State i r → (b : Option (EntryOf S)) (v : ℕ) → Stepped i r (nearestCall c) i (nearestEnd S c b v)
+  unfolding recorded
+  nearest-step i r c s none v = refused-step i r (nearestCall c) 10 s
+  nearest-step i r c s (some e) v = record { state = s; report = tt }
+
   -- Every call, one step.
   pub call-step : (i : Index S) (r : List (EntryOf S)) (k : Call S Win) → OnGrid S Win k → State i r → Stepped i r k (after S R N Win i k) (answer S R N Win i k)
   unfolding recorded after answer
@@ -87,6 +97,7 @@ module _ (S : Space) (W : Laws S) (T : Steps S) (R : Root S) (X : RootLaws S R) 
   call-step i r clearCall on s = record { state = record { sound = tt; room = omega arith; same = λ q. refl }; report = refl }
   call-step i r (pointCall c) on s = record { state = s; report = tt }
   call-step i r (windowCall w) on s = record { state = s; report = tt }
+  call-step i r (nearestCall c) on s = nearest-step i r c s (nearest S c i) (walk S c i .entered)
 
   -- A list of calls.
   pub after-state : (i : Index S) (r : List (EntryOf S)) (ks : List (Call S Win)) → All (OnGrid S Win) ks → State i r → State (afterAll S R N Win i ks) (recordOf r ks (map isAccepted (answers S R N Win i ks)))
@@ -116,6 +127,9 @@ module _ (S : Space) (W : Laws S) (T : Steps S) (R : Root S) (X : RootLaws S R) 
     one-leaf = one-leaf S W R i (s .sound);
     covers = leaves-cover S W R i (s .sound);
     visits-few = visits-height S W R i (s .sound);
+    walk-nearest = λ c. walk-nearest S W c R i (s .sound);
+    nearest-is = λ c e h. nearest-same S W c (entries S i) r (s .same) e (nearest-is S c (entries S i) e h);
+    walk-few = λ c. walk-few S c i;
   }
 
   -- For every list of calls from the empty index, with any N.

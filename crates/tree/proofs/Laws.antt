@@ -1,5 +1,5 @@
 -- What the tree asks of the plane. Every theorem takes these records as premises; nothing here is assumed of itself.
-use Prim.Native.Nat.{zero, suc}
+use Prim.Native.Nat.{zero, suc, _≤_}
 use mathlib.Core.Bool.{Bool, true}
 use mathlib.Core.Path.{_≡_}
 use mathlib.Core.List.{List, _∷_, _++_}
@@ -12,7 +12,8 @@ use Rattle.tree.specs.Sound.{Apart, Count}
 use Rattle.tree.specs.Root.{Root}
 use Rattle.tree.specs.Query.{Window}
 
--- Clipping keeps exactly a polygon's cells on that side, and keeps it good where a cell is left; a good polygon lies on the grid; `same` is equality.
+-- Clipping keeps exactly a polygon's cells on that side, and keeps it good where a cell is left; a good polygon lies on the grid; `same` is equality;
+-- no cell of a polygon is nearer than its least distance, and of a good polygon one is that near.
 pub record Laws (S : Space) : Type 0 where
   pub clip-old : (s : Side (S .Line)) (p : S .Poly) (c : S .Cell) → S .has (S .clip s p) c ≡ true → S .has p c ≡ true
   pub clip-on : (s : Side (S .Line)) (p : S .Poly) (c : S .Cell) → S .has (S .clip s p) c ≡ true → on S s c ≡ true
@@ -21,6 +22,8 @@ pub record Laws (S : Space) : Type 0 where
   pub fine-real : (p : S .Poly) (c : S .Cell) → S .Fine p → S .has p c ≡ true → S .Real c
   pub same-is : (c d : S .Cell) → S .same c d ≡ true → c ≡ d
   pub same-self : (c : S .Cell) → S .same c c ≡ true
+  pub distance-low : (p : S .Poly) (c d : S .Cell) → S .has p d ≡ true → S .minDistance c p ≤ S .distance c d
+  pub distance-met : (p : S .Poly) (c : S .Cell) → S .Fine p → (d : S .Cell) × (S .has p d ≡ true) × (S .distance c d ≡ S .minDistance c p)
 
 module _ (S : Space) where
   -- Some of these entries are on that side.

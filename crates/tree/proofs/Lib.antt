@@ -4,6 +4,7 @@ pub mod Counts
 pub mod Any
 pub mod Laws
 pub mod BoxLaws
+pub mod PolyDistance
 pub mod Prune
 pub mod Halves
 pub mod Sides
@@ -19,6 +20,10 @@ pub mod Depth
 pub mod Visits
 pub mod Walk
 pub mod Leaves
+pub mod Order
+pub mod NearestLeast
+pub mod NearestSame
+pub mod NearestWalk
 pub mod Claim
 pub mod Remove
 pub mod RemoveIndex

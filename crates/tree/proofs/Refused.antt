@@ -9,11 +9,11 @@ use lib.Dec.{eqb}
 use native.Mathlib.Omega.{arith}
 use native.Mathlib.Decide.{decLe}
 use borrow.Author.Tests.{eq-eqb}
-use Rattle.polygons.specs.Lists.{any}
+use Rattle.polygons.specs.Lists.{any, least}
 use Rattle.tree.specs.Lists.{All}
 use Rattle.tree.specs.Space.{Branch}
 use Rattle.tree.specs.Boxes.{Boxes, anyHas, GoodPolygon, Poly}
-use Rattle.tree.specs.Search.{first, Focus, least, orElse}
+use Rattle.tree.specs.Search.{first, Focus, orElse}
 use Rattle.tree.specs.Step2.{grownPoly, allBoxes, chosen, whole, growing, choose}
 use Rattle.tree.proofs.Any.{any-flatMap, first-none, first-some, any-none}
 

@@ -4,11 +4,11 @@ use mathlib.Core.Path.{_≡_, refl, _∙_, subst}
 use mathlib.Core.List.{List, _∷_, _++_}
 use mathlib.Core.Option.{Option, none, some}
 use lib.Dec.{eqb}
-use Rattle.polygons.specs.Lists.{any}
+use Rattle.polygons.specs.Lists.{any, least}
 use Rattle.tree.specs.Lists.{All, Pairs}
 use Rattle.tree.specs.Space.{Branch, Chosen}
 use Rattle.tree.specs.Boxes.{Boxes, anyHas, GoodPolygon, Poly}
-use Rattle.tree.specs.Search.{first, Focus, least, orElse}
+use Rattle.tree.specs.Search.{first, Focus, orElse}
 use Rattle.tree.specs.Step2.{grownPoly, allBoxes, chosen, whole, growing, choose}
 use Rattle.tree.specs.BoxSpace.{spaceOf}
 use Rattle.tree.proofs.BoxLaws.{BoxLaws}

@@ -8,7 +8,7 @@ use Rattle.tree.specs.Lists.{notEmpty}
 use Rattle.tree.specs.Space.{Space}
 use Rattle.tree.specs.Root.{Root}
 use Rattle.tree.specs.Query.{Window}
-use Rattle.tree.specs.Boxes.{Boxes, anyHas, GoodPolygon, clipPoly}
+use Rattle.tree.specs.Boxes.{Boxes, anyHas, GoodPolygon, clipPoly, polyDistance}
 use Rattle.tree.specs.Step2.{choose}
 
 -- Polygons are lists of rectangles, and step 2 is document 01's.
@@ -26,6 +26,9 @@ spaceOf B = record {
   choose = choose B;
   leafLine = B .leafLine;
   nodeLine = B .nodeLine;
+  distance = B .distance;
+  minDistance = polyDistance B;
+  ties = B .ties;
   most = B .most;
 }
 

@@ -6,7 +6,7 @@ use mathlib.Core.List.{List}
 use mathlib.Core.Path.{_≡_}
 use lib.ListN.{length}
 use Rattle.polygons.specs.Limits.{mostOfPolygon}
-use Rattle.polygons.specs.Rules.{unionHas, clipRefine}
+use Rattle.polygons.specs.Rules.{unionHas, clipRefine, leastDistance}
 use Rattle.tree.specs.Lists.{All}
 use Rattle.tree.specs.Space.{Side, Entry}
 
@@ -39,6 +39,11 @@ pub record Boxes : Type 1 where
   -- the lines of a leaf, of a routing node by the entries of its branches
   pub leafLine : List (Entry Cell) → Line
   pub nodeLine : List (List (Entry Cell)) → Line
+  -- the squared distance of two cells, and the least from a cell to a cell of a rectangle
+  pub distance : Cell → Cell → ℕ
+  pub minDistance : Cell → Box → ℕ
+  -- the numbers that decide between equally distant entries
+  pub ties : Entry Cell → List ℕ
   -- the fanout, 8 in document 01
   pub most : ℕ
 
@@ -60,3 +65,7 @@ module _ (B : Boxes) where
   -- "Splitting clips the polygon's rectangles to each side, in order, and refines them."
   abbrev pub clipPoly : Side (B .Line) → Poly → Poly
   clipPoly s p = clipRefine (B .clip s) (B .refine) p
+
+  -- "the least squared distance from the cell to a cell of the child's polygon"
+  abbrev pub polyDistance : B .Cell → Poly → ℕ
+  polyDistance c p = leastDistance (B .minDistance) c p

@@ -3,7 +3,7 @@
 use Prim.Native.Nat.{ℕ}
 use mathlib.Core.Bool.{Bool, true, false, cond}
 use mathlib.Core.List.{List, [], _∷_}
-use mathlib.Core.Option.{Option, none}
+use mathlib.Core.Option.{Option, none, some}
 use lib.ListN.{length}
 use Rattle.tree.specs.Space.{Space}
 use Rattle.tree.specs.Nodes.{EntryOf}
@@ -12,6 +12,7 @@ use Rattle.tree.specs.Tree.{Index, entries}
 use Rattle.tree.specs.Insert.{Outcome, refused, accepted, insert}
 use Rattle.tree.specs.Remove.{remove}
 use Rattle.tree.specs.Query.{Window, holds, entryAt, visits, matches, windowVisits}
+use Rattle.tree.specs.Nearest.{nearest, walk}
 
 -- "insertions, removals, clears and queries", with their arguments other than lent lists.
 pub data Call (S : Space) (Win : Window S) : Type 0 where
@@ -20,13 +21,16 @@ pub data Call (S : Space) (Win : Window S) : Type 0 where
   clearCall : Call S Win
   pointCall : S .Cell → Call S Win
   windowCall : Win .W → Call S Win
+  nearestCall : S .Cell → Call S Win
 
--- An answer: a refusal by its number; "Insertion, removal and clearing report the entries held after the call"; a point query the entry, if held, and visits; a window query the matches in order and visits.
+-- An answer: a refusal by its number; "Insertion, removal and clearing report the entries held after the call"; a point query the entry, if held, and visits; a window query the matches in order and visits;
+-- a nearest query "the entry, the squared distance and the number of nodes entered".
 pub data Answer (S : Space) : Type 0 where
   refusal : ℕ → Answer S
   reports : ℕ → Answer S
   pointAnswer : Option (EntryOf S) → ℕ → Answer S
   windowAnswer : List (EntryOf S) → ℕ → Answer S
+  nearestAnswer : EntryOf S → ℕ → ℕ → Answer S
 
 -- Whether the call was accepted.
 abbrev pub isAccepted : {S : Space} → Answer S → Bool
@@ -34,6 +38,7 @@ isAccepted (refusal k) = false
 isAccepted (reports n) = true
 isAccepted (pointAnswer e v) = true
 isAccepted (windowAnswer es v) = true
+isAccepted (nearestAnswer e d v) = true
 
 module _ (S : Space) where
   -- The answer and the index after, from how a call that may change the index ends. A refused call leaves "index" as it was.
@@ -49,6 +54,11 @@ module _ (S : Space) where
   abbrev pub removal : Index S → S .Cell → Outcome S
   removal i c = cond (holds S c i) (accepted (remove S c i)) (refused 6)
 
+  -- Nearest query: 10, "nothing is held".
+  abbrev pub nearestEnd : S .Cell → Option (EntryOf S) → ℕ → Answer S
+  nearestEnd c none v = refusal 10
+  nearestEnd c (some e) v = nearestAnswer e (S .distance c (e .cell)) v
+
   module _ (R : Root S) (N : ℕ) where
     -- Insertion: 5, "cell already held (insertion)", before 7 and 8.
     abbrev pub insertion : Index S → EntryOf S → Outcome S
@@ -62,6 +72,7 @@ module _ (S : Space) where
       answer i clearCall = reports 0
       answer i (pointCall c) = pointAnswer (entryAt S c i) (visits S c i)
       answer i (windowCall w) = windowAnswer (matches S Win w i) (windowVisits S Win w i)
+      answer i (nearestCall c) = nearestEnd c (nearest S c i) (walk S c i .entered)
 
       -- The index after a call.
       unfoldable pub after : Index S → Call S Win → Index S
@@ -70,6 +81,7 @@ module _ (S : Space) where
       after i clearCall = none
       after i (pointCall c) = i
       after i (windowCall w) = i
+      after i (nearestCall c) = i
 
       -- A list of calls, "each call handed the memory that the last one left": the index after all, and each call's answer.
       unfoldable pub afterAll : Index S → List (Call S Win) → Index S

@@ -14,7 +14,8 @@ use Rattle.tree.specs.Root.{Root}
 use Rattle.tree.specs.Tree.{Index, height, entries, nodeCount, Sound}
 use Rattle.tree.specs.Depth.{polygonsAt, leaves, leafDepths, edges}
 use Rattle.tree.specs.Query.{Window, ofCell, holds, visits}
-use Rattle.tree.specs.Calls.{Call, insertCall, removeCall, clearCall, pointCall, windowCall, Answer, refusal, reports, pointAnswer, windowAnswer, isAccepted, afterAll, answers}
+use Rattle.tree.specs.Nearest.{IsNearest, nearest, walk}
+use Rattle.tree.specs.Calls.{Call, insertCall, removeCall, clearCall, pointCall, windowCall, nearestCall, Answer, refusal, reports, pointAnswer, windowAnswer, nearestAnswer, isAccepted, afterAll, answers}
 use Rattle.tree.specs.Record.{recorded, recordOf}
 
 module _ (S : Space) where
@@ -32,6 +33,7 @@ module _ (S : Space) where
   Reported (reports n) r = n ≡ length r
   Reported (pointAnswer e v) r = Unit {0}
   Reported (windowAnswer es v) r = Unit {0}
+  Reported (nearestAnswer e d v) r = Unit {0}
 
   -- What demand 3 says of the index after a list of calls, where r is the record after it.
   pub record IndexClaim (R : Root S) (N : ℕ) (i : Index S) (r : List (EntryOf S)) : Type 0 where
@@ -52,6 +54,10 @@ module _ (S : Space) where
     pub covers : All leafCovers (leaves S i)
     -- "they are at most the height"
     pub visits-few : (c : S .Cell) → visits S c i ≤ height S i
+    -- a nearest query: "the entry must be the one that a look at all of them gives. Visits are at most the number of nodes."
+    pub walk-nearest : (c : S .Cell) → walk S c i .best ≡ nearest S c i
+    pub nearest-is : (c : S .Cell) (e : EntryOf S) → nearest S c i ≡ some e → IsNearest S c r e
+    pub walk-few : (c : S .Cell) → walk S c i .entered ≤ nodeCount S i
 
   module _ (Win : Window S) where
     -- The cell of an insertion is on the grid; off the grid a call is refused by 3 before it gets here.
@@ -61,6 +67,7 @@ module _ (S : Space) where
     OnGrid clearCall = Unit {0}
     OnGrid (pointCall c) = Unit {0}
     OnGrid (windowCall w) = Unit {0}
+    OnGrid (nearestCall c) = Unit {0}
 
     -- The same for every call of a list, where r is the record before it.
     unfoldable pub ReportedAll : List (EntryOf S) → List (Call S Win) → List (Answer S) → Type 0

@@ -12,6 +12,8 @@ pub mod Split
 pub mod Insert
 pub mod Remove
 pub mod Query
+pub mod Order
+pub mod Nearest
 pub mod BoxSpace
 pub mod Calls
 pub mod Record

@@ -1,6 +1,5 @@
--- Finding in lists: the first element that passes a test, the least number.
+-- Finding in lists: the first element that passes a test.
 -- docs/RULES.md 4.3, 4.4
-use Prim.Native.Nat.{ℕ, min}
 use mathlib.Core.Bool.{Bool, cond}
 use mathlib.Core.List.{List, [], _∷_}
 use mathlib.Core.Option.{Option, none, some}
@@ -20,12 +19,6 @@ pushed a (some f) = some (record { before = a ∷ f .before; at = f .at; after =
 unfoldable pub first : {A : Type 0} → (A → Bool) → List A → Option (Focus A)
 first t [] = none
 first t (a ∷ l) = cond (t a) (some (record { before = []; at = a; after = l })) (pushed a (first t l))
-
--- The least number that the elements give; 0 for the empty list.
-unfoldable pub least : {A : Type 0} → (A → ℕ) → List A → ℕ
-least f [] = 0
-least f (a ∷ []) = f a
-least f (a ∷ b ∷ l) = min (f a) (least f (b ∷ l))
 
 -- The first answer, or the second where the first is nothing.
 abbrev pub orElse : {A : Type 0} → Option A → Option A → Option A

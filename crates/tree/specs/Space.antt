@@ -50,5 +50,11 @@ pub record Space : Type 1 where
   pub leafLine : List (Entry Cell) → Line
   -- the line that splits a routing node whose branches hold these entries
   pub nodeLine : List (List (Entry Cell)) → Line
+  -- "(dx)² + (dy)²": the squared distance of two cells
+  pub distance : Cell → Cell → ℕ
+  -- "the least squared distance from the cell to a cell of the child's polygon"
+  pub minDistance : Cell → Poly → ℕ
+  -- "ties to the smaller x, then the smaller y": the numbers that decide between equally distant entries
+  pub ties : Entry Cell → List ℕ
   -- the fanout: the most entries of a leaf, and branches of a routing node
   pub most : ℕ

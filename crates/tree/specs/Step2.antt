@@ -5,8 +5,8 @@ use mathlib.Core.Option.{Option, none, some, bind}
 use lib.Dec.{eqb}
 use Rattle.polygons.specs.Rules.{cutEach, commons}
 use Rattle.polygons.specs.Limits.{atMost, mostOfPolygon, mostPieces}
-use Rattle.polygons.specs.Lists.{any}
-use Rattle.tree.specs.Search.{Focus, first, least, orElse}
+use Rattle.polygons.specs.Lists.{any, least}
+use Rattle.tree.specs.Search.{Focus, first, orElse}
 use Rattle.tree.specs.Space.{Branch, Chosen}
 use Rattle.tree.specs.Boxes.{Boxes, Poly, anyHas}
 

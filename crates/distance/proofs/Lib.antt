@@ -1,0 +1,3 @@
+pub mod DistanceLaws
+pub mod CodeWays
+pub mod LeastLoop
