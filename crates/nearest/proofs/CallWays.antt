@@ -1,0 +1,138 @@
+-- The ways out of the call.
+use Prim.Native.Nat.{ℕ, zero, suc, _+_, _≤_}
+use mathlib.Core.Path.{_≡_, refl, sym, ap, _∙_, subst}
+use mathlib.Core.Bool.{Bool, true, false, not}
+use mathlib.Core.List.{List}
+use mathlib.Core.Option.{Option, none, some}
+use native.Mathlib.Omega.{arith}
+use borrow.Author.Tests.{not-true, not-false}
+use Rattle.geometry.specs.declared.rect.Cell.{Cell}
+use Rattle.geometry.specs.declared.rect.Rect.{Rect}
+use Rattle.geometry.specs.Cells.{onGrid}
+use Rattle.tree.specs.Nodes.{Item}
+use Rattle.tree.specs.Sound.{SoundItem}
+use Rattle.tree.specs.Tree.{top}
+use Rattle.tree.proofs.Depth.{top-sound}
+use Rattle.tree.proofs.Booleans.{contrary}
+use Rattle.plane.specs.Lines.{CellEntry}
+use Rattle.plane.specs.Plane.{planeSpace, planeRoot}
+use Rattle.plane.proofs.Rects.{plane-space-laws}
+use Rattle.memory.specs.Layout.{rightLength, rootIn}
+use Rattle.memory.specs.Reading.{reading, readNode}
+use Rattle.memory.specs.Fanout.{fanout}
+use Rattle.memory.proofs.ReadingLaws.{read-as, read-sound}
+use Rattle.index.specs.declared.opening.Opened.{Opened}
+use Rattle.index.specs.declared.opening.Opened.the-variants as O
+use Rattle.index.specs.Open.{TreeIn, OpenedAs}
+use Rattle.index.specs.Walks.{visitsBelow}
+use Rattle.index.proofs.TreeWalk.{tree-walkable}
+use Rattle.index.proofs.WalkRows.{visits-few}
+use Rattle.tree.specs.Nearest as N
+use Rattle.tree.proofs.NearestWalk.{walk-nearest}
+use Rattle.distance.specs.Distance.{squared}
+use Rattle.nearest.specs.declared.near.Near.{Near}
+use Rattle.index.specs.declared.answer.NearestFound.{NearestFound}
+use Rattle.index.specs.declared.answer.NearestFound.the-variants.{Found, WrongLength, OffGrid, NoTree, NothingHeld}
+use Rattle.nearest.specs.Near.{MetBy, nearBy, bestOf, GoodNear, nearOf, metOf}
+use Rattle.nearest.specs.Below.{walkFrom, walkBelow, nearBelow, everyNode, NearWalk}
+use Rattle.index.specs.Answers.{nearestEnd, nearestRead, nearestAnswer}
+use Rattle.nearest.proofs.NearLeaf.{best-near, visits-near, good-near}
+use Rattle.nearest.proofs.NearLoop.{noEntry}
+
+-- nothing met is the same for every cell
+nothing-for : (c d : Cell) (v : ℕ) → nearBy d none v ≡ nearBy c none v
+unfolding nearBy
+nothing-for c d v = refl
+
+pub nothing-good : (c d : Cell) (r : Near) → r ≡ nearBy d none 0 → GoodNear c r
+nothing-good c d r e = good-near c r none 0 (e ∙ nothing-for c d 0)
+
+nothing-met : (c d : Cell) (r : Near) → r ≡ nearBy d none 0 → metOf c r ≡ N.start (planeSpace fanout) c
+nothing-met c d r e =
+    let b : bestOf r ≡ none = ap bestOf e ∙ best-near d none 0 in
+    let v : r .visits ≡ 0 = ap (λ (x : Near). x .visits) e ∙ visits-near d none 0 in
+    λ z. record { best = b z; entered = v z }
+
+module _ (m : List ℕ) (level root : ℕ) (x : TreeIn m level root) where
+  pub tree-near : NearWalk level m 0 root
+  tree-near = record { walk = tree-walkable m level root x; sound = λ b e. sound-of b e }
+    where
+      some-is : {A : Type 0} (a b : A) → some a ≡ some b → a ≡ b
+      some-is a b e = cc
+
+      at-tree : (l k : ℕ) → x .tree .level ≡ l → rootIn m ≡ k → (b : Item (planeSpace fanout) (suc l)) → readNode fanout l m 0 k ≡ some b → (p : List Rect) × SoundItem (planeSpace fanout) (suc l) p b
+      at-tree l k p q = subst (λ (l : ℕ). (b : Item (planeSpace fanout) (suc l)) → readNode fanout l m 0 k ≡ some b → (p : List Rect) × SoundItem (planeSpace fanout) (suc l) p b) p
+          (subst (λ (k : ℕ). (b : Item (planeSpace fanout) (suc (x .tree .level))) → readNode fanout (x .tree .level) m 0 k ≡ some b → (p : List Rect) × SoundItem (planeSpace fanout) (suc (x .tree .level)) p b) q
+          (λ b e.
+          let t = x .tree in
+          let r = read-as fanout m t (x .reads) in (
+            t .root,
+            subst (λ (d : Item (planeSpace fanout) (suc (t .level))). SoundItem (planeSpace fanout) (suc (t .level)) (t .root) d) (some-is _ _ (sym (r .root-node) ∙ e))
+                (top-sound (planeSpace fanout) (planeRoot fanout) t (read-sound fanout m t (x .reads) .sound)),
+          )))
+
+      sound-of : (b : Item (planeSpace fanout) (suc level)) → readNode fanout level m 0 root ≡ some b → (p : List Rect) × SoundItem (planeSpace fanout) (suc level) p b
+      sound-of = at-tree level root (x .level-is) (x .root-is)
+
+  pub tree-room : (d : Cell) (r : Near) → r ≡ nearBy d none 0 → r .visits + visitsBelow everyNode level m 0 root ≤ 256
+  tree-room d r e =
+      let v : r .visits ≡ 0 = ap (λ (y : Near). y .visits) e ∙ visits-near d none 0 in
+      let f = visits-few everyNode noEntry level m 0 root (tree-walkable m level root x) in
+      omega arith
+
+  -- the walk of the memory is the walk of the tree
+  whole-walk : (c : Cell) (w : MetBy c) → w ≡ N.start (planeSpace fanout) c → walkBelow c level m 0 root w ≡ N.walk (planeSpace fanout) c (some (x .tree))
+  unfolding walkBelow walkFrom
+  whole-walk c w e = rw (e, ← (x .level-is), ← (x .root-is), read-as fanout m (x .tree) (x .reads) .root-node)
+
+  module _ (c d : Cell) (n r : Near) (ni : n ≡ nearBy d none 0) (e : r ≡ nearBelow c level m 0 root n) where
+    result : r ≡ nearBy c (N.nearest (planeSpace fanout) c (some (x .tree))) (N.walk (planeSpace fanout) c (some (x .tree)) .entered)
+    result =
+        let w = whole-walk c (metOf c n) (nothing-met c d n ni) in
+        let s = walk-nearest (planeSpace fanout) (plane-space-laws fanout) c (planeRoot fanout) (some (x .tree)) (read-sound fanout m (x .tree) (x .reads) .sound) in
+        e ∙ ap (nearOf c) w ∙ ap (λ (o : Option CellEntry). nearBy c o (N.walk (planeSpace fanout) c (some (x .tree)) .entered)) s
+
+    read-is : nearestRead c (reading fanout m) ≡ nearestEnd c (N.nearest (planeSpace fanout) c (some (x .tree))) (N.walk (planeSpace fanout) c (some (x .tree)) .entered)
+    unfolding nearestRead
+    read-is = rw (x .reads)
+
+    pub tree-nothing : r .found ≡ false → NothingHeld ≡ nearestRead c (reading fanout m)
+    unfolding nearBy
+    tree-nothing f = go (N.nearest (planeSpace fanout) c (some (x .tree))) (N.walk (planeSpace fanout) c (some (x .tree)) .entered) result f ∙ sym read-is
+      where
+        go : (o : Option CellEntry) (v : ℕ) → r ≡ nearBy c o v → r .found ≡ false → NothingHeld ≡ nearestEnd c o v
+        go none v q f = unfold nearestEnd in refl
+        go (some a) v q f = absurd (contrary true refl (sym (ap (λ (y : Near). y .found) q) ∙ f))
+
+    pub tree-found : r .found ≡ true → Found (r .x) (r .y) (r .tag) (r .distance) (r .visits) ≡ nearestRead c (reading fanout m)
+    unfolding nearBy nearestEnd
+    tree-found f = go (N.nearest (planeSpace fanout) c (some (x .tree))) (N.walk (planeSpace fanout) c (some (x .tree)) .entered) result f ∙ sym read-is
+      where
+        go : (o : Option CellEntry) (v : ℕ) → r ≡ nearBy c o v → r .found ≡ true → Found (r .x) (r .y) (r .tag) (r .distance) (r .visits) ≡ nearestEnd c o v
+        go none v q f = absurd (contrary false (sym (ap (λ (y : Near). y .found) q) ∙ f) refl)
+        go (some a) v q f = ap (λ (y : Near). Found (y .x) (y .y) (y .tag) (y .distance) (y .visits)) q
+
+module _ (m : List ℕ) (c : Cell) (o : Opened) (p : OpenedAs m o) where
+  pub read-no-tree : o ≡ O.NoTree → NoTree ≡ nearestRead c (reading fanout m)
+  unfolding nearestRead
+  read-no-tree q = let r : reading fanout m ≡ none = rw q at p in rw r
+
+  pub read-empty : o ≡ O.Empty → NothingHeld ≡ nearestRead c (reading fanout m)
+  unfolding nearestRead nearestEnd
+  read-empty q = let r : reading fanout m ≡ some none = rw q at p in rw r
+
+pub answer-wrong-length : (m : List ℕ) (c : Cell) (b : Bool) → b ≡ rightLength m → not b ≡ true → WrongLength ≡ nearestAnswer m c
+unfolding nearestAnswer
+answer-wrong-length m c b e f = rw (← e, not-true b f)
+
+module _ (m : List ℕ) (c : Cell) (e : rightLength m ≡ true) (g : Bool) (h : g ≡ onGrid c) where
+  pub answer-off-grid : not g ≡ true → OffGrid ≡ nearestAnswer m c
+  unfolding nearestAnswer
+  answer-off-grid k = rw (e, ← h, not-true g k)
+
+  pub answer-tested : not g ≡ false → (r : NearestFound) → r ≡ nearestRead c (reading fanout m) → r ≡ nearestAnswer m c
+  unfolding nearestAnswer
+  answer-tested k r q = rw (e, ← h, not-false g k) q
+
+pub grid-tested : (c : Cell) (g : Bool) → g ≡ onGrid c → not g ≡ false → onGrid c ≡ true
+grid-tested c g e f = sym e ∙ not-false g f

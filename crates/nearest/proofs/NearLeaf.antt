@@ -1,0 +1,118 @@
+-- The loop over a leaf's entries, and the distance of a node's polygon.
+use Prim.Native.Nat.{ℕ, zero, suc, _+_, _*_, _≤_, _<_}
+use mathlib.Core.Path.{_≡_, refl, sym, ap, _∙_, subst}
+use mathlib.Core.Bool.{Bool, true, false}
+use mathlib.Core.List.{List, [], _∷_}
+use mathlib.Core.Option.{Option, none, some}
+use native.Mathlib.Omega.{arith}
+use lib.ListN.{length, drop, drop-of-length-le}
+use Rattle.geometry.specs.declared.rect.Cell.{Cell}
+use Rattle.geometry.specs.declared.rect.Rect.{Rect}
+use Rattle.geometry.specs.Cells.{onGrid, allValid}
+use Rattle.geometry.specs.Numbers.{rectsIn}
+use Rattle.tree.specs.Lists.{All}
+use Rattle.plane.specs.Lines.{CellEntry}
+use Rattle.plane.specs.Plane.{planeSpace}
+use Rattle.memory.specs.Fanout.{fanout}
+use Rattle.memory.specs.Layout.{part, rectCount, polygonIn, rectNumbers, itemCount, entryIn, entriesIn}
+use Rattle.memory.proofs.ReadingLaws.{entries-length}
+use Rattle.layout.specs.declared.node.Node.{Node}
+use Rattle.layout.specs.Loaded.{nodeIn, nodeEntry}
+use Rattle.layout.specs.Nodes.{NodePart}
+use Rattle.layout.proofs.LoadedLaws.{loaded-count, loaded-cell, loaded-tag}
+use Rattle.layout.proofs.NodeLaws.{lent-polygon}
+use Rattle.index.specs.Changes.{entryOf}
+use Rattle.index.proofs.LeafLaws.{entries-next}
+use Rattle.tree.specs.Nearest.{orNearer}
+use Rattle.polygons.specs.Rules.{leastDistance}
+use Rattle.distance.specs.Distance.{rectDistance}
+use Rattle.nearest.specs.declared.near.Near.{Near}
+use Rattle.nearest.specs.Near.{nearBy, bestOf, oneMore, nearestAmong, GoodNear}
+use Rattle.nearest.specs.Below.{GoodPolygonPart}
+
+-- what is made of an entry and visits gives them back
+pub best-near : (c : Cell) (o : Option CellEntry) (v : ℕ) → bestOf (nearBy c o v) ≡ o
+unfolding bestOf nearBy
+best-near c none v = refl
+best-near c (some e) v = refl
+
+pub visits-near : (c : Cell) (o : Option CellEntry) (v : ℕ) → nearBy c o v .visits ≡ v
+unfolding nearBy
+visits-near c none v = refl
+visits-near c (some e) v = refl
+
+pub good-near : (c : Cell) (r : Near) (o : Option CellEntry) (v : ℕ) → r ≡ nearBy c o v → GoodNear c r
+good-near c r o v e =
+    let b : bestOf r ≡ o = ap bestOf e ∙ best-near c o v in
+    let w : r .visits ≡ v = ap (λ (x : Near). x .visits) e ∙ visits-near c o v in
+    e ∙ ap (λ (x : Option CellEntry). nearBy c x v) (sym b) ∙ ap (nearBy c (bestOf r)) (sym w)
+
+-- Before the i-th of the n entries of a leaf's part: the nearest of those before it and of what was met before the leaf.
+pub record LeafNear (c : Cell) (p : List ℕ) (r₀ : Near) (n i : ℕ) (r : Near) : Type 0 where
+  pub count : n ≡ itemCount p
+  pub i-le : i ≤ n
+  pub small : n ≤ 8
+  pub good : GoodNear c r
+  pub visits-same : r .visits ≡ r₀ .visits
+  pub grid : All (λ e. onGrid (e .cell) ≡ true) (drop i (entriesIn p (itemCount p)))
+  pub whole : nearestAmong c (bestOf r) (drop i (entriesIn p (itemCount p))) ≡ nearestAmong c (bestOf r₀) (entriesIn p (itemCount p))
+
+module _ (c : Cell) (p : List ℕ) (r₀ : Near) (n : ℕ) (leaf : Node) (l : leaf ≡ nodeIn p) where
+  pub leaf-start : NodePart p → All (λ e. onGrid (e .cell) ≡ true) (entriesIn p (itemCount p)) → GoodNear c r₀ → n ≡ leaf .count → LeafNear c p r₀ n 0 r₀
+  leaf-start v g h e =
+      let q : n ≡ itemCount p = e ∙ loaded-count p leaf l in
+      record { count = q; i-le = omega arith; small = let f = v .few-items in omega arith; good = h; visits-same = refl; grid = g; whole = refl }
+
+  module _ (i : ℕ) (r : Near) (x : LeafNear c p r₀ n i r) where
+    pub leaf-nine : i < n → i < 9
+    leaf-nine h = let s = x .small in omega arith
+
+    pub leaf-end : n ≤ i → r ≡ nearBy c (nearestAmong c (bestOf r₀) (entriesIn p (itemCount p))) (r₀ .visits)
+    leaf-end h =
+        let a = x .count in
+        let b = entries-length p (itemCount p) in
+        let d : drop i (entriesIn p (itemCount p)) ≡ [] = drop-of-length-le (entriesIn p (itemCount p)) {i = i} (omega arith) in
+        let w : bestOf r ≡ nearestAmong c (bestOf r₀) (entriesIn p (itemCount p)) = ap (nearestAmong c (bestOf r)) (sym d) ∙ x .whole in
+        x .good ∙ ap (λ (o : Option CellEntry). nearBy c o (r .visits)) w ∙ ap (nearBy c (nearestAmong c (bestOf r₀) (entriesIn p (itemCount p)))) (x .visits-same)
+
+    module _ (h : i < n) where
+      next : drop i (entriesIn p (itemCount p)) ≡ entryIn p i ∷ drop (i + 1) (entriesIn p (itemCount p))
+      next = entries-next p (itemCount p) i (let a = x .count in omega arith)
+
+      here : All (λ e. onGrid (e .cell) ≡ true) (entryIn p i ∷ drop (i + 1) (entriesIn p (itemCount p)))
+      here = subst (λ (es : List CellEntry). All (λ e. onGrid (e .cell) ≡ true) es) next (x .grid)
+
+      module _ (e : Cell) (is : e ≡ nodeEntry leaf i .cell) where
+        cell-is : e ≡ entryIn p i .cell
+        cell-is = loaded-cell p leaf l i e (let s = x .small in omega arith) is
+
+        pub leaf-grid : onGrid e ≡ true
+        unfolding All
+        leaf-grid = ap onGrid cell-is ∙ here .0
+
+        pub leaf-again : (t : ℕ) → t ≡ nodeEntry leaf i .tag → (r′ : Near) → r′ ≡ nearBy c (oneMore c (bestOf r) (entryOf e t)) (r .visits) → LeafNear c p r₀ n (i + 1) r′
+        unfolding All
+        leaf-again t ti r′ q =
+            let tis : t ≡ entryIn p i .tag = loaded-tag p leaf l i t (let s = x .small in omega arith) ti in
+            let ent : entryOf e t ≡ entryIn p i = λ z. record { cell = cell-is z; tag = tis z } in
+            let b : bestOf r′ ≡ oneMore c (bestOf r) (entryIn p i) = ap bestOf q ∙ best-near c _ _ ∙ ap (oneMore c (bestOf r)) ent in
+            record {
+              count = x .count;
+              i-le = omega arith;
+              small = x .small;
+              good = good-near c r′ _ _ q;
+              visits-same = ap (λ (y : Near). y .visits) q ∙ visits-near c _ _ ∙ x .visits-same;
+              grid = here .1;
+              whole = ap (λ (o : Option CellEntry). nearestAmong c o (drop (i + 1) (entriesIn p (itemCount p)))) b ∙ ap (nearestAmong c (bestOf r)) (sym next) ∙ x .whole;
+            }
+
+-- the polygon of a part, as its rectangles are lent
+module _ (m : List ℕ) (k : ℕ) (p l : List ℕ) (r : ℕ) (p-is : p ≡ part m k) (l-is : l ≡ rectNumbers p) (r-is : r ≡ rectCount p) (g : GoodPolygonPart m k) where
+  pub lent-some : 1 ≤ r
+  lent-some = let s = g .some-rects in let q : rectCount p ≡ rectCount (part m k) = ap rectCount p-is in omega arith
+
+  pub lent-valid : allValid (rectsIn l r) ≡ true
+  lent-valid = ap allValid (lent-polygon m k p l r p-is l-is r-is) ∙ g .valid
+
+  pub lent-distance : (c : Cell) (d : ℕ) → d ≡ leastDistance rectDistance c (rectsIn l r) → d ≡ leastDistance rectDistance c (polygonIn (part m k))
+  lent-distance c d e = e ∙ ap (leastDistance rectDistance c) (lent-polygon m k p l r p-is l-is r-is)
