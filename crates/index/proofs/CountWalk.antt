@@ -1,14 +1,13 @@
 -- The count of the entries: the walk that enters every node and takes every entry.
 use Prim.Native.Nat.{ℕ, zero, suc, _+_, _-_, _≤_, _<_}
 use mathlib.Core.Path.{_≡_, refl, sym, ap, _∙_}
-use mathlib.Core.Bool.{Bool, true}
+use mathlib.Core.Bool.{true}
 use mathlib.Core.List.{List, [], _∷_, flatMap}
 use mathlib.Core.Option.{Option, none, some}
 use native.Mathlib.Omega.{arith}
 use mir.Syntax.{w32}
 use mir.Val.{Fits}
 use lib.ListN.{length, length-append}
-use Rattle.geometry.specs.declared.rect.Rect.{Rect}
 use Rattle.tree.specs.Lists.{keep}
 use Rattle.tree.specs.Nodes.{Item, held}
 use Rattle.tree.specs.Tree.{entries}
@@ -23,17 +22,10 @@ use Rattle.memory.proofs.ReadingLaws.{leaf-parts, entries-length, read-as}
 use Rattle.memory.specs.Fanout.{fanout}
 use Rattle.layout.specs.Nodes.{childAt, countAt}
 use Rattle.index.specs.Open.{TreeIn}
-use Rattle.index.specs.Walks.{entriesFrom, entriesBelow, Walkable}
+use Rattle.index.specs.Walks.{anyPolygon, anyEntry, entriesFrom, entriesBelow, Walkable}
 use Rattle.index.specs.Count.{entriesOf, entriesAt}
 use Rattle.index.proofs.WalkRows.{entries-few}
 use Rattle.index.proofs.WalkLoop.{AtChild, child-start, child-hit, end-entries}
-
--- the tests that everything passes
-unfoldable pub anyPolygon : List Rect → Bool
-anyPolygon p = true
-
-unfoldable pub anyEntry : CellEntry → Bool
-anyEntry e = true
 
 keep-all : (l : List CellEntry) → keep anyEntry l ≡ l
 unfolding keep anyEntry

@@ -39,6 +39,13 @@ meetsTest w p = planeWindow fanout .meets p w
 unfoldable pub insideTest : Rect → CellEntry → Bool
 insideTest w e = matching (planeSpace fanout) (planeWindow fanout) w e
 
+-- the tests that everything passes: their walk enters every node and finds every entry
+unfoldable pub anyPolygon : List Rect → Bool
+anyPolygon p = true
+
+unfoldable pub anyEntry : CellEntry → Bool
+anyEntry e = true
+
 module _ (t : List Rect → Bool) where
   -- the nodes entered below the node at part k, itself among them; none where it does not read
   unfoldable pub visitsFrom : (n : ℕ) → Option (Item (planeSpace fanout) (suc n)) → ℕ

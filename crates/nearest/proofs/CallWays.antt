@@ -1,9 +1,9 @@
 -- The ways out of the call.
-use Prim.Native.Nat.{ℕ, zero, suc, _+_, _≤_}
+use Prim.Native.Nat.{ℕ, suc, _+_, _≤_}
 use mathlib.Core.Path.{_≡_, refl, sym, ap, _∙_, subst}
 use mathlib.Core.Bool.{Bool, true, false, not}
 use mathlib.Core.List.{List}
-use mathlib.Core.Option.{Option, none, some}
+use mathlib.Core.Option.{Option, none, some, Option·some-injective}
 use native.Mathlib.Omega.{arith}
 use borrow.Author.Tests.{not-true, not-false}
 use Rattle.geometry.specs.declared.rect.Cell.{Cell}
@@ -11,9 +11,10 @@ use Rattle.geometry.specs.declared.rect.Rect.{Rect}
 use Rattle.geometry.specs.Cells.{onGrid}
 use Rattle.tree.specs.Nodes.{Item}
 use Rattle.tree.specs.Sound.{SoundItem}
-use Rattle.tree.specs.Tree.{top}
-use Rattle.tree.proofs.Depth.{top-sound}
+use Rattle.tree.specs.Nearest as N
 use Rattle.tree.proofs.Booleans.{contrary}
+use Rattle.tree.proofs.Depth.{top-sound}
+use Rattle.tree.proofs.NearestWalk.{walk-nearest}
 use Rattle.plane.specs.Lines.{CellEntry}
 use Rattle.plane.specs.Plane.{planeSpace, planeRoot}
 use Rattle.plane.proofs.Rects.{plane-space-laws}
@@ -21,23 +22,19 @@ use Rattle.memory.specs.Layout.{rightLength, rootIn}
 use Rattle.memory.specs.Reading.{reading, readNode}
 use Rattle.memory.specs.Fanout.{fanout}
 use Rattle.memory.proofs.ReadingLaws.{read-as, read-sound}
-use Rattle.index.specs.declared.opening.Opened.{Opened}
-use Rattle.index.specs.declared.opening.Opened.the-variants as O
-use Rattle.index.specs.Open.{TreeIn, OpenedAs}
-use Rattle.index.specs.Walks.{visitsBelow}
-use Rattle.index.proofs.TreeWalk.{tree-walkable}
-use Rattle.index.proofs.WalkRows.{visits-few}
-use Rattle.tree.specs.Nearest as N
-use Rattle.tree.proofs.NearestWalk.{walk-nearest}
-use Rattle.distance.specs.Distance.{squared}
-use Rattle.nearest.specs.declared.near.Near.{Near}
 use Rattle.index.specs.declared.answer.NearestFound.{NearestFound}
 use Rattle.index.specs.declared.answer.NearestFound.the-variants.{Found, WrongLength, OffGrid, NoTree, NothingHeld}
-use Rattle.nearest.specs.Near.{MetBy, nearBy, bestOf, GoodNear, nearOf, metOf}
-use Rattle.nearest.specs.Below.{walkFrom, walkBelow, nearBelow, everyNode, NearWalk}
+use Rattle.index.specs.declared.opening.Opened.{Opened}
+use Rattle.index.specs.declared.opening.Opened.the-variants as O
 use Rattle.index.specs.Answers.{nearestEnd, nearestRead, nearestAnswer}
-use Rattle.nearest.proofs.NearLeaf.{best-near, visits-near, good-near}
-use Rattle.nearest.proofs.NearLoop.{noEntry}
+use Rattle.index.specs.Open.{TreeIn, OpenedAs}
+use Rattle.index.specs.Walks.{anyPolygon, anyEntry, visitsBelow}
+use Rattle.index.proofs.TreeWalk.{tree-walkable}
+use Rattle.index.proofs.WalkRows.{visits-few}
+use Rattle.nearest.specs.declared.near.Near.{Near}
+use Rattle.nearest.specs.Near.{MetBy, nearBy, bestOf, GoodNear, nearOf, metOf}
+use Rattle.nearest.specs.Below.{walkFrom, walkBelow, nearBelow, NearWalk}
+use Rattle.nearest.proofs.NearMet.{best-near, visits-near, good-near}
 
 -- nothing met is the same for every cell
 nothing-for : (c d : Cell) (v : ℕ) → nearBy d none v ≡ nearBy c none v
@@ -53,60 +50,65 @@ nothing-met c d r e =
     let v : r .visits ≡ 0 = ap (λ (x : Near). x .visits) e ∙ visits-near d none 0 in
     λ z. record { best = b z; entered = v z }
 
+-- every reading of a node is sound
+abbrev SoundAt : List ℕ → ℕ → ℕ → Type 0
+SoundAt m level k = (b : Item (planeSpace fanout) (suc level)) → readNode fanout level m 0 k ≡ some b
+    → (p : List Rect) × SoundItem (planeSpace fanout) (suc level) p b
+
 module _ (m : List ℕ) (level root : ℕ) (x : TreeIn m level root) where
+  -- the tree that the memory reads as, its nearest entry and its walk
+  abbrev best : Cell → Option CellEntry
+  best c = N.nearest (planeSpace fanout) c (some (x .tree))
+
+  abbrev entered : Cell → ℕ
+  entered c = N.walk (planeSpace fanout) c (some (x .tree)) .entered
+
+  root-sound : SoundAt m (x .tree .level) (rootIn m)
+  root-sound b e =
+      let t = x .tree in
+      let q = Option·some-injective _ _ (sym (read-as fanout m t (x .reads) .root-node) ∙ e) in
+      let s = top-sound (planeSpace fanout) (planeRoot fanout) t (read-sound fanout m t (x .reads) .sound) in
+      (t .root, subst (SoundItem (planeSpace fanout) (suc (t .level)) (t .root)) q s)
+
   pub tree-near : NearWalk level m 0 root
-  tree-near = record { walk = tree-walkable m level root x; sound = λ b e. sound-of b e }
-    where
-      some-is : {A : Type 0} (a b : A) → some a ≡ some b → a ≡ b
-      some-is a b e = cc
+  tree-near = record {
+    walk = tree-walkable m level root x;
+    sound = subst (λ (l : ℕ). SoundAt m l root) (x .level-is) (subst (SoundAt m (x .tree .level)) (x .root-is) root-sound);
+  }
 
-      at-tree : (l k : ℕ) → x .tree .level ≡ l → rootIn m ≡ k → (b : Item (planeSpace fanout) (suc l)) → readNode fanout l m 0 k ≡ some b → (p : List Rect) × SoundItem (planeSpace fanout) (suc l) p b
-      at-tree l k p q = subst (λ (l : ℕ). (b : Item (planeSpace fanout) (suc l)) → readNode fanout l m 0 k ≡ some b → (p : List Rect) × SoundItem (planeSpace fanout) (suc l) p b) p
-          (subst (λ (k : ℕ). (b : Item (planeSpace fanout) (suc (x .tree .level))) → readNode fanout (x .tree .level) m 0 k ≡ some b → (p : List Rect) × SoundItem (planeSpace fanout) (suc (x .tree .level)) p b) q
-          (λ b e.
-          let t = x .tree in
-          let r = read-as fanout m t (x .reads) in (
-            t .root,
-            subst (λ (d : Item (planeSpace fanout) (suc (t .level))). SoundItem (planeSpace fanout) (suc (t .level)) (t .root) d) (some-is _ _ (sym (r .root-node) ∙ e))
-                (top-sound (planeSpace fanout) (planeRoot fanout) t (read-sound fanout m t (x .reads) .sound)),
-          )))
-
-      sound-of : (b : Item (planeSpace fanout) (suc level)) → readNode fanout level m 0 root ≡ some b → (p : List Rect) × SoundItem (planeSpace fanout) (suc level) p b
-      sound-of = at-tree level root (x .level-is) (x .root-is)
-
-  pub tree-room : (d : Cell) (r : Near) → r ≡ nearBy d none 0 → r .visits + visitsBelow everyNode level m 0 root ≤ 256
+  pub tree-room : (d : Cell) (r : Near) → r ≡ nearBy d none 0 → r .visits + visitsBelow anyPolygon level m 0 root ≤ 256
   tree-room d r e =
       let v : r .visits ≡ 0 = ap (λ (y : Near). y .visits) e ∙ visits-near d none 0 in
-      let f = visits-few everyNode noEntry level m 0 root (tree-walkable m level root x) in
+      let f = visits-few anyPolygon anyEntry level m 0 root (tree-walkable m level root x) in
       omega arith
 
-  -- the walk of the memory is the walk of the tree
+  -- the walk in the memory is the walk of the tree
   whole-walk : (c : Cell) (w : MetBy c) → w ≡ N.start (planeSpace fanout) c → walkBelow c level m 0 root w ≡ N.walk (planeSpace fanout) c (some (x .tree))
   unfolding walkBelow walkFrom
   whole-walk c w e = rw (e, ← (x .level-is), ← (x .root-is), read-as fanout m (x .tree) (x .reads) .root-node)
 
   module _ (c d : Cell) (n r : Near) (ni : n ≡ nearBy d none 0) (e : r ≡ nearBelow c level m 0 root n) where
-    result : r ≡ nearBy c (N.nearest (planeSpace fanout) c (some (x .tree))) (N.walk (planeSpace fanout) c (some (x .tree)) .entered)
+    result : r ≡ nearBy c (best c) (entered c)
     result =
         let w = whole-walk c (metOf c n) (nothing-met c d n ni) in
         let s = walk-nearest (planeSpace fanout) (plane-space-laws fanout) c (planeRoot fanout) (some (x .tree)) (read-sound fanout m (x .tree) (x .reads) .sound) in
-        e ∙ ap (nearOf c) w ∙ ap (λ (o : Option CellEntry). nearBy c o (N.walk (planeSpace fanout) c (some (x .tree)) .entered)) s
+        e ∙ ap (nearOf c) w ∙ ap (λ (o : Option CellEntry). nearBy c o (entered c)) s
 
-    read-is : nearestRead c (reading fanout m) ≡ nearestEnd c (N.nearest (planeSpace fanout) c (some (x .tree))) (N.walk (planeSpace fanout) c (some (x .tree)) .entered)
+    read-is : nearestRead c (reading fanout m) ≡ nearestEnd c (best c) (entered c)
     unfolding nearestRead
     read-is = rw (x .reads)
 
     pub tree-nothing : r .found ≡ false → NothingHeld ≡ nearestRead c (reading fanout m)
-    unfolding nearBy
-    tree-nothing f = go (N.nearest (planeSpace fanout) c (some (x .tree))) (N.walk (planeSpace fanout) c (some (x .tree)) .entered) result f ∙ sym read-is
+    unfolding nearBy nearestEnd
+    tree-nothing f = go (best c) (entered c) result f ∙ sym read-is
       where
         go : (o : Option CellEntry) (v : ℕ) → r ≡ nearBy c o v → r .found ≡ false → NothingHeld ≡ nearestEnd c o v
-        go none v q f = unfold nearestEnd in refl
+        go none v q f = refl
         go (some a) v q f = absurd (contrary true refl (sym (ap (λ (y : Near). y .found) q) ∙ f))
 
     pub tree-found : r .found ≡ true → Found (r .x) (r .y) (r .tag) (r .distance) (r .visits) ≡ nearestRead c (reading fanout m)
     unfolding nearBy nearestEnd
-    tree-found f = go (N.nearest (planeSpace fanout) c (some (x .tree))) (N.walk (planeSpace fanout) c (some (x .tree)) .entered) result f ∙ sym read-is
+    tree-found f = go (best c) (entered c) result f ∙ sym read-is
       where
         go : (o : Option CellEntry) (v : ℕ) → r ≡ nearBy c o v → r .found ≡ true → Found (r .x) (r .y) (r .tag) (r .distance) (r .visits) ≡ nearestEnd c o v
         go none v q f = absurd (contrary false (sym (ap (λ (y : Near). y .found) q) ∙ f) refl)

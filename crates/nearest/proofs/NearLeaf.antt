@@ -1,51 +1,26 @@
--- The loop over a leaf's entries, and the distance of a node's polygon.
-use Prim.Native.Nat.{ℕ, zero, suc, _+_, _*_, _≤_, _<_}
+-- The loop over a leaf's entries.
+use Prim.Native.Nat.{ℕ, _+_, _≤_, _<_}
 use mathlib.Core.Path.{_≡_, refl, sym, ap, _∙_, subst}
-use mathlib.Core.Bool.{Bool, true, false}
+use mathlib.Core.Bool.{true}
 use mathlib.Core.List.{List, [], _∷_}
-use mathlib.Core.Option.{Option, none, some}
+use mathlib.Core.Option.{Option}
 use native.Mathlib.Omega.{arith}
-use lib.ListN.{length, drop, drop-of-length-le}
+use lib.ListN.{drop, drop-of-length-le}
 use Rattle.geometry.specs.declared.rect.Cell.{Cell}
-use Rattle.geometry.specs.declared.rect.Rect.{Rect}
-use Rattle.geometry.specs.Cells.{onGrid, allValid}
-use Rattle.geometry.specs.Numbers.{rectsIn}
+use Rattle.geometry.specs.Cells.{onGrid}
 use Rattle.tree.specs.Lists.{All}
 use Rattle.plane.specs.Lines.{CellEntry}
-use Rattle.plane.specs.Plane.{planeSpace}
-use Rattle.memory.specs.Fanout.{fanout}
-use Rattle.memory.specs.Layout.{part, rectCount, polygonIn, rectNumbers, itemCount, entryIn, entriesIn}
+use Rattle.memory.specs.Layout.{itemCount, entryIn, entriesIn}
 use Rattle.memory.proofs.ReadingLaws.{entries-length}
 use Rattle.layout.specs.declared.node.Node.{Node}
 use Rattle.layout.specs.Loaded.{nodeIn, nodeEntry}
 use Rattle.layout.specs.Nodes.{NodePart}
 use Rattle.layout.proofs.LoadedLaws.{loaded-count, loaded-cell, loaded-tag}
-use Rattle.layout.proofs.NodeLaws.{lent-polygon}
 use Rattle.index.specs.Changes.{entryOf}
 use Rattle.index.proofs.LeafLaws.{entries-next}
-use Rattle.tree.specs.Nearest.{orNearer}
-use Rattle.polygons.specs.Rules.{leastDistance}
-use Rattle.distance.specs.Distance.{rectDistance}
 use Rattle.nearest.specs.declared.near.Near.{Near}
 use Rattle.nearest.specs.Near.{nearBy, bestOf, oneMore, nearestAmong, GoodNear}
-use Rattle.nearest.specs.Below.{GoodPolygonPart}
-
--- what is made of an entry and visits gives them back
-pub best-near : (c : Cell) (o : Option CellEntry) (v : ℕ) → bestOf (nearBy c o v) ≡ o
-unfolding bestOf nearBy
-best-near c none v = refl
-best-near c (some e) v = refl
-
-pub visits-near : (c : Cell) (o : Option CellEntry) (v : ℕ) → nearBy c o v .visits ≡ v
-unfolding nearBy
-visits-near c none v = refl
-visits-near c (some e) v = refl
-
-pub good-near : (c : Cell) (r : Near) (o : Option CellEntry) (v : ℕ) → r ≡ nearBy c o v → GoodNear c r
-good-near c r o v e =
-    let b : bestOf r ≡ o = ap bestOf e ∙ best-near c o v in
-    let w : r .visits ≡ v = ap (λ (x : Near). x .visits) e ∙ visits-near c o v in
-    e ∙ ap (λ (x : Option CellEntry). nearBy c x v) (sym b) ∙ ap (nearBy c (bestOf r)) (sym w)
+use Rattle.nearest.proofs.NearMet.{best-near, visits-near, good-near}
 
 -- Before the i-th of the n entries of a leaf's part: the nearest of those before it and of what was met before the leaf.
 pub record LeafNear (c : Cell) (p : List ℕ) (r₀ : Near) (n i : ℕ) (r : Near) : Type 0 where
@@ -105,14 +80,3 @@ module _ (c : Cell) (p : List ℕ) (r₀ : Near) (n : ℕ) (leaf : Node) (l : le
               grid = here .1;
               whole = ap (λ (o : Option CellEntry). nearestAmong c o (drop (i + 1) (entriesIn p (itemCount p)))) b ∙ ap (nearestAmong c (bestOf r)) (sym next) ∙ x .whole;
             }
-
--- the polygon of a part, as its rectangles are lent
-module _ (m : List ℕ) (k : ℕ) (p l : List ℕ) (r : ℕ) (p-is : p ≡ part m k) (l-is : l ≡ rectNumbers p) (r-is : r ≡ rectCount p) (g : GoodPolygonPart m k) where
-  pub lent-some : 1 ≤ r
-  lent-some = let s = g .some-rects in let q : rectCount p ≡ rectCount (part m k) = ap rectCount p-is in omega arith
-
-  pub lent-valid : allValid (rectsIn l r) ≡ true
-  lent-valid = ap allValid (lent-polygon m k p l r p-is l-is r-is) ∙ g .valid
-
-  pub lent-distance : (c : Cell) (d : ℕ) → d ≡ leastDistance rectDistance c (rectsIn l r) → d ≡ leastDistance rectDistance c (polygonIn (part m k))
-  lent-distance c d e = e ∙ ap (leastDistance rectDistance c) (lent-polygon m k p l r p-is l-is r-is)

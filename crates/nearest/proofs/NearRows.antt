@@ -1,39 +1,34 @@
 -- The walk below a node, child by child.
-use Prim.Native.Nat.{ℕ, zero, suc, _+_, _-_, _≤_, _<_}
+use Prim.Native.Nat.{ℕ, suc, _+_, _≤_}
 use mathlib.Core.Path.{_≡_, refl, sym, ap, _∙_}
-use mathlib.Core.Bool.{Bool, true, false, cond}
+use mathlib.Core.Bool.{true, false, cond}
 use mathlib.Core.List.{List, [], _∷_, foldl}
 use mathlib.Core.Option.{Option, none, some}
 use native.Mathlib.Omega.{arith}
 use Rattle.geometry.specs.declared.rect.Cell.{Cell}
-use Rattle.geometry.specs.declared.rect.Rect.{Rect}
-use Rattle.tree.specs.Lists.{All, total}
 use Rattle.tree.specs.Nodes.{Item}
+use Rattle.tree.specs.Nearest.{enters, enter, walkNode}
 use Rattle.tree.specs.Walk.{nodeWalkVisits}
-use Rattle.tree.specs.Sound.{SoundItem}
-use Rattle.plane.specs.Lines.{CellEntry}
+use Rattle.tree.proofs.NearestWalk.{toBranch, below-few}
+use Rattle.tree.proofs.Walk.{walk-every}
 use Rattle.plane.specs.Plane.{planeSpace}
 use Rattle.memory.specs.Layout.{part, polygonIn, childrenIn, itemCount, entriesIn}
 use Rattle.memory.specs.Reading.{readRow, readNode}
 use Rattle.memory.specs.Fanout.{fanout}
 use Rattle.memory.proofs.ReadingLaws.{row-parts, leaf-parts, node-parts}
-use Rattle.index.specs.Walks.{visitsBelow, visitsFrom, Walkable}
+use Rattle.index.specs.Walks.{anyPolygon, visitsBelow, visitsFrom, Walkable}
 use Rattle.index.proofs.CheckLaws.{node-polygon}
 use Rattle.index.proofs.WalkRows.{RowWalkable}
-use Rattle.tree.specs.Nearest.{enters, enter, walkNode}
 use Rattle.nearest.specs.Near.{MetBy, nearestAmong}
-use Rattle.nearest.specs.Below.{walkFrom, walkBelow, everyNode}
+use Rattle.nearest.specs.Below.{walkFrom, walkBelow}
 
 module _ (c : Cell) where
-  -- one child
-  abbrev pub toChild : (n : ℕ) → MetBy c → Item (planeSpace fanout) (suc n) → MetBy c
-  toChild n u b = cond (enters (planeSpace fanout) c (b .poly) (u .best)) (walkNode (planeSpace fanout) c n u (b .child)) u
-
+  -- a row of children that was read, from what was met so far
   unfoldable pub rowWalk : (n : ℕ) → MetBy c → Option (List (Item (planeSpace fanout) (suc n))) → MetBy c
   rowWalk n u none = u
-  rowWalk n u (some bs) = foldl (toChild n) u bs
+  rowWalk n u (some bs) = foldl (toBranch (planeSpace fanout) c n) u bs
 
-  -- a row of children, from what was met so far
+  -- a row of children by their parts
   unfoldable pub walkRow : ℕ → List ℕ → ℕ → ℕ → List ℕ → MetBy c → MetBy c
   walkRow n m lo hi ks u = rowWalk n u (readRow (readNode fanout n m) lo hi ks)
 
@@ -79,27 +74,13 @@ module _ (c : Cell) where
       rw (x .reads, p .row)
 
   -- the walk enters at most all nodes
-  one : (t : Bool) (x y : MetBy c) (k : ℕ) → x .entered ≤ y .entered + k → cond t x y .entered ≤ y .entered + k
-  one true x y k h = h
-  one false x y k h = omega arith
-
-  along : (n : ℕ) → ((b : Item (planeSpace fanout) (suc n)) (u : MetBy c) → walkNode (planeSpace fanout) c n u (b .child) .entered ≤ u .entered + nodeWalkVisits (planeSpace fanout) everyNode n (b .child))
-      → (bs : List (Item (planeSpace fanout) (suc n))) (u : MetBy c) → foldl (toChild n) u bs .entered ≤ u .entered + total (λ b. cond (everyNode (b .poly)) (nodeWalkVisits (planeSpace fanout) everyNode n (b .child)) 0) bs
-  unfolding total everyNode
-  along n h [] u = omega arith
-  along n h (b ∷ bs) u =
-      let i = along n h bs (toChild n u b) in
-      let j = one (enters (planeSpace fanout) c (b .poly) (u .best)) (walkNode (planeSpace fanout) c n u (b .child)) u (nodeWalkVisits (planeSpace fanout) everyNode n (b .child)) (h b u) in
+  entered-few : (n : ℕ) (u : MetBy c) (items : List (Item (planeSpace fanout) n))
+      → walkNode (planeSpace fanout) c n u items .entered ≤ u .entered + nodeWalkVisits (planeSpace fanout) anyPolygon n items
+  entered-few n u items =
+      let a = below-few (planeSpace fanout) c n items u in
+      let b = walk-every (planeSpace fanout) anyPolygon (λ p. unfold anyPolygon in refl) n items in
       omega arith
 
-  entered-few : (n : ℕ) (u : MetBy c) (items : List (Item (planeSpace fanout) n)) → walkNode (planeSpace fanout) c n u items .entered ≤ u .entered + nodeWalkVisits (planeSpace fanout) everyNode n items
-  unfolding walkNode nodeWalkVisits
-  entered-few zero u es = omega arith
-  entered-few (suc n) u bs =
-      let z : walkNode (planeSpace fanout) c (suc n) u bs .entered ≤ suc (u .entered) + total (λ b. cond (everyNode (b .poly)) (nodeWalkVisits (planeSpace fanout) everyNode n (b .child)) 0) bs
-      = along n (λ b v. entered-few n v (b .child)) bs (enter (planeSpace fanout) c u) in
-      omega arith
-
-  pub walk-bound : (n : ℕ) (m : List ℕ) (lo k : ℕ) (u : MetBy c) → Walkable n m lo k → walkBelow c n m lo k u .entered ≤ u .entered + visitsBelow everyNode n m lo k
+  pub walk-bound : (n : ℕ) (m : List ℕ) (lo k : ℕ) (u : MetBy c) → Walkable n m lo k → walkBelow c n m lo k u .entered ≤ u .entered + visitsBelow anyPolygon n m lo k
   unfolding walkBelow walkFrom visitsBelow visitsFrom
   walk-bound n m lo k u x = rw (x .reads) (entered-few n u (x .node .child))

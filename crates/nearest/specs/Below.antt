@@ -1,6 +1,6 @@
 -- The walk for the nearest entry in a memory, below the node at a part.
 use Prim.Native.Nat.{ℕ, suc, _≤_}
-use mathlib.Core.Bool.{Bool, true}
+use mathlib.Core.Bool.{true}
 use mathlib.Core.List.{List}
 use mathlib.Core.Option.{Option, none, some}
 use mathlib.Core.Path.{_≡_}
@@ -30,10 +30,6 @@ walkBelow c n m lo k w = walkFrom c n w (readNode fanout n m lo k)
 
 abbrev pub nearBelow : Cell → ℕ → List ℕ → ℕ → ℕ → Near → Near
 nearBelow c n m lo k r = nearOf c (walkBelow c n m lo k (metOf c r))
-
--- a test that every polygon passes: its walk enters every node, so that its visits bound those of the walk above
-unfoldable pub everyNode : List Rect → Bool
-everyNode p = true
 
 -- the polygon at part k has a rectangle, and its rectangles are valid
 pub record GoodPolygonPart (m : List ℕ) (k : ℕ) : Type 0 where

@@ -6,9 +6,9 @@ ghost use Rattle.polygons.specs.Rules.{leastDistance};
 ghost use Rattle.geometry.specs.Cells.{onGrid};
 ghost use Rattle.distance.specs.Distance.{rectDistance};
 ghost use Rattle.memory.specs.Layout.{part, polygonIn};
-ghost use Rattle.index.specs.Walks.{visitsBelow};
+ghost use Rattle.index.specs.Walks.{anyPolygon, visitsBelow};
 ghost use Rattle.nearest.specs.Near.{GoodNear};
-ghost use Rattle.nearest.specs.Below.{nearBelow, everyNode, GoodPolygonPart, NearWalk};
+ghost use Rattle.nearest.specs.Below.{nearBelow, GoodPolygonPart, NearWalk};
 use crate::leaf::nearest_in_leaf;
 use crate::near::Near;
 use distance::least_distance;
@@ -35,7 +35,7 @@ pub fn nearest_below(m: &[u32], level: u32, lo: u32, k: u32, c: Cell, met: Near)
     requires { ⌜ NearWalk level (now m) lo k ⌝ }
     requires { ⌜ onGrid c ≡ true ⌝ }
     requires { ⌜ GoodNear c met ⌝ }
-    requires { ⌜ met .visits + visitsBelow everyNode level (now m) lo k ≤ 256 ⌝ }
+    requires { ⌜ met .visits + visitsBelow anyPolygon level (now m) lo k ≤ 256 ⌝ }
     ensures { λ r. ⌜ r ≡ nearBelow c level (now (m .entry)) lo k met ⌝ }
 {
     let entered = met.entered();

@@ -18,4 +18,5 @@ pub mod Lower
 pub mod Candidates
 pub mod LeastKey
 pub mod Cases
+pub mod NearestCases
 pub mod WorkedLine

@@ -22,7 +22,7 @@ use Rattle.tree.proofs.Order.{head-le}
 
 module _ (S : Space) (c : S .Cell) where
   -- the walk's step to one branch: it is entered or passed over
-  abbrev toBranch : (n : ℕ) → Met S c → Item S (suc n) → Met S c
+  abbrev pub toBranch : (n : ℕ) → Met S c → Item S (suc n) → Met S c
   toBranch n v b = cond (enters S c (b .poly) (v .best)) (walkNode S c n v (b .child)) v
 
   one-few : (t : Bool) (x y : Met S c) (k : ℕ) → x .entered ≤ y .entered + k → cond t x y .entered ≤ y .entered + k
@@ -38,7 +38,7 @@ module _ (S : Space) (c : S .Cell) where
       let j = one-few (enters S c (b .poly) (v .best)) (walkNode S c n v (b .child)) v (nodes S (suc n) b) (h b v) in
       omega arith
 
-  below-few : (n : ℕ) (items : List (Item S n)) (w : Met S c) → walkNode S c n w items .entered ≤ suc (w .entered + total (nodes S n) items)
+  pub below-few : (n : ℕ) (items : List (Item S n)) (w : Met S c) → walkNode S c n w items .entered ≤ suc (w .entered + total (nodes S n) items)
   unfolding walkNode nodes
   below-few zero es w = omega arith
   below-few (suc n) bs w =

@@ -82,3 +82,21 @@ total-order (a ∷ l) (b ∷ m) h k =
 
     rest : (a b : ℕ) (l m : List ℕ) → a ≡ b → comesBefore (a ∷ l) (b ∷ m) ≡ false → comesBefore l m ≡ false
     rest a b l m e h = not-true (comesBefore l m) (λ i. contrary (comesBefore (a ∷ l) (b ∷ m)) (by-rest a b l m e i) h)
+
+-- a list does not come before one that is earlier by its first number, by the rest, or that is equal
+pub not-first : (a b : ℕ) (l m : List ℕ) → b < a → comesBefore (a ∷ l) (b ∷ m) ≡ false
+not-first a b l m h = not-true (comesBefore (a ∷ l) (b ∷ m)) (λ k. let i = head-le a b l m k in omega arith)
+
+pub not-rest : (a b : ℕ) (l m : List ℕ) → a ≡ b → comesBefore l m ≡ false → comesBefore (a ∷ l) (b ∷ m) ≡ false
+not-rest a b l m e h = not-true (comesBefore (a ∷ l) (b ∷ m)) (λ k. go (compared a b l m k))
+  where
+    go : Compared a b l m → ⊥
+    go (less x) = omega arith
+    go (equal x y) = contrary (comesBefore l m) y h
+
+pub not-last : (a b : ℕ) → b ≤ a → comesBefore (a ∷ []) (b ∷ []) ≡ false
+not-last a b h = not-true (comesBefore (a ∷ []) (b ∷ [])) (λ k. go (compared a b [] [] k))
+  where
+    go : Compared a b [] [] → ⊥
+    go (less x) = omega arith
+    go (equal x y) = contrary (comesBefore [] []) y (irreflexive [])

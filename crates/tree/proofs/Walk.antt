@@ -2,12 +2,12 @@
 use Prim.Native.Nat.{ℕ, zero, suc, _+_}
 use mathlib.Core.Bool.{Bool, true, false, cond}
 use mathlib.Core.Path.{_≡_, refl, sym, ap, _∙_, subst}
-use mathlib.Core.List.{[], head?}
+use mathlib.Core.List.{List, [], head?}
 use mathlib.Core.Option.{none, some}
 use native.Mathlib.Omega.{arith}
 use Rattle.tree.specs.Lists.{keep, total, countOf}
 use Rattle.tree.specs.Space.{Space}
-use Rattle.tree.specs.Nodes.{EntryOf, Item, itemHas, held}
+use Rattle.tree.specs.Nodes.{EntryOf, Item, itemHas, held, nodes}
 use Rattle.tree.specs.Sound.{SoundItem}
 use Rattle.tree.specs.Root.{Root}
 use Rattle.tree.specs.Tree.{Index, entries, top, Sound}
@@ -96,3 +96,15 @@ module _ (S : Space) (W : Laws S) (R : Root S) (i : Index S) (s : Sound S R i) w
     -- It meets the matching entries, in depth-first order.
     pub window-entries : walkEntries S (λ p. Win .meets p w) (matching S Win w) i ≡ matches S Win w i
     window-entries = index-entries S W (λ p. Win .meets p w) mono-window (matching S Win w) (λ p e. X .cell-meets p w (e .cell)) R i s
+
+-- A walk by a test that every polygon passes enters all nodes.
+module _ (S : Space) (t : S .Poly → Bool) (every : (p : S .Poly) → t p ≡ true) where
+  pub walk-every : (n : ℕ) (items : List (Item S n)) → nodeWalkVisits S t n items ≡ suc (total (nodes S n) items)
+  unfolding nodeWalkVisits nodes
+  walk-every zero es =
+      let z = total-none (nodes S zero) es (all-any (λ e. nodes S zero e ≡ 0) es (λ e. refl)) in
+      omega arith
+  walk-every (suc n) bs =
+      let z = total-same (λ b. cond (t (b .poly)) (nodeWalkVisits S t n (b .child)) 0) (nodes S (suc n)) bs
+      (all-any (λ b. cond (t (b .poly)) (nodeWalkVisits S t n (b .child)) 0 ≡ nodes S (suc n) b) bs (λ b. rw (every (b .poly)) (let i = walk-every n (b .child) in omega arith))) in
+      omega arith

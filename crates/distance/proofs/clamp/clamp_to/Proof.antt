@@ -1,6 +1,5 @@
 -- `clamp_to` meets its contract.
 use mathlib.Core.Path.{sym}
-use native.Mathlib.Omega.{arith}
 use Rattle.distance.proofs.DistanceLaws.{clamped-low, clamped-mid, clamped-high}
 use borrow.Author.Needs.{needs}
 use Rattle.distance.proofs.clamp.clamp_to.Statement.{statement}

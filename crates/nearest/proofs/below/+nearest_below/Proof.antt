@@ -7,7 +7,9 @@ use borrow.Author.Needs.{needs}
 use Rattle.index.proofs.WalkRows.{node-part}
 use Rattle.index.proofs.WalkLoop.{child-fits}
 use Rattle.index.proofs.WalkNode.{walk-count, walk-nine, walk-child}
-use Rattle.nearest.proofs.NearLoop.{NearLoop, enter-room, good-entered, leaf-on-grid, near-leaf, near-start, near-end, near-child, near-polygon, near-room, near-good, near-miss, near-hit}
+use Rattle.nearest.proofs.NearLoop.{NearLoop, enter-room, near-leaf, near-start, near-end, near-child, near-polygon, near-room, near-good, near-miss, near-hit}
+use Rattle.nearest.proofs.NearMet.{good-entered}
+use Rattle.nearest.proofs.NearSound.{leaf-on-grid}
 use borrow.Fn.Kinds.{In}
 use borrow.Fn.PlainCycle.{Measures, is, falls, and}
 use Rattle.nearest.proofs.below.nearest_below.Reads as nearest-below

@@ -1,6 +1,6 @@
 -- `Near::enters` meets its contract.
 use borrow.Author.Tests.{not-true, not-false}
-use Rattle.nearest.proofs.NearWays.{enters-none, enters-some}
+use Rattle.nearest.proofs.NearEntry.{enters-none, enters-some}
 use Rattle.nearest.proofs.near.Near.enters.Statement.{statement}
 use Rattle.nearest.proofs.near.Near.enters.Tie as tie
 

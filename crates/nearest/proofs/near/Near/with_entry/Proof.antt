@@ -1,6 +1,6 @@
 -- `Near::with_entry` meets its contract.
 use borrow.Author.Tests.{not-true, not-false}
-use Rattle.nearest.proofs.NearWays.{take-first, take-near, keep-far, take-x, keep-x, take-y, keep-y}
+use Rattle.nearest.proofs.NearEntry.{take-first, take-near, keep-far, take-x, keep-x, take-y, keep-y}
 use borrow.Author.Needs.{needs}
 use Rattle.nearest.proofs.near.Near.with_entry.Statement.{statement}
 use Rattle.nearest.proofs.near.Near.with_entry.Tie as tie
