@@ -9,25 +9,25 @@ squared-distance-requires : tie.Need-squared-distance-requires
 squared-distance-requires c κs = search needs
 
 returns : tie.Need-returns
-returns c = search (take-first, not-true, not-false)
+returns c = search (take-first, not-true)
 
 returns-2 : tie.Need-returns-2
-returns-2 c = search (take-near, not-true, not-false)
+returns-2 c = search (take-near, not-false)
 
 returns-3 : tie.Need-returns-3
-returns-3 c = search (keep-far, not-true, not-false)
+returns-3 c = search (keep-far, not-false)
 
 returns-4 : tie.Need-returns-4
-returns-4 c = search (take-x, not-true, not-false)
+returns-4 c = search (take-x, not-false)
 
 returns-5 : tie.Need-returns-5
-returns-5 c = search (keep-x, not-true, not-false)
+returns-5 c = search (keep-x, not-false)
 
 returns-6 : tie.Need-returns-6
-returns-6 c = search (take-y, not-true, not-false)
+returns-6 c = search (take-y, not-false)
 
 returns-7 : tie.Need-returns-7
-returns-7 c = search (keep-y, not-true, not-false)
+returns-7 c = search (keep-y, not-false)
 
 pub with-entry-spec : {M : Type 1} → statement M
 with-entry-spec =
