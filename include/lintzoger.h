@@ -1,6 +1,6 @@
 /*
  * The index of calibration cells in lent memory: insertion, removal, clearing
- * and the two queries.
+ * and the three queries.
  *
  * A cell is a pair (x, y), each from 0 to 65535. An entry is a cell and a tag,
  * which is any 32-bit number; a cell has at most one entry. A window has a lower
@@ -24,7 +24,8 @@
  *                             the way, or over 16 rectangles (insertion);
  *   LINTZOGER_TOO_MANY_NODES  the tree after would have more than N nodes
  *                             (insertion);
- *   LINTZOGER_SHORT_LIST      list_len is less than 3 * matches (window query).
+ *   LINTZOGER_SHORT_LIST      list_len is less than 3 * matches (window query);
+ *   LINTZOGER_NOTHING_HELD    the index has no entry (nearest query).
  * They are tested in the order of their numbers, and the first that applies is
  * returned.
  *
@@ -51,6 +52,7 @@
 #define LINTZOGER_OVER_LIMIT 7
 #define LINTZOGER_TOO_MANY_NODES 8
 #define LINTZOGER_SHORT_LIST 9
+#define LINTZOGER_NOTHING_HELD 10
 
 /* The most parts of an index, and the length of an index of n parts. */
 #define LINTZOGER_PART_LIMIT 256
@@ -98,6 +100,18 @@ uint32_t lintzoger_window(const uint32_t *index, size_t index_len,
                           uint32_t llx, uint32_t lly, uint32_t urx, uint32_t ury,
                           uint32_t *list, size_t list_len,
                           uint32_t *matches, uint32_t *visits);
+
+/* Finds the entry nearest the cell: the one with the least squared distance,
+   (x - *near_x)^2 + (y - *near_y)^2; of several with that distance the one with
+   the least x, then the least y. Stores its cell to *near_x and *near_y, its tag
+   to *tag, the squared distance to *distance (it may be over 32 bits), and to
+   *visits the number of nodes that the search enters: the root, and each child
+   that it comes to before it met an entry, or whose polygon is at most as far as
+   the nearest entry met so far. Refuses with 1, 3, 4 and 10: nothing is stored. */
+uint32_t lintzoger_nearest(const uint32_t *index, size_t index_len,
+                           uint32_t x, uint32_t y,
+                           uint32_t *near_x, uint32_t *near_y, uint32_t *tag,
+                           uint64_t *distance, uint32_t *visits);
 
 #ifdef __cplusplus
 }
