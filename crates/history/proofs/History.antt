@@ -26,7 +26,7 @@ use Rattle.history.proofs.Answers.{Holds}
 use Rattle.history.proofs.Steps.{stepped, as-defined, holds-after}
 use Rattle.history.proofs.States.{PlaneState, one-fits, two-fit, goes, Goes}
 use Rattle.history.proofs.Visits.{point-visits}
-use Rattle.history.proofs.Nearest.{nearest-exact}
+use Rattle.history.proofs.Nearest.{tells-nearest}
 
 -- The memory m holds an index that goes with the record r.
 pub record Agrees (N : ℕ) (m : List ℕ) (r : List CellEntry) : Type 0 where
@@ -54,7 +54,7 @@ nearest-by N r (windowCall w) d g p = tt
 nearest-by N r (nearestCall c) d g p = λ f.
     rw f
     (subst (NearestExact (d .before) c r) (sym (p .told))
-    (nearest-exact (d .before) c (g .index) r (g .holds .reads) (g .state .same) (ap accepted (sym (p .told)) ∙ f)))
+    (tells-nearest (d .before) c (g .index) r (g .holds .reads) (g .state .same) (ap accepted (sym (p .told)) ∙ f)))
 
 -- What one call comes to.
 pub record CallClaim (N : ℕ) (r : List CellEntry) (d : Made) : Type 0 where

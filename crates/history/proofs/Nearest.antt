@@ -38,24 +38,12 @@ nearest-accepts m c i e n g = rw (reads-right m i e, g, e) (go (entries (planeSp
     go [] n = absurd (omega arith)
     go (f ∷ l) n = rw (nearest-some (planeSpace fanout) c f l .1)
 
--- an accepted one is on a memory that holds an index
-pub nearest-holds : (m : List ℕ) (c : Cell) → accepted (nearestTold (nearestAnswer m c)) ≡ true → (i : PlaneIndex) × (reading fanout m ≡ some i)
-unfolding nearestAnswer nearestRead
-nearest-holds m c f = go (rightLength m) (onGrid c) (reading fanout m) refl f
-  where
-    go : (a b : Bool) (o : Option PlaneIndex) → reading fanout m ≡ o
-        → accepted (nearestTold (cond a (cond b (nearestRead c o) Near.OffGrid) Near.WrongLength)) ≡ true → (i : PlaneIndex) × (reading fanout m ≡ some i)
-    go false b o e f = absurd (false≢true f)
-    go true false o e f = absurd (false≢true f)
-    go true true none e f = absurd (false≢true f)
-    go true true (some i) e f = (i, e)
-
--- An accepted one on a memory that holds the index i, where as many entries of i as of r pass any test: its answer is exact for r.
-pub nearest-exact : (m : List ℕ) (c : Cell) (i : PlaneIndex) (r : List CellEntry) → reading fanout m ≡ some i
+-- An accepted one on a memory that holds the index i is exact for r, if as many entries of i as of r pass any test.
+pub tells-nearest : (m : List ℕ) (c : Cell) (i : PlaneIndex) (r : List CellEntry) → reading fanout m ≡ some i
     → ((q : CellEntry → Bool) → countOf q (entries (planeSpace fanout) i) ≡ countOf q r)
     → accepted (nearestTold (nearestAnswer m c)) ≡ true → NearestExact m c r (nearestTold (nearestAnswer m c))
 unfolding nearestAnswer nearestRead nearestEnd
-nearest-exact m c i r e same f =
+tells-nearest m c i r e same f =
     rw e (go (rightLength m) (onGrid c) (nearest (planeSpace fanout) c i) refl (rw e at f))
   where
     go : (a b : Bool) (o : Option CellEntry) → nearest (planeSpace fanout) c i ≡ o
@@ -75,3 +63,17 @@ nearest-exact m c i r e same f =
       exact = refl;
       few = walk-few (planeSpace fanout) c i;
     }
+
+-- An accepted one on any memory: that memory holds an index, and its answer is exact for the entries of that index.
+pub nearest-on-index : (m : List ℕ) (c : Cell) → accepted (nearestTold (nearestAnswer m c)) ≡ true
+    → (i : PlaneIndex) × (reading fanout m ≡ some i) × NearestExact m c (entries (planeSpace fanout) i) (nearestTold (nearestAnswer m c))
+nearest-on-index m c f =
+    let h = index-held (rightLength m) (onGrid c) (reading fanout m) refl (unfold nearestAnswer in f) in
+    (h .0, h .1, tells-nearest m c (h .0) (entries (planeSpace fanout) (h .0)) (h .1) (λ q. refl) f)
+  where
+    index-held : (a b : Bool) (o : Option PlaneIndex) → reading fanout m ≡ o
+        → accepted (nearestTold (cond a (cond b (nearestRead c o) Near.OffGrid) Near.WrongLength)) ≡ true → (i : PlaneIndex) × (reading fanout m ≡ some i)
+    index-held false b o e f = absurd (false≢true f)
+    index-held true false o e f = absurd (false≢true f)
+    index-held true true none e f = absurd (false≢true (unfold nearestRead in f))
+    index-held true true (some i) e f = (i, e)

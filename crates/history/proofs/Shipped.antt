@@ -3,7 +3,7 @@
 use Prim.Native.Nat.{ℕ, _≤_}
 use mathlib.Core.Bool.{true}
 use mathlib.Core.Option.{some}
-use mathlib.Core.Path.{_≡_, refl, sym, ap, _∙_, subst}
+use mathlib.Core.Path.{_≡_, refl, sym, ap, _∙_}
 use mathlib.Core.List.{List, [], _∷_, map}
 use contract.Lifetimes.{Lfts}
 use denote.Ref.{now}
@@ -28,7 +28,7 @@ use Rattle.history.specs.Contract.{Kept}
 use Rattle.history.specs.Claim.{visitsTold, VisitsExact, NearestExact, HistoryClaim}
 use Rattle.history.proofs.History.{kept-history, call-visits}
 use Rattle.history.proofs.Visits.{point-accepts}
-use Rattle.history.proofs.Nearest.{nearest-accepts, nearest-holds, nearest-exact}
+use Rattle.history.proofs.Nearest.{nearest-accepts, nearest-on-index}
 use Rattle.index.proofs.clear as clear-fn
 use Rattle.index.proofs.clear.Reads as clear
 use Rattle.index.proofs.clear.Kinds as clear-kinds
@@ -187,14 +187,9 @@ pub nearest-on-sound : (s : Nearest) (i : PlaneIndex) → reading fanout (now (s
 nearest-on-sound s i e n g =
     ap (λ (x : NearestFound). accepted (nearestTold x)) (s .meets) ∙ nearest-accepts (now (s .args .0)) (s .args .1 .0) i e n g
 
--- the memory of an accepted one holds an index, whatever memory it was handed,
-pub nearest-held : (s : Nearest) → accepted (nearestTold (s .out)) ≡ true → (i : PlaneIndex) × (reading fanout (now (s .args .0)) ≡ some i)
-nearest-held s f = nearest-holds (now (s .args .0)) (s .args .1 .0) (ap (λ (x : NearestFound). accepted (nearestTold x)) (sym (s .meets)) ∙ f)
-
--- and its answer is exact for the entries of that index.
-pub nearest-told-exact : (s : Nearest) (i : PlaneIndex) → reading fanout (now (s .args .0)) ≡ some i → accepted (nearestTold (s .out)) ≡ true
-    → NearestExact (now (s .args .0)) (s .args .1 .0) (entries (planeSpace fanout) i) (nearestTold (s .out))
-nearest-told-exact s i e f =
-    subst (λ (x : NearestFound). NearestExact (now (s .args .0)) (s .args .1 .0) (entries (planeSpace fanout) i) (nearestTold x)) (sym (s .meets))
-    (nearest-exact (now (s .args .0)) (s .args .1 .0) i (entries (planeSpace fanout) i) e (λ q. refl)
-    (ap (λ (x : NearestFound). accepted (nearestTold x)) (sym (s .meets)) ∙ f))
+-- and of an accepted one the memory holds an index, whatever memory it was handed, and the answer is exact for the entries of that index.
+pub nearest-exact : (s : Nearest) → accepted (nearestTold (s .out)) ≡ true
+    → (i : PlaneIndex) × (reading fanout (now (s .args .0)) ≡ some i)
+    × NearestExact (now (s .args .0)) (s .args .1 .0) (entries (planeSpace fanout) i) (nearestTold (s .out))
+nearest-exact s f =
+    rw (s .meets) (nearest-on-index (now (s .args .0)) (s .args .1 .0) (ap (λ (x : NearestFound). accepted (nearestTold x)) (sym (s .meets)) ∙ f))
