@@ -1,5 +1,5 @@
 -- Demand 3, as one claim about a list of calls made one after another from a fresh memory.
--- docs/RULES.md 5.6, 5.7, 6.3, 6.6 to 6.14
+-- docs/RULES.md 5.7, 6.3, 6.6 to 6.15
 use Prim.Native.Nat.{ℕ, suc, _≤_}
 use mathlib.Core.Bool.{Bool, true, cond}
 use mathlib.Core.List.{List, [], _∷_}
