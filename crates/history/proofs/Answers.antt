@@ -13,8 +13,10 @@ use Rattle.tree.specs.Tree.{Tree, nodeCount}
 use Rattle.tree.specs.Insert.{refused, accepted, insertTree, limited}
 use Rattle.tree.specs.Remove.{remove}
 use Rattle.tree.specs.Query.{holds, entryAt, visits, windowVisits}
-use Rattle.tree.specs.Calls.{insertCall, removeCall, clearCall, pointCall, windowCall, insertion, removal, outcomeAnswer, answer}
+use Rattle.tree.specs.Nearest.{nearest, walk}
+use Rattle.tree.specs.Calls.{insertCall, removeCall, clearCall, pointCall, windowCall, nearestCall, insertion, removal, outcomeAnswer, answer}
 use Rattle.tree.specs.Calls.{pointAnswer as pointFound}
+use Rattle.tree.specs.Calls.{nearestEnd as nearestFound}
 use Rattle.plane.specs.Lines.{CellEntry}
 use Rattle.plane.specs.Plane.{planeSpace, planeRoot}
 use Rattle.plane.specs.Windows.{planeWindow}
@@ -22,12 +24,13 @@ use Rattle.memory.specs.Layout.{partsOf, rightLength}
 use Rattle.memory.specs.Reading.{reading}
 use Rattle.memory.proofs.ReadingLaws.{parts-are, right-length}
 use Rattle.memory.specs.Fanout.{fanout}
-use Rattle.index.specs.Answers.{PlaneIndex, insertEnd, insertRead, insertAnswer, removeEnd, removeRead, removeAnswer, clearAnswer, pointEnd, pointRead, pointAnswer, matchesIn, windowRead, windowAnswer}
-use Rattle.index.specs.Numbers.{accepts, insertTold, removeTold, clearTold, pointTold, windowTold}
+use Rattle.index.specs.Answers.{PlaneIndex, insertEnd, insertRead, insertAnswer, removeEnd, removeRead, removeAnswer, clearAnswer, pointEnd, pointRead, pointAnswer, matchesIn, windowRead, windowAnswer, nearestEnd, nearestRead, nearestAnswer}
+use Rattle.index.specs.Numbers.{accepts, insertTold, removeTold, clearTold, pointTold, windowTold, nearestTold}
 use Rattle.index.specs.declared.answer.Inserted.the-variants as I
 use Rattle.index.specs.declared.answer.Removed.the-variants as R
 use Rattle.index.specs.declared.answer.PointFound.the-variants as P
 use Rattle.index.specs.declared.answer.WindowFound.the-variants as W
+use Rattle.index.specs.declared.answer.NearestFound.the-variants as Near
 use Rattle.history.specs.Defined.{early, toldOf, toldOn}
 
 -- The memory m of N parts holds the index i.
@@ -65,6 +68,11 @@ module _ (N : ℕ) (m : List ℕ) (i : PlaneIndex) (h : Holds N m i) where
   pub window-value : (w : Rect) (len : ℕ) → windowAnswer m w len ≡ cond (valid w) (windowRead w len (some i)) W.BadWindow
   unfolding windowAnswer
   window-value w len = rw (right, h .reads)
+
+  pub nearest-value : (c : Cell) → nearestAnswer m c
+      ≡ cond (onGrid c) (nearestEnd c (nearest (planeSpace fanout) c i) (walk (planeSpace fanout) c i .entered)) Near.OffGrid
+  unfolding nearestAnswer nearestRead
+  nearest-value c = rw (right, h .reads)
 
   -- the number and values of each answer
   pub insert-told : (len : ℕ) (e : CellEntry) → insertTold (insertAnswer m len e) ≡ toldOn N i (insertCall e) len
@@ -119,3 +127,13 @@ module _ (N : ℕ) (m : List ℕ) (i : PlaneIndex) (h : Holds N m i) where
       go false b = refl
       go true true = refl
       go true false = refl
+
+  pub nearest-told : (len : ℕ) (c : Cell) → nearestTold (nearestAnswer m c) ≡ toldOn N i (nearestCall c) len
+  unfolding toldOn early toldOf answer nearestEnd
+  nearest-told len c = ap nearestTold (nearest-value c) ∙ go (onGrid c) (nearest (planeSpace fanout) c i) (walk (planeSpace fanout) c i .entered)
+    where
+      go : (a : Bool) (o : Option CellEntry) (v : ℕ) → nearestTold (cond a (nearestEnd c o v) Near.OffGrid)
+          ≡ cond (eqb (cond a 0 3) 0) (toldOf len (nearestFound (planeSpace fanout) c o v)) (record { number = cond a 0 3; values = [] })
+      go false o v = refl
+      go true none v = refl
+      go true (some e) v = refl

@@ -5,16 +5,17 @@ use mathlib.Core.Path.{_≡_, refl, sym, ap, _∙_, subst}
 use borrow.Author.Tests.{eq-eqb, ne-eqb}
 use borrow.Rule.Slice.PartMut.{same-len-mid}
 use lib.ListN.{length}
-use Rattle.tree.specs.Calls.{insertCall, removeCall, clearCall, pointCall, windowCall}
-use Rattle.index.specs.Answers.{clearAnswer, cleared, pointAnswer}
+use Rattle.tree.specs.Calls.{insertCall, removeCall, clearCall, pointCall, windowCall, nearestCall}
+use Rattle.index.specs.Answers.{clearAnswer, cleared, pointAnswer, nearestAnswer}
 use Rattle.index.specs.Changes.{entryOf, InsertCall, RemoveCall}
-use Rattle.index.specs.Numbers.{insertTold, removeTold, clearTold, pointTold, windowTold}
+use Rattle.index.specs.Numbers.{insertTold, removeTold, clearTold, pointTold, windowTold, nearestTold}
 use Rattle.index.specs.Walks.{WindowCall}
 use Rattle.index.specs.declared.answer.Inserted.{Inserted}
 use Rattle.index.specs.declared.answer.Removed.{Removed}
 use Rattle.index.specs.declared.answer.Cleared.{Cleared}
 use Rattle.index.specs.declared.answer.PointFound.{PointFound}
 use Rattle.index.specs.declared.answer.WindowFound.{WindowFound}
+use Rattle.index.specs.declared.answer.NearestFound.{NearestFound}
 use Rattle.history.specs.declared.coded.CodedCall.{CodedCall}
 use Rattle.history.specs.declared.replies.Reply.{Reply}
 use Rattle.history.specs.Calls.{IndexCall}
@@ -49,12 +50,23 @@ module _ (k : CodedCall) (m l m′ l′ : List ℕ) (r : Reply) where
       let q : callOf k ≡ pointCall (cellOf (k .a) (k .b)) = rw (ne-eqb (k .kind) 0 n, ne-eqb (k .kind) 1 o, ne-eqb (k .kind) 2 p, eq-eqb (k .kind) 3 e) in
       subst (λ (x : IndexCall). Replied x m l m′ l′ r) (sym q) (record { told = pointTold a; reply = f; kept = record { told = ap pointTold g; memory = h; list = s } })
 
-  pub replied-window : (k .kind ≡ 0 → ⊥) → (k .kind ≡ 1 → ⊥) → (k .kind ≡ 2 → ⊥) → (k .kind ≡ 3 → ⊥) → (a : WindowFound) → WindowCall m (rectOf (k .a) (k .b) (k .c) (k .d)) l l′ a → m′ ≡ m
+  pub replied-window : (k .kind ≡ 0 → ⊥) → (k .kind ≡ 1 → ⊥) → (k .kind ≡ 2 → ⊥) → (k .kind ≡ 3 → ⊥) → k .kind ≡ 4
+      → (a : WindowFound) → WindowCall m (rectOf (k .a) (k .b) (k .c) (k .d)) l l′ a → m′ ≡ m
       → r ≡ replyOf (windowTold a) → Replied (callOf k) m l m′ l′ r
   unfolding callOf
-  replied-window n o p e a g h f =
-      let q : callOf k ≡ windowCall (rectOf (k .a) (k .b) (k .c) (k .d)) = rw (ne-eqb (k .kind) 0 n, ne-eqb (k .kind) 1 o, ne-eqb (k .kind) 2 p, ne-eqb (k .kind) 3 e) in
+  replied-window n o p t e a g h f =
+      let q : callOf k ≡ windowCall (rectOf (k .a) (k .b) (k .c) (k .d)) =
+      rw (ne-eqb (k .kind) 0 n, ne-eqb (k .kind) 1 o, ne-eqb (k .kind) 2 p, ne-eqb (k .kind) 3 t, eq-eqb (k .kind) 4 e) in
       subst (λ (x : IndexCall). Replied x m l m′ l′ r) (sym q) (record { told = windowTold a; reply = f; kept = record { result = a; told = refl; contract = g; memory = h } })
+
+  pub replied-nearest : (k .kind ≡ 0 → ⊥) → (k .kind ≡ 1 → ⊥) → (k .kind ≡ 2 → ⊥) → (k .kind ≡ 3 → ⊥) → (k .kind ≡ 4 → ⊥)
+      → (a : NearestFound) → a ≡ nearestAnswer m (cellOf (k .a) (k .b)) → m′ ≡ m → l′ ≡ l
+      → r ≡ replyOf (nearestTold a) → Replied (callOf k) m l m′ l′ r
+  unfolding callOf
+  replied-nearest n o p t u a g h s f =
+      let q : callOf k ≡ nearestCall (cellOf (k .a) (k .b)) =
+      rw (ne-eqb (k .kind) 0 n, ne-eqb (k .kind) 1 o, ne-eqb (k .kind) 2 p, ne-eqb (k .kind) 3 t, ne-eqb (k .kind) 4 u) in
+      subst (λ (x : IndexCall). Replied x m l m′ l′ r) (sym q) (record { told = nearestTold a; reply = f; kept = record { told = ap nearestTold g; memory = h; list = s } })
 
 -- A call with its part of the lent list, and its answer stored.
 pub one-made : (l : List ℕ) (i : ℕ) (m p a m′ left a′ : List ℕ) (k : CodedCall) (r : Reply) → k ≡ codedAt l i → Replied (callOf k) m (partFor l i p) m′ left r → length m′ ≡ length m

@@ -6,8 +6,8 @@ use mathlib.Core.Path.{refl, sym, ap, _∙_, subst}
 use native.Mathlib.Omega.{arith}
 use lib.ListN.{length, length-replicate}
 use Rattle.tree.specs.Lists.{All}
-use Rattle.tree.specs.Record.{recordOf}
-use Rattle.tree.specs.Calls.{insertCall, removeCall, clearCall, pointCall, windowCall}
+use Rattle.tree.specs.Record.{recorded, recordOf}
+use Rattle.tree.specs.Calls.{insertCall, removeCall, clearCall, pointCall, windowCall, nearestCall}
 use Rattle.tree.proofs.Claim.{index-claim}
 use Rattle.plane.specs.Lines.{CellEntry}
 use Rattle.plane.specs.Plane.{planeSpace, planeRoot}
@@ -21,11 +21,12 @@ use Rattle.index.specs.Answers.{PlaneIndex}
 use Rattle.history.specs.Calls.{IndexCall, Made, accepted, fed, freshMemory, Linked, recordFrom}
 use Rattle.history.specs.Contract.{KeptBy, Kept}
 use Rattle.history.specs.Defined.{indexAfter, AsDefined}
-use Rattle.history.specs.Claim.{ReportedAll, PointVisits, visitsTold, VisitsExact, HistoryClaim}
+use Rattle.history.specs.Claim.{EachWith, Reports, PointVisits, visitsTold, VisitsExact, NearestExact, NearestBy, TellsNearest, HistoryClaim}
 use Rattle.history.proofs.Answers.{Holds}
 use Rattle.history.proofs.Steps.{stepped, as-defined, holds-after}
 use Rattle.history.proofs.States.{PlaneState, one-fits, two-fit, goes, Goes}
 use Rattle.history.proofs.Visits.{point-visits}
+use Rattle.history.proofs.Nearest.{tells-nearest}
 
 -- The memory m holds an index that goes with the record r.
 pub record Agrees (N : ℕ) (m : List ℕ) (r : List CellEntry) : Type 0 where
@@ -41,36 +42,52 @@ fresh-agrees N a b = record {
   state = record { sound = tt; room = omega arith; same = λ q. refl };
 }
 
+-- An accepted nearest query, with the record after it.
+nearest-by : (N : ℕ) (r : List CellEntry) (k : IndexCall) (d : Made) → Agrees N (d .before) r → KeptBy k d
+    → NearestBy k (d .before) (d .told) (fed r k (accepted (d .told)))
+unfolding recorded
+nearest-by N r (insertCall e) d g p = tt
+nearest-by N r (removeCall c) d g p = tt
+nearest-by N r clearCall d g p = tt
+nearest-by N r (pointCall c) d g p = tt
+nearest-by N r (windowCall w) d g p = tt
+nearest-by N r (nearestCall c) d g p = λ f.
+    rw f
+    (subst (NearestExact (d .before) c r) (sym (p .told))
+    (tells-nearest (d .before) c (g .index) r (g .holds .reads) (g .state .same) (ap accepted (sym (p .told)) ∙ f)))
+
 -- What one call comes to.
 pub record CallClaim (N : ℕ) (r : List CellEntry) (d : Made) : Type 0 where
   pub defined : AsDefined N d
-  pub report : ReportedAll r (d ∷ [])
+  pub report : Reports d (fed r (d .call) (accepted (d .told)))
+  pub nearest : TellsNearest d (fed r (d .call) (accepted (d .told)))
   pub agrees : Agrees N (d .after) (fed r (d .call) (accepted (d .told)))
 
 pub call-claim : (N : ℕ) (r : List CellEntry) (d : Made) → Agrees N (d .before) r → Kept d → CallClaim N r d
-unfolding ReportedAll
 call-claim N r d g p =
     let s = stepped N (g .index) d (g .holds) p in
     let t = subst (Goes N (g .index) (length (d .lent)) r (d .call) (indexAfter N (g .index) (d .call) (length (d .lent)))) (sym (s .answer)) (goes N (g .index) (length (d .lent)) r (d .call) (g .state)) in
     record {
       defined = as-defined N (g .index) d (g .holds) s;
-      report = (t .report, tt);
+      report = t .report;
+      nearest = nearest-by N r (d .call) d g p;
       agrees = record { index = indexAfter N (g .index) (d .call) (length (d .lent)); holds = holds-after N (g .index) d (g .holds) s; state = t .state };
     }
 
 -- A list of calls.
 pub record ListClaim (N : ℕ) (r : List CellEntry) (ds : List Made) (m : List ℕ) : Type 0 where
   pub defined : All (AsDefined N) ds
-  pub reported : ReportedAll r ds
+  pub reported : EachWith Reports r ds
+  pub nearest : EachWith TellsNearest r ds
   pub agrees : Agrees N m (recordFrom r ds)
 
 pub list-claim : (N : ℕ) (ds : List Made) (r : List CellEntry) (m m′ : List ℕ) → Agrees N m r → All Kept ds → Linked m ds m′ → ListClaim N r ds m′
-unfolding All Linked ReportedAll recordOf
-list-claim N [] r m m′ g p l = record { defined = tt; reported = tt; agrees = subst (λ x. Agrees N x r) (sym l) g }
+unfolding All Linked EachWith recordOf
+list-claim N [] r m m′ g p l = record { defined = tt; reported = tt; nearest = tt; agrees = subst (λ x. Agrees N x r) (sym l) g }
 list-claim N (d ∷ ds) r m m′ g p l =
     let c = call-claim N r d (subst (λ x. Agrees N x r) (sym (l .0)) g) (p .0) in
     let n = list-claim N ds (fed r (d .call) (accepted (d .told))) (d .after) m′ (c .agrees) (p .1) (l .1) in
-    record { defined = (c .defined, n .defined); reported = (c .report .0, n .reported); agrees = n .agrees }
+    record { defined = (c .defined, n .defined); reported = (c .report, n .reported); nearest = (c .nearest, n .nearest); agrees = n .agrees }
 
 -- An accepted point query, on any memory.
 visits-by : (k : IndexCall) (d : Made) → KeptBy k d → PointVisits k (d .before) (d .told)
@@ -79,6 +96,7 @@ visits-by (removeCall c) d p = tt
 visits-by clearCall d p = tt
 visits-by (pointCall c) d p = λ f. subst (λ t. VisitsExact (d .before) c (visitsTold t)) (sym (p .told)) (point-visits (d .before) c (ap accepted (sym (p .told)) ∙ f))
 visits-by (windowCall w) d p = tt
+visits-by (nearestCall c) d p = tt
 
 pub call-visits : (d : Made) → Kept d → PointVisits (d .call) (d .before) (d .told)
 call-visits d p = visits-by (d .call) d p
@@ -109,4 +127,5 @@ kept-history N a b ds m p l =
       covers = t .covers;
       reported = c .reported;
       visits = all-visits ds p;
+      nearest = c .nearest;
     }

@@ -7,16 +7,19 @@ use Rattle.polygons.specs.Lists.{any}
 use Rattle.geometry.specs.Cells.{onGrid, valid, hasCell, nonEmpty}
 use Rattle.geometry.specs.Common.{overlap, sharesWith}
 use Rattle.geometry.specs.Grow.{grown}
+use Rattle.distance.specs.Distance.{gap, squared}
 use Rattle.tree.specs.Lists.{keep, total}
 use Rattle.tree.specs.Boxes.{anyHas}
 use Rattle.tree.specs.Nodes.{held, nodes}
 use Rattle.tree.specs.Split.{split}
 use Rattle.tree.specs.Depth.{itemPolygons}
 use Rattle.tree.specs.Insert.{insertAt, insertTree}
+use Rattle.tree.specs.Nearest.{orNearer, walkNode}
+use Rattle.tree.specs.Order.{comesBefore}
 use Rattle.tree.specs.Remove.{prune}
 use Rattle.plane.specs.Plane.{cellRect}
 use Rattle.plane.specs.Windows.{meets}
-use Rattle.tree.specs.Calls.{insertCall, removeCall, clearCall, pointCall, windowCall, answer, after}
+use Rattle.tree.specs.Calls.{insertCall, removeCall, clearCall, pointCall, windowCall, nearestCall, answer, after}
 use Rattle.index.specs.Answers.{PlaneIndex}
 use Rattle.index.specs.Changes.{entryOf}
 use Rattle.index.specs.Numbers.{Told, refusal, accepts}
@@ -55,3 +58,25 @@ pub sample : toldAll none sample-input
     ∷ []
 unfolding toldAll toldOn indexAfter early toldOf answer after onGrid any insertTree total nodes flatMap held bind insertAt split keep valid itemPolygons hasCell prune anyHas meets grown sharesWith cellRect nonEmpty overlap
 sample = refl
+
+-- Nearest queries between its first two entries: nothing is held, the nearer one, a tie that goes to the smaller x, the entry itself.
+abbrev pub nearest-input : List IndexCall
+nearest-input =
+    nearestCall (cellOf 15 11)
+    ∷ insertCall (entryOf (cellOf 20 12) 9)
+    ∷ insertCall (entryOf (cellOf 10 10) 7)
+    ∷ nearestCall (cellOf 16 10)
+    ∷ nearestCall (cellOf 15 11)
+    ∷ nearestCall (cellOf 10 10)
+    ∷ []
+
+pub nearest-sample : toldAll none nearest-input
+    ≡ refusal 10
+    ∷ accepts (1 ∷ [])
+    ∷ accepts (2 ∷ [])
+    ∷ accepts (20 ∷ 12 ∷ 9 ∷ 20 ∷ 1 ∷ [])
+    ∷ accepts (10 ∷ 10 ∷ 7 ∷ 26 ∷ 1 ∷ [])
+    ∷ accepts (10 ∷ 10 ∷ 7 ∷ 0 ∷ 1 ∷ [])
+    ∷ []
+unfolding toldAll toldOn indexAfter early toldOf answer after onGrid any insertTree total nodes flatMap held bind insertAt split keep hasCell anyHas grown sharesWith cellRect nonEmpty overlap orNearer walkNode comesBefore gap squared
+nearest-sample = refl

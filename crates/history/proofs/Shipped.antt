@@ -3,27 +3,32 @@
 use Prim.Native.Nat.{ℕ, _≤_}
 use mathlib.Core.Bool.{true}
 use mathlib.Core.Option.{some}
-use mathlib.Core.Path.{_≡_, refl, ap, _∙_}
+use mathlib.Core.Path.{_≡_, refl, sym, ap, _∙_}
 use mathlib.Core.List.{List, [], _∷_, map}
 use contract.Lifetimes.{Lfts}
 use denote.Ref.{now}
 use borrow.Fn.Kinds.{endedOf}
 use denote.Triple.Clauses.{AtExit}
 use borrow.Fn.World.{ArgsD, ResD}
+use lib.ListN.{length}
 use Rattle.geometry.specs.Cells.{onGrid}
 use Rattle.tree.specs.Lists.{All}
-use Rattle.tree.specs.Calls.{insertCall, removeCall, clearCall, pointCall, windowCall}
+use Rattle.tree.specs.Tree.{entries}
+use Rattle.tree.specs.Calls.{insertCall, removeCall, clearCall, pointCall, windowCall, nearestCall}
+use Rattle.plane.specs.Plane.{planeSpace}
 use Rattle.memory.specs.Reading.{reading}
 use Rattle.memory.specs.Fanout.{fanout}
 use Rattle.index.specs.Answers.{PlaneIndex}
 use Rattle.index.specs.Changes.{entryOf}
 use Rattle.index.specs.declared.answer.PointFound.{PointFound}
-use Rattle.index.specs.Numbers.{insertTold, removeTold, clearTold, pointTold, windowTold}
+use Rattle.index.specs.declared.answer.NearestFound.{NearestFound}
+use Rattle.index.specs.Numbers.{insertTold, removeTold, clearTold, pointTold, windowTold, nearestTold}
 use Rattle.history.specs.Calls.{Made, accepted, freshMemory, Linked}
 use Rattle.history.specs.Contract.{Kept}
-use Rattle.history.specs.Claim.{visitsTold, VisitsExact, HistoryClaim}
+use Rattle.history.specs.Claim.{visitsTold, VisitsExact, NearestExact, HistoryClaim}
 use Rattle.history.proofs.History.{kept-history, call-visits}
 use Rattle.history.proofs.Visits.{point-accepts}
+use Rattle.history.proofs.Nearest.{nearest-accepts, nearest-on-index}
 use Rattle.index.proofs.clear as clear-fn
 use Rattle.index.proofs.clear.Reads as clear
 use Rattle.index.proofs.clear.Kinds as clear-kinds
@@ -39,6 +44,9 @@ use Rattle.removal.proofs.remove.Kinds as remove-kinds
 use Rattle.insertion.proofs.insert as insert-fn
 use Rattle.insertion.proofs.insert.Reads as insert
 use Rattle.insertion.proofs.insert.Kinds as insert-kinds
+use Rattle.nearest.proofs.nearest as nearest-fn
+use Rattle.nearest.proofs.nearest.Reads as nearest
+use Rattle.nearest.proofs.nearest.Kinds as nearest-kinds
 
 -- A call of `insert`: the index, the work area, the cell, the tag.
 pub record Insert : Type 0 where
@@ -80,12 +88,21 @@ pub record Window : Type 0 where
   pub exits : AtExit (endedOf 2 window-kinds.ps window-kinds.r) κs
   pub meets : window.Post κs args out exits
 
+-- A call of `nearest`: the index, to read only, and the cell.
+pub record Nearest : Type 0 where
+  pub κs : Lfts 1
+  pub args : ArgsD nearest-fn.signature κs
+  pub out : ResD nearest-fn.signature κs
+  pub exits : AtExit (endedOf 1 nearest-kinds.ps nearest-kinds.r) κs
+  pub meets : nearest.Post κs args out exits
+
 pub data Step : Type 0 where
   inserts : Insert → Step
   removes : Remove → Step
   clears : Clear → Step
   points : Point → Step
   windows : Window → Step
+  nearests : Nearest → Step
 
 -- What a step was handed, and what came of it. A step that is lent the index to read only leaves it as it is.
 abbrev pub made : Step → Made
@@ -129,6 +146,14 @@ made (windows s) = record {
   left = now (s .exits .1 .1 .0);
   told = windowTold (s .out);
 }
+made (nearests s) = record {
+  call = nearestCall (s .args .1 .0);
+  before = now (s .args .0);
+  after = now (s .args .0);
+  lent = [];
+  left = [];
+  told = nearestTold (s .out);
+}
 
 -- A step's own contract is what the claim rests on.
 kept : (s : Step) → Kept (made s)
@@ -137,6 +162,7 @@ kept (removes s) = record { result = s .out; told = refl; contract = s .meets; l
 kept (clears s) = record { told = ap clearTold (s .meets .0); memory = s .meets .1; list = refl }
 kept (points s) = record { told = ap pointTold (s .meets); memory = refl; list = refl }
 kept (windows s) = record { result = s .out; told = refl; contract = s .meets; memory = refl }
+kept (nearests s) = record { told = ap nearestTold (s .meets); memory = refl; list = refl }
 
 all-kept : (ss : List Step) → All Kept (map made ss)
 unfolding All
@@ -154,3 +180,16 @@ point-on-sound s i e g = ap (λ (x : PointFound). accepted (pointTold x)) (s .me
 -- and the visits of an accepted one are exact and at most the height, whatever memory it was handed.
 pub point-exact : (s : Point) → accepted (pointTold (s .out)) ≡ true → VisitsExact (now (s .args .0)) (s .args .1 .0) (visitsTold (pointTold (s .out)))
 point-exact s = call-visits (made (points s)) (kept (points s))
+
+-- The same of nearest queries: on every memory that holds an index with an entry, one of a cell on the grid is accepted,
+pub nearest-on-sound : (s : Nearest) (i : PlaneIndex) → reading fanout (now (s .args .0)) ≡ some i → 1 ≤ length (entries (planeSpace fanout) i)
+    → onGrid (s .args .1 .0) ≡ true → accepted (nearestTold (s .out)) ≡ true
+nearest-on-sound s i e n g =
+    ap (λ (x : NearestFound). accepted (nearestTold x)) (s .meets) ∙ nearest-accepts (now (s .args .0)) (s .args .1 .0) i e n g
+
+-- and of an accepted one the memory holds an index, whatever memory it was handed, and the answer is exact for the entries of that index.
+pub nearest-exact : (s : Nearest) → accepted (nearestTold (s .out)) ≡ true
+    → (i : PlaneIndex) × (reading fanout (now (s .args .0)) ≡ some i)
+    × NearestExact (now (s .args .0)) (s .args .1 .0) (entries (planeSpace fanout) i) (nearestTold (s .out))
+nearest-exact s f =
+    rw (s .meets) (nearest-on-index (now (s .args .0)) (s .args .1 .0) (ap (λ (x : NearestFound). accepted (nearestTold x)) (sym (s .meets)) ∙ f))

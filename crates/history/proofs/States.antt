@@ -7,6 +7,7 @@ use mathlib.Core.Path.{_≡_, refl, sym, ap, _∙_, subst}
 use native.Mathlib.Omega.{arith}
 use lib.Dec.{leb, eqb}
 use lib.ListN.{length}
+use Rattle.geometry.specs.declared.rect.Cell.{Cell}
 use Rattle.geometry.specs.declared.rect.Rect.{Rect}
 use Rattle.geometry.specs.Cells.{onGrid}
 use Rattle.tree.specs.Tree.{Tree, nodeCount}
@@ -14,7 +15,8 @@ use Rattle.tree.specs.Insert.{Outcome, refused, limited, insertTree}
 use Rattle.tree.specs.Insert.{accepted as acceptedAs}
 use Rattle.tree.specs.Remove.{remove}
 use Rattle.tree.specs.Query.{holds, entryAt, visits}
-use Rattle.tree.specs.Calls.{insertCall, removeCall, clearCall, pointCall, windowCall, isAccepted, outcomeAnswer, insertion, removal, answer}
+use Rattle.tree.specs.Nearest.{nearest, walk}
+use Rattle.tree.specs.Calls.{insertCall, removeCall, clearCall, pointCall, windowCall, nearestCall, isAccepted, outcomeAnswer, insertion, removal, nearestEnd, answer}
 use Rattle.tree.specs.Calls.{pointAnswer as pointFound}
 use Rattle.tree.specs.Record.{recorded}
 use Rattle.tree.specs.Claim.{Reported, OnGrid}
@@ -55,6 +57,7 @@ module _ (N : ℕ) (i : PlaneIndex) (len : ℕ) where
   on-grid clearCall f = tt
   on-grid (pointCall c) f = tt
   on-grid (windowCall w) f = tt
+  on-grid (nearestCall c) f = tt
 
   -- an insertion is accepted by its number exactly where the tree's answer accepts
   insert-accepts : (c : Bool) (t : Option (Tree (planeSpace fanout)))
@@ -77,6 +80,13 @@ module _ (N : ℕ) (i : PlaneIndex) (len : ℕ) where
   remove-accepts true j = refl
   remove-accepts false j = refl
 
+  -- so is a nearest query
+  nearest-accepts : (c : Cell) (o : Option CellEntry) (v : ℕ) → accepted (toldOf len (nearestEnd (planeSpace fanout) c o v))
+      ≡ isAccepted (nearestEnd (planeSpace fanout) c o v)
+  unfolding toldOf
+  nearest-accepts c none v = refl
+  nearest-accepts c (some e) v = refl
+
   -- the record is fed the same by the number as by the tree's answer
   fed-point : (r : List CellEntry) (k : IndexCall) (o : Option CellEntry) (v : ℕ) → fed r k true ≡ fed r k (accepted (toldOf len (pointFound o v)))
   unfolding toldOf
@@ -96,6 +106,7 @@ module _ (N : ℕ) (i : PlaneIndex) (len : ℕ) where
   fed-same r clearCall = refl
   fed-same r (pointCall c) = fed-point r (pointCall c) (entryAt (planeSpace fanout) c i) (visits (planeSpace fanout) c i)
   fed-same r (windowCall w) = fed-window r w _
+  fed-same r (nearestCall c) = ap (fed r (nearestCall c)) (sym (nearest-accepts c (nearest (planeSpace fanout) c i) (walk (planeSpace fanout) c i .entered)))
 
   -- the entries reported
   outcome-reports : (o : Outcome (planeSpace fanout)) (r : List CellEntry) → Reported (planeSpace fanout) (outcomeAnswer (planeSpace fanout) o) r
@@ -117,6 +128,7 @@ module _ (N : ℕ) (i : PlaneIndex) (len : ℕ) where
   reports r clearCall g f c = ap (λ n. n ∷ []) g
   reports r (pointCall c) g f d = absurd (false≢true d)
   reports r (windowCall w) g f d = absurd (false≢true d)
+  reports r (nearestCall c) g f d = absurd (false≢true d)
 
   -- What is carried on by a call that was told t and left the index j.
   pub record Goes (r : List CellEntry) (k : IndexCall) (j : PlaneIndex) (t : Told) : Type 0 where

@@ -28,7 +28,7 @@ reads-sound m none e = tt
 reads-sound m (some t) e = read-sound fanout m t e .sound
 
 -- and its memory has a right length
-reads-right : (m : List ℕ) (i : PlaneIndex) → reading fanout m ≡ some i → rightLength m ≡ true
+pub reads-right : (m : List ℕ) (i : PlaneIndex) → reading fanout m ≡ some i → rightLength m ≡ true
 reads-right m none e = read-empty fanout m e .0
 reads-right m (some t) e = read-sound fanout m t e .right
 

@@ -1,5 +1,5 @@
 -- Demand 3, as one claim about a list of calls made one after another from a fresh memory.
--- docs/RULES.md 5.7, 6.3, 6.6 to 6.14
+-- docs/RULES.md 5.7, 6.3, 6.6 to 6.15
 use Prim.Native.Nat.{ℕ, suc, _≤_}
 use mathlib.Core.Bool.{Bool, true, cond}
 use mathlib.Core.List.{List, [], _∷_}
@@ -8,11 +8,13 @@ use mathlib.Core.Path.{_≡_}
 use lib.ListN.{length, getD}
 use Rattle.geometry.specs.declared.rect.Cell.{Cell}
 use Rattle.geometry.specs.declared.rect.Rect.{Rect}
+use Rattle.distance.specs.Distance.{squared}
 use Rattle.tree.specs.Lists.{All, countOf, nth}
 use Rattle.tree.specs.Tree.{Sound, height, entries, nodeCount}
 use Rattle.tree.specs.Depth.{polygons, polygonsAt, leaves, leafDepths, edges}
 use Rattle.tree.specs.Query.{ofCell, holds}
-use Rattle.tree.specs.Calls.{insertCall, removeCall, clearCall, pointCall, windowCall}
+use Rattle.tree.specs.Nearest.{IsNearest, walk}
+use Rattle.tree.specs.Calls.{insertCall, removeCall, clearCall, pointCall, windowCall, nearestCall}
 use Rattle.tree.specs.Claim.{leafHolds, leafCovers}
 use Rattle.plane.specs.Lines.{CellEntry}
 use Rattle.plane.specs.Plane.{planeSpace, planeRoot}
@@ -27,15 +29,15 @@ use Rattle.history.specs.Defined.{AsDefined}
 abbrev pub polygonHas : Cell → List Rect → Bool
 polygonHas c p = planeSpace fanout .has p c
 
+-- A statement about each call of a list and the record after that call, where r is the record before the list.
+unfoldable pub EachWith : (Made → List CellEntry → Type 0) → List CellEntry → List Made → Type 0
+EachWith P r [] = Unit {0}
+EachWith P r (d ∷ ds) =
+    P d (fed r (d .call) (accepted (d .told))) × EachWith P (fed r (d .call) (accepted (d .told))) ds
+
 -- 'Wherever a call reports the number of entries held, that is the record's length after the call.' r is the record after it.
 abbrev pub Reports : Made → List CellEntry → Type 0
 Reports d r = accepted (d .told) ≡ true → isChange (d .call) ≡ true → d .told .values ≡ length r ∷ []
-
--- so for every call of a list, where r is the record before it
-unfoldable pub ReportedAll : List CellEntry → List Made → Type 0
-ReportedAll r [] = Unit {0}
-ReportedAll r (d ∷ ds) =
-    Reports d (fed r (d .call) (accepted (d .told))) × ReportedAll (fed r (d .call) (accepted (d .told))) ds
 
 -- the visits that an accepted point query reports: its second value
 abbrev pub visitsTold : Told → ℕ
@@ -56,6 +58,35 @@ PointVisits (removeCall c) m t = Unit {0}
 PointVisits clearCall m t = Unit {0}
 PointVisits (pointCall c) m t = accepted t ≡ true → VisitsExact m c (visitsTold t)
 PointVisits (windowCall w) m t = Unit {0}
+PointVisits (nearestCall c) m t = Unit {0}
+
+-- What a nearest query of c told on a memory m that holds an index, where r are the entries held: 'The answer is the entry, the squared
+-- distance and the number of nodes entered.'
+pub record NearestExact (m : List ℕ) (c : Cell) (r : List CellEntry) (t : Told) : Type 0 where
+  pub entry : CellEntry
+  pub visits : ℕ
+  pub told : t .values ≡ entry .cell .x ∷ entry .cell .y ∷ entry .tag ∷ squared c (entry .cell) ∷ visits ∷ []
+  -- 'the entry nearest a given cell, by (dx)² + (dy)², ties to the smaller x, then the smaller y': one of r, and none of r is nearer
+  pub nearest : IsNearest (planeSpace fanout) c r entry
+  pub index : PlaneIndex
+  pub reads : reading fanout m ≡ some index
+  -- 'Passing over may only save visits': the walk meets this entry
+  pub met : walk (planeSpace fanout) c index .best ≡ some entry
+  pub exact : visits ≡ walk (planeSpace fanout) c index .entered
+  -- 'Visits are at most the number of nodes.'
+  pub few : visits ≤ nodeCount (planeSpace fanout) index
+
+-- so for a call with the record after it, if it is an accepted nearest query: it leaves the record alone
+abbrev pub NearestBy : IndexCall → List ℕ → Told → List CellEntry → Type 0
+NearestBy (insertCall e) m t r = Unit {0}
+NearestBy (removeCall c) m t r = Unit {0}
+NearestBy clearCall m t r = Unit {0}
+NearestBy (pointCall c) m t r = Unit {0}
+NearestBy (windowCall w) m t r = Unit {0}
+NearestBy (nearestCall c) m t r = accepted t ≡ true → NearestExact m c r t
+
+abbrev pub TellsNearest : Made → List CellEntry → Type 0
+TellsNearest d r = NearestBy (d .call) (d .before) (d .told) r
 
 -- The claim about the list ds of calls from a fresh memory of N parts, which left the memory m.
 pub record HistoryClaim (N : ℕ) (ds : List Made) (m : List ℕ) : Type 0 where
@@ -83,7 +114,10 @@ pub record HistoryClaim (N : ℕ) (ds : List Made) (m : List ℕ) : Type 0 where
   -- "and the polygon of that leaf has its cell."
   pub covers : All (leafCovers (planeSpace fanout)) (leaves (planeSpace fanout) index)
   -- "Wherever a call reports the number of entries held, that is the record's length after the call."
-  pub reported : ReportedAll [] ds
+  pub reported : EachWith Reports [] ds
   -- "Every accepted point query, in such a list .., reports as visits exactly the number of nodes whose polygon has its cell, and they are
   -- at most the height."
   pub visits : All (λ d. PointVisits (d .call) (d .before) (d .told)) ds
+  -- Request A.1: an accepted nearest query tells an entry of the record at that call, none of the record is nearer, and 'Visits are
+  -- at most the number of nodes.'
+  pub nearest : EachWith TellsNearest [] ds

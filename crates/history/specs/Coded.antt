@@ -6,7 +6,7 @@ use lib.Dec.{leb, ltb, eqb}
 use lib.ListN.{getD, take, drop, length}
 use Rattle.geometry.specs.declared.rect.Rect.{Rect}
 use Rattle.geometry.specs.declared.rect.Cell.{Cell}
-use Rattle.tree.specs.Calls.{insertCall, removeCall, clearCall, pointCall, windowCall}
+use Rattle.tree.specs.Calls.{insertCall, removeCall, clearCall, pointCall, windowCall, nearestCall}
 use Rattle.index.specs.Changes.{entryOf}
 use Rattle.history.specs.declared.coded.CodedCall.{CodedCall}
 use Rattle.history.specs.Calls.{IndexCall}
@@ -35,13 +35,15 @@ fromAt l i = getD l (7 * i + 1) 0
 abbrev pub toAt : List ℕ → ℕ → ℕ
 toAt l i = getD l (7 * i + 2) 0
 
--- 0 insertion of (a, b) with the tag c, 1 removal of (a, b), 2 clear, 3 point query of (a, b), 4 window query of (a, b)-(c, d)
+-- 0 insertion of (a, b) with the tag c, 1 removal of (a, b), 2 clear, 3 point query of (a, b), 4 window query of (a, b)-(c, d),
+-- 5 nearest query of (a, b)
 unfoldable pub callOf : CodedCall → IndexCall
 callOf k =
     cond (eqb (k .kind) 0) (insertCall (entryOf (cellOf (k .a) (k .b)) (k .c)))
     (cond (eqb (k .kind) 1) (removeCall (cellOf (k .a) (k .b)))
     (cond (eqb (k .kind) 2) clearCall
-    (cond (eqb (k .kind) 3) (pointCall (cellOf (k .a) (k .b))) (windowCall (rectOf (k .a) (k .b) (k .c) (k .d))))))
+    (cond (eqb (k .kind) 3) (pointCall (cellOf (k .a) (k .b)))
+    (cond (eqb (k .kind) 4) (windowCall (rectOf (k .a) (k .b) (k .c) (k .d))) (nearestCall (cellOf (k .a) (k .b)))))))
 
 -- the first n calls of a list
 unfoldable pub callsIn : List ℕ → ℕ → List IndexCall
@@ -52,12 +54,12 @@ callsIn l (suc n) = callsIn l n ++ (callOf (codedAt l n) ∷ [])
 -- answer.
 unfoldable pub callFits : List ℕ → ℕ → ℕ → ℕ → Bool
 callFits l i lent answers =
-    ltb i (length l / 7) && ltb i (answers / 4) && leb (getD l (7 * i) 0) 4 && leb (fromAt l i) (toAt l i) && leb (toAt l i) lent
+    ltb i (length l / 7) && ltb i (answers / 8) && leb (getD l (7 * i) 0) 5 && leb (fromAt l i) (toAt l i) && leb (toAt l i) lent
 
 -- what that says in numbers
 pub record Fits (l : List ℕ) (i lent answers : ℕ) : Type 0 where
   pub there : 7 * i + 7 ≤ length l
-  pub room : 4 * i + 4 ≤ answers
+  pub room : 8 * i + 8 ≤ answers
   pub ordered : fromAt l i ≤ toAt l i
   pub inside : toAt l i ≤ lent
 

@@ -3,11 +3,11 @@
 use mathlib.Core.Path.{_≡_}
 use Rattle.geometry.specs.declared.rect.Cell.{Cell}
 use Rattle.geometry.specs.declared.rect.Rect.{Rect}
-use Rattle.tree.specs.Calls.{insertCall, removeCall, clearCall, pointCall, windowCall}
+use Rattle.tree.specs.Calls.{insertCall, removeCall, clearCall, pointCall, windowCall, nearestCall}
 use Rattle.plane.specs.Lines.{CellEntry}
-use Rattle.index.specs.Answers.{clearAnswer, cleared, pointAnswer}
+use Rattle.index.specs.Answers.{clearAnswer, cleared, pointAnswer, nearestAnswer}
 use Rattle.index.specs.Changes.{InsertCall, RemoveCall}
-use Rattle.index.specs.Numbers.{insertTold, removeTold, clearTold, pointTold, windowTold}
+use Rattle.index.specs.Numbers.{insertTold, removeTold, clearTold, pointTold, windowTold, nearestTold}
 use Rattle.index.specs.Walks.{WindowCall}
 use Rattle.index.specs.declared.answer.Inserted.{Inserted}
 use Rattle.index.specs.declared.answer.Removed.{Removed}
@@ -46,6 +46,12 @@ pub record WindowKept (w : Rect) (d : Made) : Type 0 where
   pub contract : WindowCall (d .before) w (d .lent) (d .left) result
   pub memory : d .after ≡ d .before
 
+-- A nearest query of c. It is lent the index to read only.
+pub record NearestKept (c : Cell) (d : Made) : Type 0 where
+  pub told : d .told ≡ nearestTold (nearestAnswer (d .before) c)
+  pub memory : d .after ≡ d .before
+  pub list : d .left ≡ d .lent
+
 -- The call d, of this kind, kept the contract of its function.
 abbrev pub KeptBy : IndexCall → Made → Type 0
 KeptBy (insertCall e) d = InsertKept e d
@@ -53,6 +59,7 @@ KeptBy (removeCall c) d = RemoveKept c d
 KeptBy clearCall d = ClearKept d
 KeptBy (pointCall c) d = PointKept c d
 KeptBy (windowCall w) d = WindowKept w d
+KeptBy (nearestCall c) d = NearestKept c d
 
 abbrev pub Kept : Made → Type 0
 Kept d = KeptBy (d .call) d

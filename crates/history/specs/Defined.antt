@@ -9,7 +9,7 @@ use mathlib.Core.Path.{_≡_}
 use lib.Dec.{leb, eqb}
 use lib.ListN.{length, replicate, drop}
 use Rattle.geometry.specs.Cells.{onGrid, valid}
-use Rattle.tree.specs.Calls.{insertCall, removeCall, clearCall, pointCall, windowCall, Answer, refusal, reports, pointAnswer, windowAnswer, answer, after}
+use Rattle.tree.specs.Calls.{insertCall, removeCall, clearCall, pointCall, windowCall, nearestCall, Answer, refusal, reports, pointAnswer, windowAnswer, nearestAnswer, answer, after}
 use Rattle.plane.specs.Plane.{planeSpace, planeRoot}
 use Rattle.plane.specs.Windows.{planeWindow}
 use Rattle.memory.specs.Reading.{reading}
@@ -28,15 +28,17 @@ early N (removeCall c) len = cond (onGrid c) 0 3
 early N clearCall len = 0
 early N (pointCall c) len = cond (onGrid c) 0 3
 early N (windowCall w) len = cond (valid w) 0 3
+early N (nearestCall c) len = cond (onGrid c) 0 3
 
 -- The number and values of the tree's answer: 'held with tag, or not held, and the visits'; 'matches and visits', or 9, 'list shorter than
--- 3 × matches: number, matches'.
+-- 3 × matches: number, matches'; 'the entry, the squared distance and the number of nodes entered', or 10, 'nothing is held'.
 unfoldable pub toldOf : ℕ → Answer (planeSpace fanout) → Told
 toldOf len (refusal k) = numbers.refusal k
 toldOf len (reports n) = accepts (n ∷ [])
 toldOf len (pointAnswer none v) = accepts (0 ∷ v ∷ [])
 toldOf len (pointAnswer (some e) v) = accepts (1 ∷ v ∷ e .tag ∷ [])
 toldOf len (windowAnswer es v) = cond (leb (3 * length es) len) (accepts (length es ∷ v ∷ [])) (record { number = 9; values = length es ∷ [] })
+toldOf len (nearestAnswer e d v) = accepts (e .cell .x ∷ e .cell .y ∷ e .tag ∷ d ∷ v ∷ [])
 
 -- the tree's answer to a call on the index i, and the index after it
 abbrev pub treeAnswer : ℕ → PlaneIndex → IndexCall → Answer (planeSpace fanout)
@@ -65,6 +67,7 @@ lentAfter i (removeCall c) n l = l
 lentAfter i clearCall n l = l
 lentAfter i (pointCall c) n l = l
 lentAfter i (windowCall w) n l = cond (eqb n 0) (flatMap entryNumbers (matchesIn w i) ++ drop (3 * length (matchesIn w i)) l) l
+lentAfter i (nearestCall c) n l = l
 
 -- The call accepted, refused and answered as document 01 defines.
 pub record AsDefined (N : ℕ) (d : Made) : Type 0 where

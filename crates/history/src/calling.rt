@@ -5,6 +5,7 @@ use crate::coded::CodedCall;
 use crate::replies::Reply;
 use crate::replies::clear_reply;
 use crate::replies::insert_reply;
+use crate::replies::nearest_reply;
 use crate::replies::point_reply;
 use crate::replies::remove_reply;
 use crate::replies::window_reply;
@@ -14,6 +15,7 @@ use index::clear;
 use index::point;
 use index::window;
 use insertion::insert;
+use nearest::nearest;
 use removal::remove;
 
 // Makes the call on the index m. An insertion is lent the list as its work area, a window query as its result list.
@@ -40,12 +42,16 @@ pub fn make_call(call: CodedCall, m: &mut [u32], lent: &mut [u32]) -> Reply
         let answer = point(m, cell);
         return point_reply(answer);
     }
-    let w = Rect {
-        llx: call.a,
-        lly: call.b,
-        urx: call.c,
-        ury: call.d,
-    };
-    let answer = window(m, w, lent);
-    window_reply(answer)
+    if call.kind == 4 {
+        let w = Rect {
+            llx: call.a,
+            lly: call.b,
+            urx: call.c,
+            ury: call.d,
+        };
+        let answer = window(m, w, lent);
+        return window_reply(answer);
+    }
+    let answer = nearest(m, cell);
+    nearest_reply(answer)
 }

@@ -5,7 +5,7 @@ ghost use lib.ListN.{length};
 ghost use Rattle.history.specs.Coded.{codedAt, callFits};
 
 pub struct CodedCall {
-    // 0 insertion, 1 removal, 2 clear, 3 point query, 4 window query
+    // 0 insertion, 1 removal, 2 clear, 3 point query, 4 window query, 5 nearest query
     pub kind: u32,
     pub a: u32,
     pub b: u32,
@@ -36,11 +36,11 @@ pub fn fits(calls: &[u32], i: usize, lent: usize, answers: usize) -> bool
     if calls.len() / 7 <= i {
         return false;
     }
-    if answers / 4 <= i {
+    if answers / 8 <= i {
         return false;
     }
     let k = 7 * i;
-    if 4 < calls[k] {
+    if 5 < calls[k] {
         return false;
     }
     if calls[k + 2] < calls[k + 1] {

@@ -1,44 +1,42 @@
-// Answers as four numbers each: document 01's number and up to three values, 0 where there are fewer.
+// Answers as eight numbers each: document 01's number and up to seven values, 0 where there are fewer.
+ghost use mathlib.Core.List.{[], _∷_};
 ghost use mathlib.Core.Path.{_≡_};
 ghost use Prim.Native.Nat.{_+_, _*_, _≤_};
 ghost use lib.ListN.{length};
-ghost use Rattle.index.specs.Numbers.{insertTold, removeTold, clearTold, pointTold, windowTold};
-ghost use Rattle.history.specs.Replies.{replyOf, putReply};
+ghost use Rattle.index.specs.Numbers.{insertTold, removeTold, clearTold, pointTold, windowTold, nearestTold};
+ghost use Rattle.history.specs.Replies.{sevenOf, replyOf, putReply};
 use index::Cleared;
 use index::Inserted;
+use index::NearestFound;
 use index::PointFound;
 use index::Removed;
 use index::WindowFound;
 
 pub struct Reply {
     pub number: u32,
-    pub first: u32,
-    pub second: u32,
-    pub third: u32,
+    pub values: [u64; 7],
+}
+
+// A reply with up to three values.
+fn short_reply(number: u32, first: u32, second: u32, third: u32) -> Reply
+    ensures { λ r. ⌜ r ≡ record { number = number; values = sevenOf (first ∷ second ∷ third ∷ []) } ⌝ }
+{
+    let values = [first as u64, second as u64, third as u64, 0, 0, 0, 0];
+    Reply { number, values }
 }
 
 // An accepted call, with its values.
 fn accepts(first: u32, second: u32, third: u32) -> Reply
-    ensures { λ r. ⌜ r ≡ record { number = 0; first = first; second = second; third = third } ⌝ }
+    ensures { λ r. ⌜ r ≡ record { number = 0; values = sevenOf (first ∷ second ∷ third ∷ []) } ⌝ }
 {
-    Reply {
-        number: 0,
-        first,
-        second,
-        third,
-    }
+    short_reply(0, first, second, third)
 }
 
 // A refused call, without values.
 fn refuses(number: u32) -> Reply
-    ensures { λ r. ⌜ r ≡ record { number = number; first = 0; second = 0; third = 0 } ⌝ }
+    ensures { λ r. ⌜ r ≡ record { number = number; values = sevenOf [] } ⌝ }
 {
-    Reply {
-        number,
-        first: 0,
-        second: 0,
-        third: 0,
-    }
+    short_reply(number, 0, 0, 0)
 }
 
 pub fn insert_reply(answer: Inserted) -> Reply
@@ -97,23 +95,52 @@ pub fn window_reply(answer: WindowFound) -> Reply
         WindowFound::WrongLength => refuses(1),
         WindowFound::BadWindow => refuses(3),
         WindowFound::NoTree => refuses(4),
-        WindowFound::ShortList { matches } => Reply {
-            number: 9,
-            first: matches,
-            second: 0,
-            third: 0,
-        },
+        WindowFound::ShortList { matches } => short_reply(9, matches, 0, 0),
+    }
+}
+
+pub fn nearest_reply(answer: NearestFound) -> Reply
+    ensures { λ r. ⌜ r ≡ replyOf (nearestTold answer) ⌝ }
+{
+    match answer {
+        NearestFound::Found {
+            x,
+            y,
+            tag,
+            distance,
+            visits,
+        } => {
+            let values = [
+                x as u64,
+                y as u64,
+                tag as u64,
+                distance,
+                visits as u64,
+                0,
+                0,
+            ];
+            Reply { number: 0, values }
+        }
+        NearestFound::WrongLength => refuses(1),
+        NearestFound::OffGrid => refuses(3),
+        NearestFound::NoTree => refuses(4),
+        NearestFound::NothingHeld => refuses(10),
     }
 }
 
 // Writes the reply to the i-th place of the answers.
-pub fn put_reply(answers: &mut [u32], i: usize, reply: Reply)
-    requires { ⌜ 4 * i + 4 ≤ length (now answers) ⌝ }
+pub fn put_reply(answers: &mut [u64], i: usize, reply: Reply)
+    requires { ⌜ 8 * i + 8 ≤ length (now answers) ⌝ }
     ensures { λ _. ⌜ now (answers .exit) ≡ putReply (now (answers .entry)) i reply ⌝ }
 {
-    let k = 4 * i;
-    answers[k] = reply.number;
-    answers[k + 1] = reply.first;
-    answers[k + 2] = reply.second;
-    answers[k + 3] = reply.third;
+    let k = 8 * i;
+    let values = reply.values;
+    answers[k] = reply.number as u64;
+    answers[k + 1] = values[0];
+    answers[k + 2] = values[1];
+    answers[k + 3] = values[2];
+    answers[k + 4] = values[3];
+    answers[k + 5] = values[4];
+    answers[k + 6] = values[5];
+    answers[k + 7] = values[6];
 }

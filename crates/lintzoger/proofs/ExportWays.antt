@@ -16,10 +16,12 @@ use Rattle.index.specs.declared.answer.PointFound.{PointFound}
 use Rattle.index.specs.declared.answer.PointFound.the-variants as P
 use Rattle.index.specs.declared.answer.WindowFound.{WindowFound}
 use Rattle.index.specs.declared.answer.WindowFound.the-variants as W
-use Rattle.index.specs.Numbers.{insertTold, removeTold}
+use Rattle.index.specs.declared.answer.NearestFound.{NearestFound}
+use Rattle.index.specs.declared.answer.NearestFound.the-variants as Near
+use Rattle.index.specs.Numbers.{refusal, insertTold, removeTold, nearestTold}
 use Rattle.index.specs.Changes.{InsertMemory, workAfter, InsertCall, RemoveMemory, RemoveCall}
-use Rattle.index.specs.Answers.{clearAnswer, cleared, pointAnswer, windowAnswer, windowList}
-use Rattle.lintzoger.specs.Exports.{stored, InsertExported, RemoveExported, ClearExported, PointExported, WindowExported}
+use Rattle.index.specs.Answers.{clearAnswer, cleared, pointAnswer, windowAnswer, windowList, nearestAnswer}
+use Rattle.lintzoger.specs.Exports.{stored, InsertExported, RemoveExported, ClearExported, PointExported, WindowExported, NearestExported}
 
 module _ (m w : List ℕ) (e : CellEntry) (held : ℕ) (m′ w′ : List ℕ) (a : Inserted) (z : InsertCall m w e m′ w′ a) where
   insert-told : (n h : ℕ) → n ≡ insertTold a .number → h ≡ stored (insertTold a) 0 held → InsertExported m w e held n m′ w′ h
@@ -117,3 +119,37 @@ module _ (m : List ℕ) (w : Rect) (list : List ℕ) (matches visits : ℕ) (lis
 
   pub window-short : (k : ℕ) → a ≡ W.ShortList k → WindowExported m w list matches visits 9 list′ k visits
   window-short k f = record { number = rw (← e, f); list-is = g; matches-is = rw (← e, f); visits-is = rw (← e, f) }
+
+module _ (m : List ℕ) (c : Cell) (x y tag distance visits : ℕ) (a : NearestFound) (e : a ≡ nearestAnswer m c) where
+  pub nearest-found : (x′ y′ t d v : ℕ) → a ≡ Near.Found x′ y′ t d v → NearestExported m c x y tag distance visits 0 x′ y′ t d v
+  nearest-found x′ y′ t d v f = record {
+    number = rw (← e, f);
+    near-x-is = rw (← e, f);
+    near-y-is = rw (← e, f);
+    tag-is = rw (← e, f);
+    distance-is = rw (← e, f);
+    visits-is = rw (← e, f);
+  }
+
+  -- nothing is stored with a number alone
+  nearest-refused : (n : ℕ) → nearestTold a ≡ refusal n → NearestExported m c x y tag distance visits n x y tag distance visits
+  nearest-refused n f = record {
+    number = rw (← e, f);
+    near-x-is = rw (← e, f);
+    near-y-is = rw (← e, f);
+    tag-is = rw (← e, f);
+    distance-is = rw (← e, f);
+    visits-is = rw (← e, f);
+  }
+
+  pub nearest-length : a ≡ Near.WrongLength → NearestExported m c x y tag distance visits 1 x y tag distance visits
+  nearest-length f = nearest-refused 1 (ap nearestTold f)
+
+  pub nearest-off-grid : a ≡ Near.OffGrid → NearestExported m c x y tag distance visits 3 x y tag distance visits
+  nearest-off-grid f = nearest-refused 3 (ap nearestTold f)
+
+  pub nearest-no-tree : a ≡ Near.NoTree → NearestExported m c x y tag distance visits 4 x y tag distance visits
+  nearest-no-tree f = nearest-refused 4 (ap nearestTold f)
+
+  pub nearest-nothing : a ≡ Near.NothingHeld → NearestExported m c x y tag distance visits 10 x y tag distance visits
+  nearest-nothing f = nearest-refused 10 (ap nearestTold f)

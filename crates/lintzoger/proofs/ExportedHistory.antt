@@ -10,10 +10,10 @@ use borrow.Fn.Kinds.{endedOf}
 use denote.Triple.Clauses.{AtExit}
 use borrow.Fn.World.{ArgsD, ResD}
 use Rattle.tree.specs.Lists.{All}
-use Rattle.tree.specs.Calls.{insertCall, removeCall, clearCall, pointCall, windowCall}
-use Rattle.index.specs.Answers.{insertAnswer, removeAnswer, clearAnswer, pointAnswer, windowAnswer}
+use Rattle.tree.specs.Calls.{insertCall, removeCall, clearCall, pointCall, windowCall, nearestCall}
+use Rattle.index.specs.Answers.{insertAnswer, removeAnswer, clearAnswer, pointAnswer, windowAnswer, nearestAnswer}
 use Rattle.index.specs.Changes.{entryOf}
-use Rattle.index.specs.Numbers.{insertTold, removeTold, clearTold, pointTold, windowTold}
+use Rattle.index.specs.Numbers.{insertTold, removeTold, clearTold, pointTold, windowTold, nearestTold}
 use Rattle.index.specs.declared.answer.Inserted.{Inserted}
 use Rattle.index.specs.declared.answer.Inserted.the-variants as I
 use Rattle.index.specs.declared.answer.Removed.{Removed}
@@ -24,12 +24,14 @@ use Rattle.index.specs.declared.answer.PointFound.{PointFound}
 use Rattle.index.specs.declared.answer.PointFound.the-variants as P
 use Rattle.index.specs.declared.answer.WindowFound.{WindowFound}
 use Rattle.index.specs.declared.answer.WindowFound.the-variants as W
+use Rattle.index.specs.declared.answer.NearestFound.{NearestFound}
+use Rattle.index.specs.declared.answer.NearestFound.the-variants as Near
 use Rattle.history.specs.Calls.{Made, freshMemory, Linked}
 use Rattle.history.specs.Contract.{Kept}
 use Rattle.history.specs.Claim.{HistoryClaim}
 use Rattle.history.proofs.History.{kept-history}
 use Rattle.lintzoger.specs.Exports.{stored, cellOf, rectOf}
-use Rattle.lintzoger.specs.Seen.{changeSeen, pointSeen, windowSeen}
+use Rattle.lintzoger.specs.Seen.{changeSeen, pointSeen, windowSeen, nearestSeen}
 use Rattle.lintzoger.proofs.exports.lintzoger_insert as insert-fn
 use Rattle.lintzoger.proofs.exports.lintzoger_insert.Reads as insert
 use Rattle.lintzoger.proofs.exports.lintzoger_insert.Kinds as insert-kinds
@@ -45,6 +47,9 @@ use Rattle.lintzoger.proofs.exports.lintzoger_point.Kinds as point-kind
 use Rattle.lintzoger.proofs.exports.lintzoger_window as window-fn
 use Rattle.lintzoger.proofs.exports.lintzoger_window.Reads as window
 use Rattle.lintzoger.proofs.exports.lintzoger_window.Kinds as window-kinds
+use Rattle.lintzoger.proofs.exports.lintzoger_nearest as nearest-fn
+use Rattle.lintzoger.proofs.exports.lintzoger_nearest.Reads as nearest
+use Rattle.lintzoger.proofs.exports.lintzoger_nearest.Kinds as nearest-kinds
 
 -- A call of `lintzoger_insert`: the index, the work area, x, y, the tag, the place for the entries held.
 pub record Insert : Type 0 where
@@ -86,12 +91,21 @@ pub record Window : Type 0 where
   pub exits : AtExit (endedOf 4 window-kinds.ps window-kinds.r) κs
   pub meets : window.Post κs args out exits
 
+-- A call of `lintzoger_nearest`: the index, to read only, x, y, the places for the entry's x, y and tag, the distance and the visits.
+pub record Nearest : Type 0 where
+  pub κs : Lfts 6
+  pub args : ArgsD nearest-fn.signature κs
+  pub out : ResD nearest-fn.signature κs
+  pub exits : AtExit (endedOf 6 nearest-kinds.ps nearest-kinds.r) κs
+  pub meets : nearest.Post κs args out exits
+
 pub data Step : Type 0 where
   inserts : Insert → Step
   removes : Remove → Step
   clears : Clear → Step
   points : Point → Step
   windows : Window → Step
+  nearests : Nearest → Step
 
 -- The number and the values stored are those of the answer: one law for each kind of call, by the cases of its answer.
 insert-tells : (r : Inserted) (n held held′ : ℕ) → n ≡ insertTold r .number → held′ ≡ stored (insertTold r) 0 held
@@ -135,6 +149,16 @@ window-tells W.WrongLength n matches visits matches′ visits′ p q a = rw p
 window-tells W.BadWindow n matches visits matches′ visits′ p q a = rw p
 window-tells W.NoTree n matches visits matches′ visits′ p q a = rw p
 window-tells (W.ShortList x) n matches visits matches′ visits′ p q a = rw (p, q)
+
+nearest-tells : (r : NearestFound) (n x y tag distance visits x′ y′ tag′ distance′ visits′ : ℕ) → n ≡ nearestTold r .number
+    → x′ ≡ stored (nearestTold r) 0 x → y′ ≡ stored (nearestTold r) 1 y → tag′ ≡ stored (nearestTold r) 2 tag
+    → distance′ ≡ stored (nearestTold r) 3 distance → visits′ ≡ stored (nearestTold r) 4 visits
+    → nearestSeen n x′ y′ tag′ distance′ visits′ ≡ nearestTold r
+nearest-tells (Near.Found _ _ _ _ _) n x y tag distance visits x′ y′ tag′ distance′ visits′ p a b d e f = rw (p, a, b, d, e, f)
+nearest-tells Near.WrongLength n x y tag distance visits x′ y′ tag′ distance′ visits′ p a b d e f = rw p
+nearest-tells Near.OffGrid n x y tag distance visits x′ y′ tag′ distance′ visits′ p a b d e f = rw p
+nearest-tells Near.NoTree n x y tag distance visits x′ y′ tag′ distance′ visits′ p a b d e f = rw p
+nearest-tells Near.NothingHeld n x y tag distance visits x′ y′ tag′ distance′ visits′ p a b d e f = rw p
 
 -- What a step was handed, and what came of it: the lists and places as they were at the return, and the number returned.
 abbrev pub made : Step → Made
@@ -192,6 +216,17 @@ made (windows s) =
       left = now (z .1 .1 .1 .1 .1 .0);
       told = windowSeen (s .out) (now (z .1 .1 .1 .1 .1 .1 .0)) (now (z .1 .1 .1 .1 .1 .1 .1 .0));
     }
+made (nearests s) =
+    let a = s .args in
+    let z = s .exits .1 .1 .1 in
+    record {
+      call = nearestCall (cellOf (a .1 .0) (a .1 .1 .0));
+      before = now (a .0);
+      after = now (a .0);
+      lent = [];
+      left = [];
+      told = nearestSeen (s .out) (now (z .0)) (now (z .1 .0)) (now (z .1 .1 .0)) (now (z .1 .1 .1 .0)) (now (z .1 .1 .1 .1 .0));
+    }
 
 -- A step's own contract is what the claim rests on.
 kept : (s : Step) → Kept (made s)
@@ -227,6 +262,14 @@ kept (windows s) =
       told = window-tells (windowAnswer _ _ _) (s .out) _ _ _ _ (v .number) (v .matches-is) (v .visits-is);
       contract = record { answer = refl; list = v .list-is };
       memory = refl;
+    }
+kept (nearests s) =
+    let v = s .meets in
+    record {
+      told =
+          nearest-tells (nearestAnswer _ _) (s .out) _ _ _ _ _ _ _ _ _ _ (v .number) (v .near-x-is) (v .near-y-is) (v .tag-is) (v .distance-is) (v .visits-is);
+      memory = refl;
+      list = refl;
     }
 
 all-kept : (ss : List Step) → All Kept (map made ss)

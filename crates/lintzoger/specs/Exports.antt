@@ -8,8 +8,8 @@ use lib.ListN.{getD, length}
 use Rattle.geometry.specs.declared.rect.Cell.{Cell}
 use Rattle.geometry.specs.declared.rect.Rect.{Rect}
 use Rattle.plane.specs.Lines.{CellEntry}
-use Rattle.index.specs.Numbers.{Told, insertTold, removeTold, clearTold, pointTold, windowTold}
-use Rattle.index.specs.Answers.{insertAnswer, removeAnswer, clearAnswer, cleared, pointAnswer, windowAnswer, windowList}
+use Rattle.index.specs.Numbers.{Told, insertTold, removeTold, clearTold, pointTold, windowTold, nearestTold}
+use Rattle.index.specs.Answers.{insertAnswer, removeAnswer, clearAnswer, cleared, pointAnswer, windowAnswer, windowList, nearestAnswer}
 use Rattle.index.specs.Changes.{InsertMemory, workAfter, RemoveMemory}
 
 -- the k-th value, or what was there before
@@ -52,3 +52,11 @@ pub record WindowExported (m : List ℕ) (w : Rect) (list : List ℕ) (matches v
   pub list-is : list' ≡ windowList m w list
   pub matches-is : matches' ≡ stored (windowTold (windowAnswer m w (length list))) 0 matches
   pub visits-is : visits' ≡ stored (windowTold (windowAnswer m w (length list))) 1 visits
+
+pub record NearestExported (m : List ℕ) (c : Cell) (x y tag distance visits : ℕ) (n x' y' tag' distance' visits' : ℕ) : Type 0 where
+  pub number : n ≡ nearestTold (nearestAnswer m c) .number
+  pub near-x-is : x' ≡ stored (nearestTold (nearestAnswer m c)) 0 x
+  pub near-y-is : y' ≡ stored (nearestTold (nearestAnswer m c)) 1 y
+  pub tag-is : tag' ≡ stored (nearestTold (nearestAnswer m c)) 2 tag
+  pub distance-is : distance' ≡ stored (nearestTold (nearestAnswer m c)) 3 distance
+  pub visits-is : visits' ≡ stored (nearestTold (nearestAnswer m c)) 4 visits

@@ -24,3 +24,10 @@ windowSeen number matches visits = record {
   number = number;
   values = cond (eqb number 0) (matches ∷ visits ∷ []) (cond (eqb number 9) (matches ∷ []) []);
 }
+
+-- a nearest query: the entry's x, y and tag, the squared distance, and the visits
+abbrev pub nearestSeen : ℕ → ℕ → ℕ → ℕ → ℕ → ℕ → Told
+nearestSeen number x y tag distance visits = record {
+  number = number;
+  values = cond (eqb number 0) (x ∷ y ∷ tag ∷ distance ∷ visits ∷ []) [];
+}

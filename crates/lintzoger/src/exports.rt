@@ -1,10 +1,11 @@
 // The calls for C and Rust: 0 or the number of the refusal is returned, and the values are stored through pointers.
 ghost use Rattle.index.specs.Changes.{entryOf};
-ghost use Rattle.lintzoger.specs.Exports.{cellOf, rectOf, InsertExported, RemoveExported, ClearExported, PointExported, WindowExported};
+ghost use Rattle.lintzoger.specs.Exports.{cellOf, rectOf, InsertExported, RemoveExported, ClearExported, PointExported, WindowExported, NearestExported};
 use geometry::Cell;
 use geometry::Rect;
 use index::Cleared;
 use index::Inserted;
+use index::NearestFound;
 use index::PointFound;
 use index::Removed;
 use index::WindowFound;
@@ -12,6 +13,7 @@ use index::clear;
 use index::point;
 use index::window;
 use insertion::insert;
+use nearest::nearest;
 use removal::remove;
 
 #[no_mangle]
@@ -127,5 +129,40 @@ pub extern "C" fn lintzoger_window(
             *matches = m;
             9
         }
+    }
+}
+
+#[no_mangle]
+pub extern "C" fn lintzoger_nearest(
+    index: &[u32],
+    x: u32,
+    y: u32,
+    near_x: &mut u32,
+    near_y: &mut u32,
+    tag: &mut u32,
+    distance: &mut u64,
+    visits: &mut u32,
+) -> u32
+    ensures { λ r. ⌜ NearestExported (now (index .entry)) (cellOf x y) (now («near_x» .entry)) (now («near_y» .entry)) (now (tag .entry)) (now (distance .entry)) (now (visits .entry)) r (now («near_x» .exit)) (now («near_y» .exit)) (now (tag .exit)) (now (distance .exit)) (now (visits .exit)) ⌝ }
+{
+    match nearest(index, Cell { x, y }) {
+        NearestFound::Found {
+            x: found_x,
+            y: found_y,
+            tag: found_tag,
+            distance: d,
+            visits: v,
+        } => {
+            *near_x = found_x;
+            *near_y = found_y;
+            *tag = found_tag;
+            *distance = d;
+            *visits = v;
+            0
+        }
+        NearestFound::WrongLength => 1,
+        NearestFound::OffGrid => 3,
+        NearestFound::NoTree => 4,
+        NearestFound::NothingHeld => 10,
     }
 }

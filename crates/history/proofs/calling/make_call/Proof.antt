@@ -1,6 +1,6 @@
 -- `calling::make_call` meets its contract; the laws that it needs are in CallWays.
 use native.Mathlib.Omega.{arith}
-use Rattle.history.proofs.CallWays.{replied-insert, replied-remove, replied-clear, replied-point, replied-window}
+use Rattle.history.proofs.CallWays.{replied-insert, replied-remove, replied-clear, replied-point, replied-window, replied-nearest}
 use borrow.Author.Needs.{needs}
 use Rattle.history.proofs.calling.make_call.Statement.{statement}
 use Rattle.history.proofs.calling.make_call.Tie as tie
@@ -71,6 +71,18 @@ same-length-7 c = search needs
 returns-5 : tie.Need-returns-5
 returns-5 c = search (replied-window, arith)
 
+nearest-requires : tie.Need-nearest-requires
+nearest-requires c κs = search needs
+
+nearest-reply-requires : tie.Need-nearest-reply-requires
+nearest-reply-requires c κs = search needs
+
+same-length-8 : tie.Need-same-length-8
+same-length-8 c = search needs
+
+returns-6 : tie.Need-returns-6
+returns-6 c = search (replied-nearest, arith)
+
 pub make-call-spec : {M : Type 1} → statement M
 make-call-spec =
     tie.close
@@ -96,4 +108,8 @@ make-call-spec =
     window-reply-requires
     same-length-6
     same-length-7
-    returns-5)
+    returns-5
+    nearest-requires
+    nearest-reply-requires
+    same-length-8
+    returns-6)

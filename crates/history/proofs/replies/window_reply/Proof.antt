@@ -32,6 +32,9 @@ refuses-requires-3 c κs = search needs
 enum-known-answer-2 : tie.Need-enum-known-answer-2
 enum-known-answer-2 c = search needs
 
+short-reply-requires : tie.Need-short-reply-requires
+short-reply-requires c κs = search needs
+
 returns : tie.Need-returns
 unfolding replyOf
 returns c = search window-case
@@ -65,6 +68,7 @@ window-reply-spec =
     enum-told-3
     refuses-requires-3
     enum-known-answer-2
+    short-reply-requires
     returns
     returns-2
     returns-3
