@@ -1,5 +1,5 @@
 -- Request A.1: squared distances between cells, and from a cell to a rectangle.
--- docs/RULES.md 2.1
+-- docs/RULES.md 5.13, 5.14
 use Prim.Native.Nat.{ℕ, _+_, _*_, _-_, min, max}
 use Rattle.geometry.specs.declared.rect.Cell.{Cell}
 use Rattle.geometry.specs.declared.rect.Rect.{Rect}

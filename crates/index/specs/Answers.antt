@@ -1,6 +1,6 @@
 -- The answer of each call, from the memory, its arguments and the lengths of the lent lists. 'Tests run in number order; the first that
 -- applies is given, and only where its cause holds.'
--- docs/RULES.md 4.23 to 4.25, 5.4 to 5.11, 7.1, 7.2
+-- docs/RULES.md 4.23 to 4.25, 5.4 to 5.11, 5.13, 7.1, 7.2
 use Prim.Native.Nat.{ℕ, _+_, _*_}
 use mathlib.Core.Bool.{cond}
 use mathlib.Core.List.{List, _++_, flatMap}

@@ -1,5 +1,5 @@
 -- Demand 3 at the level of trees, as one statement about a whole list of calls from the empty index.
--- docs/RULES.md 6.12
+-- docs/RULES.md 5.16, 6.12
 use Prim.Native.Nat.{ℕ, suc, _≤_}
 use mathlib.Core.Bool.{Bool, true, cond}
 use mathlib.Core.List.{List, [], _∷_, map}

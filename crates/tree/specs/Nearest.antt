@@ -1,5 +1,5 @@
 -- Request A.1, 'Nearest calibrated cell': the entry nearest a cell by a look at all, and the walk that passes over nodes.
--- docs/RULES.md 5.6
+-- docs/RULES.md 5.13, 5.15, 6.15
 use Prim.Native.Nat.{ℕ, zero, suc}
 use mathlib.Core.Bool.{Bool, true, false, cond}
 use mathlib.Core.List.{List, _∷_, foldl}

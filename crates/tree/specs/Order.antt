@@ -1,4 +1,5 @@
 -- Lists of numbers in lexicographic order: the first numbers that differ decide.
+-- docs/RULES.md 5.13
 use Prim.Native.Nat.{ℕ}
 use mathlib.Core.Bool.{Bool, true, false, _&&_, _||_}
 use mathlib.Core.List.{List, [], _∷_}
