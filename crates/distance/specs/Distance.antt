@@ -20,6 +20,7 @@ clamped lo hi v = max lo (min v (hi - 1))
 abbrev pub nearestCell : Cell → Rect → Cell
 nearestCell c r = record { x = clamped (r .llx) (r .urx) (c .x); y = clamped (r .lly) (r .ury) (c .y) }
 
--- 'the least squared distance from the cell to a cell' of the rectangle (that it is the least: the laws rect-least and rect-attained)
+-- 'the least squared distance from the cell to a cell' of the rectangle (that it is the least: the laws rect-least and
+-- rect-attained)
 unfoldable pub rectDistance : Cell → Rect → ℕ
 rectDistance c r = squared c (nearestCell c r)

@@ -60,13 +60,14 @@ PointVisits (pointCall c) m t = accepted t ≡ true → VisitsExact m c (visitsT
 PointVisits (windowCall w) m t = Unit {0}
 PointVisits (nearestCall c) m t = Unit {0}
 
--- What a nearest query of c told on a memory m that holds an index, where r are the entries held: 'The answer is the entry, the squared
--- distance and the number of nodes entered.'
+-- What a nearest query of c told on a memory m that holds an index, where r are the entries held: 'The answer is the
+-- entry, the squared distance and the number of nodes entered.'
 pub record NearestExact (m : List ℕ) (c : Cell) (r : List CellEntry) (t : Told) : Type 0 where
   pub entry : CellEntry
   pub visits : ℕ
   pub told : t .values ≡ entry .cell .x ∷ entry .cell .y ∷ entry .tag ∷ squared c (entry .cell) ∷ visits ∷ []
-  -- 'the entry nearest a given cell, by (dx)² + (dy)², ties to the smaller x, then the smaller y': one of r, and none of r is nearer
+  -- 'the entry nearest a given cell, by (dx)² + (dy)², ties to the smaller x, then the smaller y': one of r, and none of
+  -- r is nearer
   pub nearest : IsNearest (planeSpace fanout) c r entry
   pub index : PlaneIndex
   pub reads : reading fanout m ≡ some index
@@ -118,6 +119,6 @@ pub record HistoryClaim (N : ℕ) (ds : List Made) (m : List ℕ) : Type 0 where
   -- "Every accepted point query, in such a list .., reports as visits exactly the number of nodes whose polygon has its cell, and they are
   -- at most the height."
   pub visits : All (λ d. PointVisits (d .call) (d .before) (d .told)) ds
-  -- Request A.1: an accepted nearest query tells an entry of the record at that call, none of the record is nearer, and 'Visits are
-  -- at most the number of nodes.'
+  -- Request A.1: an accepted nearest query tells an entry of the record at that call, none of the record is nearer, and
+  -- 'Visits are at most the number of nodes.'
   pub nearest : EachWith TellsNearest [] ds

@@ -35,8 +35,8 @@ fromAt l i = getD l (7 * i + 1) 0
 abbrev pub toAt : List ℕ → ℕ → ℕ
 toAt l i = getD l (7 * i + 2) 0
 
--- 0 insertion of (a, b) with the tag c, 1 removal of (a, b), 2 clear, 3 point query of (a, b), 4 window query of (a, b)-(c, d),
--- 5 nearest query of (a, b)
+-- 0 insertion of (a, b) with the tag c, 1 removal of (a, b), 2 clear, 3 point query of (a, b), 4 window query of
+-- (a, b)-(c, d), 5 nearest query of (a, b)
 unfoldable pub callOf : CodedCall → IndexCall
 callOf k =
     cond (eqb (k .kind) 0) (insertCall (entryOf (cellOf (k .a) (k .b)) (k .c)))
@@ -54,7 +54,11 @@ callsIn l (suc n) = callsIn l n ++ (callOf (codedAt l n) ∷ [])
 -- answer.
 unfoldable pub callFits : List ℕ → ℕ → ℕ → ℕ → Bool
 callFits l i lent answers =
-    ltb i (length l / 7) && ltb i (answers / 8) && leb (getD l (7 * i) 0) 5 && leb (fromAt l i) (toAt l i) && leb (toAt l i) lent
+    ltb i (length l / 7)
+    && ltb i (answers / 8)
+    && leb (getD l (7 * i) 0) 5
+    && leb (fromAt l i) (toAt l i)
+    && leb (toAt l i) lent
 
 -- what that says in numbers
 pub record Fits (l : List ℕ) (i lent answers : ℕ) : Type 0 where

@@ -31,7 +31,8 @@ early N (windowCall w) len = cond (valid w) 0 3
 early N (nearestCall c) len = cond (onGrid c) 0 3
 
 -- The number and values of the tree's answer: 'held with tag, or not held, and the visits'; 'matches and visits', or 9, 'list shorter than
--- 3 × matches: number, matches'; 'the entry, the squared distance and the number of nodes entered', or 10, 'nothing is held'.
+-- 3 × matches: number, matches'; 'the entry, the squared distance and the number of nodes entered'. (10, 'nothing is
+-- held', is the tree's own refusal.)
 unfoldable pub toldOf : ℕ → Answer (planeSpace fanout) → Told
 toldOf len (refusal k) = numbers.refusal k
 toldOf len (reports n) = accepts (n ∷ [])

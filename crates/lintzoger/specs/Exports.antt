@@ -53,7 +53,7 @@ pub record WindowExported (m : List ℕ) (w : Rect) (list : List ℕ) (matches v
   pub matches-is : matches' ≡ stored (windowTold (windowAnswer m w (length list))) 0 matches
   pub visits-is : visits' ≡ stored (windowTold (windowAnswer m w (length list))) 1 visits
 
-pub record NearestExported (m : List ℕ) (c : Cell) (x y tag distance visits : ℕ) (n x' y' tag' distance' visits' : ℕ) : Type 0 where
+pub record NearestExported (m : List ℕ) (c : Cell) (x y tag distance visits n x' y' tag' distance' visits' : ℕ) : Type 0 where
   pub number : n ≡ nearestTold (nearestAnswer m c) .number
   pub near-x-is : x' ≡ stored (nearestTold (nearestAnswer m c)) 0 x
   pub near-y-is : y' ≡ stored (nearestTold (nearestAnswer m c)) 1 y

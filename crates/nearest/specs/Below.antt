@@ -40,4 +40,5 @@ pub record GoodPolygonPart (m : List ℕ) (k : ℕ) : Type 0 where
 -- the node at part k can be walked, and it and all below it are sound
 pub record NearWalk (n : ℕ) (m : List ℕ) (lo k : ℕ) : Type 0 where
   pub walk : Walkable n m lo k
-  pub sound : (b : Item (planeSpace fanout) (suc n)) → readNode fanout n m lo k ≡ some b → (p : List Rect) × SoundItem (planeSpace fanout) (suc n) p b
+  pub sound : (b : Item (planeSpace fanout) (suc n)) → readNode fanout n m lo k ≡ some b
+      → (p : List Rect) × SoundItem (planeSpace fanout) (suc n) p b

@@ -27,7 +27,14 @@ MetBy c = Met (planeSpace fanout) c
 -- an entry, or none, and the nodes entered, as the code has them
 unfoldable pub nearBy : Cell → Option CellEntry → ℕ → Near
 nearBy c none v = record { found = false; distance = 0; x = 0; y = 0; tag = 0; visits = v }
-nearBy c (some e) v = record { found = true; distance = squared c (e .cell); x = e .cell .x; y = e .cell .y; tag = e .tag; visits = v }
+nearBy c (some e) v = record {
+  found = true;
+  distance = squared c (e .cell);
+  x = e .cell .x;
+  y = e .cell .y;
+  tag = e .tag;
+  visits = v;
+}
 
 -- the entry that the code has
 unfoldable pub bestOf : Near → Option CellEntry
@@ -46,7 +53,14 @@ metOf c r = record { best = bestOf r; entered = r .visits }
 
 -- one more node is entered
 unfoldable pub withNode : Near → Near
-withNode r = record { found = r .found; distance = r .distance; x = r .x; y = r .y; tag = r .tag; visits = r .visits + 1 }
+withNode r = record {
+  found = r .found;
+  distance = r .distance;
+  x = r .x;
+  y = r .y;
+  tag = r .tag;
+  visits = r .visits + 1;
+}
 
 -- 'no entry has been met yet or the least squared distance .. is at most the best so far'
 unfoldable pub entersNear : Near → ℕ → Bool

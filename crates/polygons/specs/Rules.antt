@@ -37,6 +37,7 @@ clipEach clip p = flatMap clip p
 abbrev pub clipRefine : {A : Type 0} → (A → List A) → (List A → List A) → List A → List A
 clipRefine clip refine p = refine (clipEach clip p)
 
--- 'the least squared distance from the cell to a cell of the child's polygon': the least over its rectangles. distance gives that of one rectangle.
+-- 'the least squared distance from the cell to a cell of the child's polygon': the least over its rectangles. distance
+-- gives that of one rectangle.
 abbrev pub leastDistance : {A C : Type 0} → (C → A → ℕ) → C → List A → ℕ
 leastDistance distance c p = least (distance c) p

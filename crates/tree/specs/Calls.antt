@@ -23,8 +23,9 @@ pub data Call (S : Space) (Win : Window S) : Type 0 where
   windowCall : Win .W → Call S Win
   nearestCall : S .Cell → Call S Win
 
--- An answer: a refusal by its number; "Insertion, removal and clearing report the entries held after the call"; a point query the entry, if held, and visits; a window query the matches in order and visits;
--- a nearest query "the entry, the squared distance and the number of nodes entered".
+-- An answer: a refusal by its number; "Insertion, removal and clearing report the entries held after the call"; a point
+-- query the entry, if held, and visits; a window query the matches in order and visits; a nearest query "the entry, the
+-- squared distance and the number of nodes entered".
 pub data Answer (S : Space) : Type 0 where
   refusal : ℕ → Answer S
   reports : ℕ → Answer S

@@ -54,9 +54,10 @@ module _ (S : Space) where
     pub covers : All leafCovers (leaves S i)
     -- "they are at most the height"
     pub visits-few : (c : S .Cell) → visits S c i ≤ height S i
-    -- a nearest query: "the entry must be the one that a look at all of them gives. Visits are at most the number of nodes."
+    -- a nearest query: "the entry must be the one that a look at all of them gives", and that is the record's nearest
     pub walk-nearest : (c : S .Cell) → walk S c i .best ≡ nearest S c i
     pub nearest-is : (c : S .Cell) (e : EntryOf S) → nearest S c i ≡ some e → IsNearest S c r e
+    -- "Visits are at most the number of nodes."
     pub walk-few : (c : S .Cell) → walk S c i .entered ≤ nodeCount S i
 
   module _ (Win : Window S) where

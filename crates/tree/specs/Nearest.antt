@@ -1,4 +1,4 @@
--- Request A.1, 'Nearest calibrated cell': the entry nearest a cell by a look at all, and the walk that passes over nodes.
+-- Request A.1, 'Nearest calibrated cell': the entry nearest a cell by a look at all; the walk that passes over nodes.
 -- docs/RULES.md 5.13, 5.15, 6.15
 use Prim.Native.Nat.{ℕ, zero, suc}
 use mathlib.Core.Bool.{Bool, true, false, cond}
@@ -53,14 +53,14 @@ module _ (S : Space) (c : S .Cell) where
   abbrev pub enter : Met → Met
   enter w = record { best = w .best; entered = suc (w .entered) }
 
-  -- The walk enters "a child exactly if no entry has been met yet or the least squared distance from the cell to a cell of the child's
-  -- polygon is at most the best so far".
+  -- The walk enters "a child exactly if no entry has been met yet or the least squared distance from the cell to a cell
+  -- of the child's polygon is at most the best so far".
   unfoldable pub enters : S .Poly → Option (EntryOf S) → Bool
   enters p none = true
   enters p (some e) = leb (S .minDistance c p) (S .distance c (e .cell))
 
-  -- The walk below a node that it enters: "depth-first with branches in order". A child is tested when the walk comes to it, with what was met so
-  -- far. Of a leaf all entries are looked at.
+  -- The walk below a node that it enters: "depth-first with branches in order". A child is tested when the walk comes to
+  -- it, with what was met so far. Of a leaf all entries are looked at.
   unfoldable pub walkNode : (n : ℕ) → Met → List (Item S n) → Met
   walkNode zero w es = record { best = nearestOf (w .best) es; entered = suc (w .entered) }
   walkNode (suc n) w bs = foldl (λ v b. cond (enters (b .poly) (v .best)) (walkNode n v (b .child)) v) (enter w) bs
