@@ -69,6 +69,21 @@ static void print_window(uint32_t llx, uint32_t lly, uint32_t urx, uint32_t ury,
     printf("\n");
 }
 
+/* Prints what a nearest query answers. */
+static void print_nearest(uint32_t x, uint32_t y) {
+    uint32_t near_x, near_y, tag, visits;
+    uint64_t distance;
+    uint32_t answer = lintzoger_nearest(index_numbers, index_len, x, y,
+                                        &near_x, &near_y, &tag, &distance, &visits);
+    printf("nearest (%" PRIu32 ",%" PRIu32 "): ", x, y);
+    if (answer != 0) {
+        printf("refused %" PRIu32 "\n", answer);
+    } else {
+        printf("(%" PRIu32 ",%" PRIu32 ") %" PRIu32 ", ", near_x, near_y, tag);
+        printf("squared distance %" PRIu64 ", visits %" PRIu32 "\n", distance, visits);
+    }
+}
+
 int main(void) {
     print_point(20, 12);
     print_point(15, 11);
@@ -82,9 +97,16 @@ int main(void) {
     print_window(0, 0, 65536, 65536, 14);
     print_window(10, 10, 10, 13, 15);
 
+    /* Two entries are equally near (15,11): the smaller x wins, and the other leaf is passed over. */
+    print_nearest(15, 11);
+    print_nearest(22, 25);
+    print_nearest(20, 12);
+    print_nearest(65536, 0);
+
     /* A number that nothing uses must be zero. */
     index_numbers[63] = 1;
     print_point(20, 12);
+    print_nearest(20, 12);
 
     uint32_t held;
     uint32_t answer = lintzoger_clear(index_numbers, index_len, &held);
@@ -94,5 +116,6 @@ int main(void) {
         printf("not cleared: refused %" PRIu32 "\n", answer);
     }
     print_point(20, 12);
+    print_nearest(20, 12);
     return 0;
 }

@@ -35,6 +35,8 @@ static const char *meaning(uint32_t refusal) {
         return "the memory has no room for another node";
     case LINTZOGER_SHORT_LIST:
         return "the list is too short";
+    case LINTZOGER_NOTHING_HELD:
+        return "the memory holds no point";
     default:
         return "unknown";
     }

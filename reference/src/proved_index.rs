@@ -37,6 +37,17 @@ extern "C" {
         matches: *mut u32,
         visits: *mut u32,
     ) -> u32;
+    fn lintzoger_nearest(
+        index: *const u32,
+        index_len: usize,
+        x: u32,
+        y: u32,
+        near_x: *mut u32,
+        near_y: *mut u32,
+        tag: *mut u32,
+        distance: *mut u64,
+        visits: *mut u32,
+    ) -> u32;
 }
 
 // In each wrapper the pointers come from slices and references that live through the call, and the
@@ -90,6 +101,29 @@ pub fn window(
             list.as_mut_ptr(),
             list.len(),
             matches,
+            visits,
+        )
+    }
+}
+
+pub fn nearest(
+    index: &[u32],
+    [x, y]: [u32; 2],
+    [near_x, near_y]: &mut [u32; 2],
+    tag: &mut u32,
+    distance: &mut u64,
+    visits: &mut u32,
+) -> u32 {
+    unsafe {
+        lintzoger_nearest(
+            index.as_ptr(),
+            index.len(),
+            x,
+            y,
+            near_x,
+            near_y,
+            tag,
+            distance,
             visits,
         )
     }

@@ -59,6 +59,11 @@ fn query() {
 }
 
 #[test]
+fn nearest() {
+    check_example("nearest", env!("LINTZOGER_ARCHIVE"));
+}
+
+#[test]
 fn session() {
     check_example("session", env!("LINTZOGER_ARCHIVE"));
 }

@@ -48,8 +48,9 @@ fn every_number_of_random_images() {
         tally.add_all(&change_singly(tree.as_ref(), n, places, &name, &mut random));
     }
     say(&format!("every number, random images: {tally}"));
-    tally.require(400_000, &["images refused"]);
+    tally.require(400_000, &["images refused", "nearest refused 4"]);
     tally.require(5_000, &["images accepted"]);
+    tally.require(1_000, &["nearest, another cell's entry"]);
 }
 
 /// Built trees, with a gap or two and without.
@@ -188,6 +189,7 @@ fn random_damage() {
         tally.add_all(&damaged.tally);
     }
     say(&format!("random damage: {tally}"));
-    tally.require(150_000, &["images refused"]);
+    tally.require(150_000, &["images refused", "nearest refused 4"]);
     tally.require(5_000, &["images accepted"]);
+    tally.require(1_000, &["nearest, another cell's entry"]);
 }

@@ -156,6 +156,7 @@ fn every_n() {
             let near = tree.map_or(Rectangle::new(0, 0, 9, 9), |t| t.rectangle);
             for cell in corner_cells(near) {
                 queried.point(cell, place);
+                queried.nearest(cell, place);
             }
             queried.window_with_lists([0, 0, 65536, 65536], place);
             queried.window_with_lists(any_window(near, &mut random), place);
@@ -163,6 +164,7 @@ fn every_n() {
     }
     say(&format!("every N: {tally}"));
     tally.require(100, &["point held, more visits", "window refused 9"]);
+    tally.require(100, &["nearest queries", "nearest refused 10"]);
 }
 
 /// Histories and random trees of up to 24 nodes.

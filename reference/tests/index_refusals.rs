@@ -20,13 +20,17 @@ fn is_right(length: usize) -> bool {
     (1..=MOST_PARTS).any(|n| length_of(n) == length)
 }
 
-/// The three calls on an index of that length; each is refused with 1 unless the length is right.
+/// The queries and clearing on an index of that length; each is refused with 1 unless the length is
+/// right.
 fn call_all(index: &[u32], tally: &mut Tally) {
     let mut lent = Lent::new(index);
     let reading = lent.reading();
     let place = format_args!("{} numbers", index.len());
     for cell in [[5, 5], [65536, 0]] {
         let output = lent.point(&reading, cell, place);
+        assert_eq!(output.answer != 1, is_right(index.len()), "{place}");
+        tally.count(output.kind());
+        let output = lent.nearest(&reading, cell, place);
         assert_eq!(output.answer != 1, is_right(index.len()), "{place}");
         tally.count(output.kind());
     }
@@ -64,6 +68,8 @@ fn lengths() {
         &[
             "point refused 1",
             "window refused 1",
+            "nearest refused 1",
+            "nearest refused 10",
             "clear refused 1",
             "clear accepted, empty index",
             "clear accepted, sound tree",
@@ -71,7 +77,7 @@ fn lengths() {
     );
 }
 
-/// 3 before 4 and 9; 1 before 3 is in `lengths`.
+/// 3 before 4, 9 and 10; 1 before 3 is in `lengths`.
 #[test]
 fn invalid_arguments() {
     let seed = seed();
@@ -90,6 +96,9 @@ fn invalid_arguments() {
                 let output = lent.point(&reading, cell, place);
                 assert_eq!(output.answer, 3, "{place}: {cell:?}");
                 tally.count(output.kind());
+                let output = lent.nearest(&reading, cell, place);
+                assert_eq!(output.answer, 3, "{place}: {cell:?}");
+                tally.count(output.kind());
             }
             for window in invalid_windows(near) {
                 for length in [0, 3, LONG] {
@@ -101,7 +110,8 @@ fn invalid_arguments() {
         }
     }
     say(&format!("invalid arguments: {tally}"));
-    tally.require(500, &["point refused 3", "window refused 3"]);
+    let refused = ["point refused 3", "window refused 3", "nearest refused 3"];
+    tally.require(500, &refused);
 }
 
 /// 4 before 9.
@@ -146,6 +156,8 @@ fn clearing() {
             tally.count(output.kind(&before));
             let point = lent.point(&lent.reading(), [3, 4], place);
             assert_eq!((point.held, point.visits), (0, 0), "{place}");
+            let nearest = lent.nearest(&lent.reading(), [3, 4], place);
+            assert_eq!(nearest.answer, 10, "{place}");
         }
     }
     say(&format!("clearing: {tally}"));

@@ -157,6 +157,15 @@ impl Measured {
         self.note("point", used);
     }
 
+    fn nearest(&mut self, cell: Cell) {
+        let index = &self.index;
+        let near = &mut [0, 0];
+        let call = || proved_index::nearest(index, cell, near, &mut 0, &mut 0, &mut 0);
+        let (answer, used) = measured(call);
+        assert_eq!(answer, 0, "nearest {cell:?}");
+        self.note("nearest", used);
+    }
+
     /// The cells in the window.
     fn window(&mut self, window: [u32; 4]) -> Vec<Cell> {
         let (index, list) = (&self.index, &mut self.list);
@@ -180,6 +189,7 @@ impl Measured {
     fn query_and_empty(&mut self) {
         for cell in self.window(GRID) {
             self.point(cell);
+            self.nearest([cell[1], cell[0]]);
             self.window([cell[0], cell[1], cell[0] + 1, cell[1] + 1]);
         }
         for cell in self.window(GRID) {
@@ -189,8 +199,11 @@ impl Measured {
     }
 }
 
+/// The kinds of calls that each index is measured with, apart from insertions.
+const OTHERS: [&str; 4] = ["remove", "point", "window", "nearest"];
+
 /// Prints what the calls used. Each of the kinds was called, and no call used more than the bound.
-fn check(name: &str, most: &Most, kinds: &[&'static str], bound: usize) {
+fn check(name: &str, most: &Most, insertions: [&'static str; 2], bound: usize) {
     let shown = most
         .iter()
         .map(|(kind, used)| format!("{kind} {} KB", used.div_ceil(1024)));
@@ -198,7 +211,7 @@ fn check(name: &str, most: &Most, kinds: &[&'static str], bound: usize) {
         "stack, {name}: {}",
         shown.collect::<Vec<_>>().join("; ")
     ));
-    for kind in kinds {
+    for kind in insertions.iter().chain(&OTHERS) {
         assert!(most.contains_key(kind), "{name}: no {kind}");
     }
     for (kind, &used) in most {
@@ -241,9 +254,9 @@ fn ordinary() {
                 index.query_and_empty();
                 index.most
             });
-            let kinds = ["insert", "insert with a split", "remove", "point", "window"];
+            let insertions = ["insert", "insert with a split"];
             let name = if is_row { "a row" } else { "random cells" };
-            check(&format!("N = {n}, {name}"), &most, &kinds, ORDINARY);
+            check(&format!("N = {n}, {name}"), &most, insertions, ORDINARY);
         }
     }
 }
@@ -271,9 +284,8 @@ fn chains() {
                 index.query_and_empty();
                 index.most
             });
-            let kinds = ["insert", last, "remove", "point", "window"];
             let name = format!("chain of {levels} levels, {name} each");
-            check(&name, &most, &kinds, DEEPEST);
+            check(&name, &most, ["insert", last], DEEPEST);
         }
     }
 }

@@ -144,6 +144,7 @@ fn numbers_of_the_refusals() {
         (Refusal::Polygon(PolygonLimit::Refined), 7),
         (Refusal::Nodes, 8),
         (Refusal::ShortList { matches: 1 }, 9),
+        (Refusal::NothingHeld, 10),
     ];
     for (refusal, number) in numbers {
         assert_eq!(refusal.number(), number, "{refusal:?}");

@@ -1,4 +1,4 @@
-//! Clearing and the two queries on lent numbers. A refused call changes nothing that is lent,
+//! Clearing and the three queries on lent numbers. A refused call changes nothing that is lent,
 //! but for the matches that refusal 9 reports.
 
 use super::layout::parts_of;
@@ -36,6 +36,19 @@ pub fn window(
     visits: &mut u32,
 ) -> Result<(), Refusal> {
     Reading::of(index).window(window, list, matches, visits)
+}
+
+/// Stores the nearest entry's cell and tag, the squared distance and the visits. Refusals 1, 3, 4 and
+/// 10.
+pub fn nearest(
+    index: &[u32],
+    cell: Cell,
+    near: &mut Cell,
+    tag: &mut u32,
+    distance: &mut u64,
+    visits: &mut u32,
+) -> Result<(), Refusal> {
+    Reading::of(index).nearest(cell, near, tag, distance, visits)
 }
 
 /// A lent index that was read, for several calls on it: the index or refusal 1 or 4.
@@ -96,6 +109,23 @@ impl Reading {
             }
             Err(other) => unreachable!("{other:?}: the window was tested"),
         }
+    }
+
+    /// As the call `nearest`.
+    pub fn nearest(
+        &self,
+        cell: Cell,
+        near: &mut Cell,
+        tag: &mut u32,
+        distance: &mut u64,
+        visits: &mut u32,
+    ) -> Result<(), Refusal> {
+        let answer = self.after_test(is_cell(cell))?.nearest(cell)?;
+        *near = answer.entry.cell;
+        *tag = answer.entry.tag;
+        *distance = answer.distance;
+        *visits = answer.visits as u32;
+        Ok(())
     }
 
     /// As the call `insert`, with a work area as long as the index or not; it becomes the reading of

@@ -1,5 +1,5 @@
 //! The index in memory, plainly: docs/LAYOUT.md read number by number, images of trees, and the
-//! calls on lent numbers with document 01's refusals.
+//! calls on lent numbers with the documents' refusals.
 
 mod calls;
 mod changes;
@@ -9,7 +9,7 @@ mod read;
 mod refusal;
 mod sound;
 
-pub use calls::{clear, point, window, Reading};
+pub use calls::{clear, nearest, point, window, Reading};
 pub use changes::{insert, remove};
 pub use image::image;
 pub use read::{read, read_back};

@@ -1,4 +1,4 @@
-//! Document 01, 'Causes for saying no'.
+//! Document 01, 'Causes for saying no', and document 02's.
 
 use crate::tree;
 
@@ -23,10 +23,12 @@ pub enum Refusal {
     Nodes,
     /// 'List shorter than 3 x matches.'
     ShortList,
+    /// 'Nothing is held' (nearest query).
+    NothingHeld,
 }
 
 impl Refusal {
-    /// Document 01's number of the refusal.
+    /// The documents' number of the refusal.
     pub fn number(self) -> u32 {
         match self {
             Refusal::WrongLength => 1,
@@ -38,6 +40,7 @@ impl Refusal {
             Refusal::Polygon => 7,
             Refusal::Nodes => 8,
             Refusal::ShortList => 9,
+            Refusal::NothingHeld => 10,
         }
     }
 
@@ -56,6 +59,7 @@ impl From<tree::Refusal> for Refusal {
             tree::Refusal::Polygon(_) => Refusal::Polygon,
             tree::Refusal::Nodes => Refusal::Nodes,
             tree::Refusal::ShortList { .. } => Refusal::ShortList,
+            tree::Refusal::NothingHeld => Refusal::NothingHeld,
         }
     }
 }

@@ -1,5 +1,6 @@
 //! The index: a tree of at most N nodes, and the calls with their refusals in number order.
 
+use super::nearest::{nearest, squared_distance, walk};
 use super::{insert, query, remove, Entry, Refusal, Tree, MOST_NODES};
 use crate::geometry::{is_cell, Cell, Rectangle};
 
@@ -21,6 +22,14 @@ pub struct PointAnswer {
 #[derive(Clone, Copy, Debug, PartialEq, Eq)]
 pub struct WindowAnswer {
     pub matches: usize,
+    pub visits: usize,
+}
+
+/// A nearest query's answer 'is the entry, the squared distance and the number of nodes entered'.
+#[derive(Clone, Copy, Debug, PartialEq, Eq)]
+pub struct NearestAnswer {
+    pub entry: Entry,
+    pub distance: u64,
     pub visits: usize,
 }
 
@@ -118,6 +127,19 @@ impl Index {
             visits: self
                 .tree()
                 .map_or(0, |tree| query::window_visits(tree, window)),
+        })
+    }
+
+    /// 'The entry must be the one that a look at all of them gives', so that is how it is found; the
+    /// walk gives the visits alone. Refusals 3 and 10.
+    pub fn nearest(&self, cell: Cell) -> Result<NearestAnswer, Refusal> {
+        test_cell(cell)?;
+        let tree = self.tree().ok_or(Refusal::NothingHeld)?;
+        let entry = nearest(&tree.entries(), cell).expect("a tree has an entry");
+        Ok(NearestAnswer {
+            entry,
+            distance: squared_distance(entry.cell, cell),
+            visits: walk(tree, cell).visits,
         })
     }
 

@@ -1,10 +1,12 @@
-//! Document 01, 'The tree and its memory' up to 'Causes for saying no': the index as an owned tree,
-//! with the tree after a call named from the tree before. Memory and its layout are not part of it.
+//! Document 01, 'The tree and its memory' up to 'Causes for saying no', and document 02's nearest
+//! query: the index as an owned tree, with the tree after a call named from the tree before. Memory
+//! and its layout are not part of it.
 
 mod choose;
 mod index;
 mod insert;
 mod line;
+mod nearest;
 mod node;
 mod polygon;
 mod query;
@@ -12,9 +14,10 @@ mod refusal;
 mod remove;
 mod split;
 
-pub use index::{Index, PointAnswer, WindowAnswer};
+pub use index::{Index, NearestAnswer, PointAnswer, WindowAnswer};
 pub use insert::insert;
 pub use line::{leaf_line, routing_line, Line};
+pub use nearest::{least_distance, nearest, squared_distance, walk, Walk};
 pub use node::{Branch, Entry, Leaf, Node, Routing, Tree};
 pub use refusal::{PolygonLimit, Refusal};
 pub use remove::remove;

@@ -1,4 +1,4 @@
-//! The two queries on a tree. Visits are counted over all nodes, not along a walk.
+//! Point and window queries on a tree. Visits are counted over all nodes, not along a walk.
 
 use super::polygon::{has, shares_cell};
 use super::{Entry, Tree};

@@ -1,4 +1,4 @@
-//! Document 01, 'Causes for saying no', as far as they do not speak of memory.
+//! Document 01, 'Causes for saying no', and document 02's, as far as they do not speak of memory.
 
 /// Why a call refuses. The numbers 1, 2 and 4 speak of lengths and of memory that reads as no
 /// sound tree; an owned tree has neither.
@@ -16,6 +16,8 @@ pub enum Refusal {
     Nodes,
     /// 'List shorter than 3 x matches'; reports the matches.
     ShortList { matches: usize },
+    /// 'Nothing is held' (nearest query).
+    NothingHeld,
 }
 
 /// The three limits of step 2, in the order of the work.
@@ -30,7 +32,7 @@ pub enum PolygonLimit {
 }
 
 impl Refusal {
-    /// Document 01's number of the refusal.
+    /// The documents' number of the refusal.
     pub fn number(self) -> u32 {
         match self {
             Refusal::Invalid => 3,
@@ -39,6 +41,7 @@ impl Refusal {
             Refusal::Polygon(_) => 7,
             Refusal::Nodes => 8,
             Refusal::ShortList { .. } => 9,
+            Refusal::NothingHeld => 10,
         }
     }
 }

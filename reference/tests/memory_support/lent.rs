@@ -1,6 +1,7 @@
 //! Calls on a lent index, made to both implementations and compared.
 
 use super::guard::{fill, guarded, GUARD};
+use super::nearest::NearestOutput;
 use super::outcome::{ClearOutput, HeldOutput, PointOutput, WindowOutput};
 use super::work::Work;
 use reference::geometry::Cell;
@@ -105,6 +106,29 @@ impl Lent {
             format_args!("{place}: window {window:?}, list of {length}"),
         );
         second.check_untouched(&before, GUARD, place);
+        second
+    }
+
+    pub fn nearest(&self, reading: &Reading, cell: Cell, place: Arguments) -> NearestOutput {
+        let (mut second, mut proved) = (NearestOutput::before(), NearestOutput::before());
+        let NearestOutput {
+            near,
+            tag,
+            distance,
+            visits,
+            ..
+        } = &mut second;
+        second.answer = number(reading.nearest(cell, near, tag, distance, visits));
+        let NearestOutput {
+            near,
+            tag,
+            distance,
+            visits,
+            ..
+        } = &mut proved;
+        proved.answer = proved_index::nearest(self.index(), cell, near, tag, distance, visits);
+        self.check(&second, &proved, format_args!("{place}: nearest {cell:?}"));
+        second.check_untouched(place);
         second
     }
 

@@ -14,6 +14,7 @@ pub mod histories;
 pub mod images;
 pub mod lent;
 pub mod loose;
+pub mod nearest;
 pub mod outcome;
 pub mod queries;
 pub mod ragged;

@@ -39,6 +39,14 @@ impl<'a> Queried<'a> {
         self.tally.count(output.kind());
     }
 
+    pub fn nearest(&mut self, cell: Cell, place: Arguments) {
+        let output = self.lent.nearest(&self.reading, cell, place);
+        let tree = self.reading.index().and_then(|index| index.tree());
+        let (entries, nodes) = tree.map_or((vec![], 0), |t| (t.entries(), t.nodes()));
+        output.check(cell, &entries, nodes, place);
+        output.count(cell, &entries, nodes, self.tally);
+    }
+
     /// Returns the matches.
     pub fn window(&mut self, window: [u32; 4], length: usize, place: Arguments) -> usize {
         let output = self.lent.window(&self.reading, window, length, place);
@@ -60,12 +68,16 @@ impl<'a> Queried<'a> {
 
     /// Every cell of the square.
     pub fn all_cells(&mut self, square: Rectangle, place: Arguments) {
-        for x in square.ll[0]..square.ur[0] {
-            for y in square.ll[1]..square.ur[1] {
-                self.point([x, y], place);
-            }
+        for cell in cells_of(square) {
+            self.point(cell, place);
         }
     }
+}
+
+/// Every cell of the square, column by column.
+pub fn cells_of(square: Rectangle) -> impl Iterator<Item = Cell> {
+    let [columns, rows] = [0, 1].map(|d| square.ll[d]..square.ur[d]);
+    columns.flat_map(move |x| rows.clone().map(move |y| [x, y]))
 }
 
 /// The rectangle with a margin of one, on the grid.

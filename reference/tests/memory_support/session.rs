@@ -3,6 +3,7 @@
 
 use super::length_of;
 use super::lent::Lent;
+use super::nearest::NearestOutput;
 use super::work::{Dirt, Work};
 use crate::support::checked::Command;
 use crate::support::tally::Tally;
@@ -169,6 +170,16 @@ impl Session {
         self.record.clear();
         self.check_held(output.held, place);
         output.answer
+    }
+
+    /// A nearest query, compared also with a look at the record. It is no command of a stream.
+    pub fn nearest(&mut self, cell: Cell) -> NearestOutput {
+        let place = format_args!("{}, after command {}", self.label, self.commands);
+        let output = self.lent.nearest(&self.reading, cell, place);
+        let (record, nodes) = (&self.record, self.size().nodes);
+        output.check(cell, record, nodes, place);
+        output.count(cell, record, nodes, &mut self.tally);
+        output
     }
 
     /// An insertion with a work area of another length, which is refused with 2.

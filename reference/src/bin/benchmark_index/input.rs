@@ -3,7 +3,7 @@
 use reference::geometry::Cell;
 use reference::memory::image;
 use reference::random::Random;
-use reference::tree::{Index, Refusal, Tree};
+use reference::tree::{Entry, Index, Refusal, Tree};
 
 /// Different calls of each kind.
 pub const CALLS: usize = 16;
@@ -67,10 +67,16 @@ pub struct Input {
     pub changed: Vec<u32>,
     pub work: Vec<u32>,
     pub list: Vec<u32>,
-    /// What the last call stored.
+    /// What the last call stored; a nearest query also stores a cell and a distance.
     pub stored: [u32; 3],
+    pub near: Cell,
+    pub distance: u64,
+    /// The entries held, as a plain list.
+    pub entries: Vec<Entry>,
     /// Held cells.
     pub held: Vec<Cell>,
+    /// Cells for nearest queries, most of them not held.
+    pub asked: Vec<Cell>,
     /// Windows around held cells.
     pub windows: Vec<[u32; 4]>,
     /// Cells whose insertion is accepted without a split, and with one; perhaps none.
@@ -87,6 +93,9 @@ impl Input {
         let parts: Vec<usize> = (0..tree.nodes()).collect();
         let memory = image(index.n(), Some(tree), &parts);
         let entries = tree.entries();
+        // From a copy, so that the other input stays that of earlier versions.
+        let mut copy = random.clone();
+        let asked = (0..CALLS).map(|_| points.cell(index.n(), &mut copy));
         let held: Vec<Cell> = (0..CALLS).map(|_| random.pick(&entries).cell).collect();
         let reach = if points == Points::Crowded { 3 } else { 3000 };
         let [fitting, splitting, refused] = [Outcome::Fits, Outcome::Splits, Outcome::TooManyNodes]
@@ -101,7 +110,11 @@ impl Input {
             work: vec![0; memory.len()],
             list: vec![0; 3 * entries.len()],
             stored: [0; 3],
+            near: [0, 0],
+            distance: 0,
+            asked: asked.collect(),
             index: memory,
+            entries,
             held,
         }
     }

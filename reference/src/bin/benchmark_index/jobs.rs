@@ -1,9 +1,11 @@
-//! The calls that are timed: the proved one and the second implementation's.
+//! The calls that are timed: the proved one and the second implementation's, or what else the proved
+//! one is compared with.
 
 use crate::input::Input;
 use reference::geometry::Cell;
 use reference::memory::{self, Refusal};
 use reference::proved_index;
+use reference::tree::squared_distance;
 
 /// A call with the i-th arguments, which returns the call's number.
 pub type Call = fn(&mut Input, usize) -> u32;
@@ -32,7 +34,7 @@ impl Job {
     }
 }
 
-pub const JOBS: [Job; 8] = [
+pub const JOBS: [Job; 10] = [
     Job {
         name: "point",
         proved: |input, i| proved_point(input, input.held[i]),
@@ -45,6 +47,22 @@ pub const JOBS: [Job; 8] = [
         name: "window",
         proved: proved_window,
         second: second_window,
+        changes: false,
+        may_refuse: false,
+        against: [0.0, 0.0],
+    },
+    Job {
+        name: "nearest",
+        proved: proved_nearest,
+        second: second_nearest,
+        changes: false,
+        may_refuse: false,
+        against: [1.0, 0.0],
+    },
+    Job {
+        name: "look",
+        proved: proved_nearest,
+        second: look_at_all,
         changes: false,
         may_refuse: false,
         against: [0.0, 0.0],
@@ -144,6 +162,35 @@ fn second_window(input: &mut Input, i: usize) -> u32 {
         matches,
         visits,
     ))
+}
+
+fn proved_nearest(input: &mut Input, i: usize) -> u32 {
+    let ([tag, visits, _], near) = (&mut input.stored, &mut input.near);
+    let (cell, distance) = (input.asked[i], &mut input.distance);
+    proved_index::nearest(&input.index, cell, near, tag, distance, visits)
+}
+
+fn second_nearest(input: &mut Input, i: usize) -> u32 {
+    let ([tag, visits, _], near) = (&mut input.stored, &mut input.near);
+    let (cell, distance) = (input.asked[i], &mut input.distance);
+    let answer = memory::nearest(&input.index, cell, near, tag, distance, visits);
+    number(answer)
+}
+
+/// The nearest entry by a look at all of them in a plain list. It tests nothing, and counts no
+/// visits.
+fn look_at_all(input: &mut Input, i: usize) -> u32 {
+    let cell = input.asked[i];
+    let (mut least, mut near) = (u64::MAX, input.entries[0]);
+    for &entry in &input.entries {
+        let distance = squared_distance(entry.cell, cell);
+        if distance < least || distance == least && entry.cell < near.cell {
+            (least, near) = (distance, entry);
+        }
+    }
+    input.stored[0] = near.tag;
+    (input.near, input.distance) = (near.cell, least);
+    0
 }
 
 fn proved_insert(input: &mut Input, cell: Cell) -> u32 {

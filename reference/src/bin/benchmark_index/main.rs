@@ -3,6 +3,9 @@
 //! they at least do: an insertion looks for the cell, builds the tree after and copies it, which is
 //! set against two point queries and six passes; a removal against a point query and two passes.
 //! The job 'half' is insertion into a full index: half of its cells are refused with 8.
+//! The jobs 'nearest' and 'look' are the same nearest queries. The first is also set against a point
+//! query. In the second a look at all entries in a plain list, which tests nothing, has the place of
+//! the second implementation.
 //! The times are illustrations, the ratios are the figures.
 
 mod input;

@@ -24,7 +24,8 @@ pub fn check(input: &mut Input, job: &Job) {
             let is_expected = answer == 0 || job.may_refuse && answer == 8;
             assert!(is_expected, "{}: answer {answer}", job.name);
             let tree = read_back(&input.changed).expect("the layout is kept");
-            (answer, input.stored, input.list.clone(), tree)
+            let stored = (input.stored, input.near, input.distance);
+            (answer, stored, input.list.clone(), tree)
         });
         assert!(given == expected, "{}: the calls differ", job.name);
     }
