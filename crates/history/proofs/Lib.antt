@@ -6,8 +6,4 @@ pub mod Visits
 pub mod Nearest
 pub mod History
 pub mod Shipped
-pub mod ReplyWays
-pub mod CodedWays
-pub mod CallWays
-pub mod ReplayLoop
 pub mod Sample

@@ -23,8 +23,7 @@ use Rattle.tree.specs.Calls.{insertCall, removeCall, clearCall, pointCall, wind
 use Rattle.index.specs.Answers.{PlaneIndex}
 use Rattle.index.specs.Changes.{entryOf}
 use Rattle.index.specs.Numbers.{Told, refusal, accepts}
-use Rattle.history.specs.Coded.{cellOf, rectOf}
-use Rattle.history.specs.Calls.{IndexCall}
+use Rattle.history.specs.Calls.{IndexCall, cellOf, rectOf}
 use Rattle.history.specs.Defined.{early, toldOf, toldOn, indexAfter}
 
 -- the answers to a list of calls on an index of 64 parts, each lent a list as long as the index

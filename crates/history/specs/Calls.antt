@@ -6,6 +6,8 @@ use mathlib.Core.List.{List, [], _∷_, map}
 use mathlib.Core.Path.{_≡_}
 use lib.Dec.{eqb}
 use lib.ListN.{replicate}
+use Rattle.geometry.specs.declared.rect.Cell.{Cell}
+use Rattle.geometry.specs.declared.rect.Rect.{Rect}
 use Rattle.tree.specs.Calls.{Call, insertCall, removeCall, clearCall, pointCall, windowCall, nearestCall}
 use Rattle.tree.specs.Record.{recorded, recordOf}
 use Rattle.plane.specs.Lines.{CellEntry}
@@ -18,6 +20,13 @@ use Rattle.index.specs.Numbers.{Told}
 -- also those that are refused
 abbrev pub IndexCall : Type 0
 IndexCall = Call (planeSpace fanout) (planeWindow fanout)
+
+-- a cell and a rectangle by their numbers
+abbrev pub cellOf : ℕ → ℕ → Cell
+cellOf a b = record { x = a; y = b }
+
+abbrev pub rectOf : ℕ → ℕ → ℕ → ℕ → Rect
+rectOf a b c d = record { llx = a; lly = b; urx = c; ury = d }
 
 -- A call that was made: what it was handed, and what came of it.
 pub record Made : Type 0 where

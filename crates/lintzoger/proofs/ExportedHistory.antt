@@ -26,11 +26,11 @@ use Rattle.index.specs.declared.answer.WindowFound.{WindowFound}
 use Rattle.index.specs.declared.answer.WindowFound.the-variants as W
 use Rattle.index.specs.declared.answer.NearestFound.{NearestFound}
 use Rattle.index.specs.declared.answer.NearestFound.the-variants as Near
-use Rattle.history.specs.Calls.{Made, freshMemory, Linked}
+use Rattle.history.specs.Calls.{Made, freshMemory, Linked, cellOf, rectOf}
 use Rattle.history.specs.Contract.{Kept}
 use Rattle.history.specs.Claim.{HistoryClaim}
 use Rattle.history.proofs.History.{kept-history}
-use Rattle.lintzoger.specs.Exports.{stored, cellOf, rectOf}
+use Rattle.lintzoger.specs.Exports.{stored}
 use Rattle.lintzoger.specs.Seen.{changeSeen, pointSeen, windowSeen, nearestSeen}
 use Rattle.lintzoger.proofs.exports.lintzoger_insert as insert-fn
 use Rattle.lintzoger.proofs.exports.lintzoger_insert.Reads as insert

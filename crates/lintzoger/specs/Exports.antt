@@ -16,13 +16,6 @@ use Rattle.index.specs.Changes.{InsertMemory, workAfter, RemoveMemory}
 abbrev pub stored : Told → ℕ → ℕ → ℕ
 stored t k before = getD (t .values) k before
 
--- a cell and a rectangle by their numbers
-abbrev pub cellOf : ℕ → ℕ → Cell
-cellOf a b = record { x = a; y = b }
-
-abbrev pub rectOf : ℕ → ℕ → ℕ → ℕ → Rect
-rectOf a b c d = record { llx = a; lly = b; urx = c; ury = d }
-
 pub record InsertExported (m w : List ℕ) (e : CellEntry) (held : ℕ) (n : ℕ) (m' w' : List ℕ) (held' : ℕ) : Type 0 where
   pub number : n ≡ insertTold (insertAnswer m (length w) e) .number
   pub memory : InsertMemory (insertAnswer m (length w) e) m e m'

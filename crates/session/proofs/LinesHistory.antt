@@ -9,13 +9,13 @@ use Rattle.index.specs.declared.answer.WindowFound.the-variants as W
 use Rattle.index.specs.Answers.{clearAnswer, pointAnswer}
 use Rattle.index.specs.Changes.{entryOf}
 use Rattle.index.specs.Numbers.{insertTold, removeTold, clearTold, pointTold, windowTold}
-use Rattle.history.specs.Calls.{Made, Linked, freshMemory}
+use Rattle.history.specs.Calls.{Made, Linked, freshMemory, cellOf, rectOf}
 use Rattle.history.specs.Contract.{Kept}
 use Rattle.history.proofs.History.{kept-history}
 use Rattle.commands.specs.declared.parsing.Command.{Command}
 use Rattle.commands.specs.declared.parsing.Command.the-variants.{Insert, Remove, Point, Window, Clear, Other}
 use Rattle.commands.specs.AnswerText.{insertText, removeText, clearText, pointText, windowText, listed}
-use Rattle.session.specs.Response.{Lent, cellAt, rectOf, CarriedOut}
+use Rattle.session.specs.Response.{Lent, CarriedOut}
 use Rattle.session.specs.Stream.{Ran, none, first, Session}
 use Rattle.session.specs.LinesClaim.{callsOf, listedTold, textBy, Printed, nothing, other, called, LinesClaim}
 use Rattle.session.proofs.RunLaws.{session-ran}
@@ -53,17 +53,17 @@ unfolding CarriedOut callsOf insertText removeText clearText pointText windowTex
 carried (Insert x y tag) {a = a} {b} t d v =
     rw (d .text-is)
     (one-more v
-    (record { call = insertCall (entryOf (cellAt x y) tag); before = a .index; after = b .index; lent = a .work; left = b .work; told = insertTold (d .answer) })
+    (record { call = insertCall (entryOf (cellOf x y) tag); before = a .index; after = b .index; lent = a .work; left = b .work; told = insertTold (d .answer) })
     refl (record { result = d .answer; told = refl; contract = d .call }) refl refl)
 carried (Remove x y) {a = a} {b} t d v =
     rw (d .text-is)
     (one-more v
-    (record { call = removeCall (cellAt x y); before = a .index; after = b .index; lent = []; left = []; told = removeTold (d .answer) })
+    (record { call = removeCall (cellOf x y); before = a .index; after = b .index; lent = []; left = []; told = removeTold (d .answer) })
     refl (record { result = d .answer; told = refl; contract = d .call; list = refl }) refl refl)
 carried (Point x y) {a = a} {b} t d v =
     rw (d .text-is)
     (one-more v
-    (record { call = pointCall (cellAt x y); before = a .index; after = b .index; lent = []; left = []; told = pointTold (pointAnswer (a .index) (cellAt x y)) })
+    (record { call = pointCall (cellOf x y); before = a .index; after = b .index; lent = []; left = []; told = pointTold (pointAnswer (a .index) (cellOf x y)) })
     refl (record { told = refl; memory = ap (λ l. l .index) (d .kept); list = refl }) refl refl)
 carried (Window llx lly urx ury) {a = a} {b} t d v =
     rw (d .text-is, listed-told (d .answer))

@@ -28,7 +28,8 @@ use Rattle.commands.specs.Commands.{commandOf}
 use Rattle.commands.specs.Text.{Appended}
 use Rattle.commands.specs.AnswerText.{insertText, removeText, clearText, pointText, windowText, otherText, listed}
 use Rattle.commands.proofs.TextLaws.{append-wider}
-use Rattle.session.specs.Response.{lent, cellAt, rectOf, CarriedOut, longest, Responded}
+use Rattle.history.specs.Calls.{cellOf, rectOf}
+use Rattle.session.specs.Response.{lent, CarriedOut, longest, Responded}
 
 -- a window query lists no more entries than its list has places for
 listed-if : (b : Bool) (n v len : ℕ) → b ≡ leb (3 * n) len → 3 * listed (cond b (W.Found n v) (W.ShortList n)) ≤ len
@@ -62,17 +63,17 @@ module _ (line : List ℕ) (m w l m′ w′ l′ out : List ℕ) (at : ℕ) (out
   ends : (j : ℕ) (text : List ℕ) → j ≤ longest l → CarriedOut k (lent m w l) (lent m′ w′ l′) text → Appended j out at text out′ next → Ends
   ends j text h d v = record { text = text; done = rw e at d; put = append-wider out at j (longest l) text out′ next h v }
 
-  pub respond-insert : (x y tag : ℕ) (r : Inserted) → k ≡ Insert x y tag → InsertCall m w (entryOf (cellAt x y) tag) m′ w′ r → l′ ≡ l
+  pub respond-insert : (x y tag : ℕ) (r : Inserted) → k ≡ Insert x y tag → InsertCall m w (entryOf (cellOf x y) tag) m′ w′ r → l′ ≡ l
       → Appended 24 out at (insertText r) out′ next → Responded line (lent m w l) (lent m′ w′ l′) out at out′ next
   unfolding CarriedOut
   respond-insert x y tag r f c q v = ends 24 (insertText r) (omega arith) (rw f (record { answer = r; call = c; list-kept = q; text-is = refl })) v
 
-  pub respond-remove : (x y : ℕ) (r : Removed) → k ≡ Remove x y → RemoveCall m (cellAt x y) m′ r → w′ ≡ w → l′ ≡ l
+  pub respond-remove : (x y : ℕ) (r : Removed) → k ≡ Remove x y → RemoveCall m (cellOf x y) m′ r → w′ ≡ w → l′ ≡ l
       → Appended 24 out at (removeText r) out′ next → Responded line (lent m w l) (lent m′ w′ l′) out at out′ next
   unfolding CarriedOut
   respond-remove x y r f c p q v = ends 24 (removeText r) (omega arith) (rw f (record { answer = r; call = c; work-kept = p; list-kept = q; text-is = refl })) v
 
-  pub respond-point : (x y : ℕ) (r : PointFound) → k ≡ Point x y → r ≡ pointAnswer m (cellAt x y) → m′ ≡ m → w′ ≡ w → l′ ≡ l
+  pub respond-point : (x y : ℕ) (r : PointFound) → k ≡ Point x y → r ≡ pointAnswer m (cellOf x y) → m′ ≡ m → w′ ≡ w → l′ ≡ l
       → Appended 35 out at (pointText r) out′ next → Responded line (lent m w l) (lent m′ w′ l′) out at out′ next
   unfolding CarriedOut
   respond-point x y r f c o p q v = ends 35 (pointText r) (omega arith) (rw f (record { kept = cc; text-is = ap pointText c })) v

@@ -10,19 +10,19 @@ use lib.ListN.{getD}
 use Rattle.tree.specs.Calls.{insertCall, removeCall, clearCall, pointCall, windowCall, nearestCall}
 use Rattle.index.specs.Changes.{entryOf}
 use Rattle.index.specs.Numbers.{Told}
-use Rattle.history.specs.Calls.{IndexCall, Made}
+use Rattle.history.specs.Calls.{IndexCall, Made, cellOf, rectOf}
 use Rattle.history.specs.Claim.{HistoryClaim}
 use Rattle.commands.specs.declared.parsing.Command.{Command}
 use Rattle.commands.specs.declared.parsing.Command.the-variants.{Insert, Remove, Point, Window, Clear, Other}
 use Rattle.commands.specs.Bytes.{letterC, letterI, letterP, letterR, letterS}
 use Rattle.commands.specs.AnswerText.{heldText, foundText, entriesText, otherText}
-use Rattle.session.specs.Response.{Lent, cellAt, rectOf}
+use Rattle.session.specs.Response.{Lent}
 
 -- the call of a command, 'Commands: `I x y tag`, `R x y`, `P x y`, `S llx lly urx ury`, `C`': another line makes none
 unfoldable pub callsOf : Command → List IndexCall
-callsOf (Insert x y tag) = insertCall (entryOf (cellAt x y) tag) ∷ []
-callsOf (Remove x y) = removeCall (cellAt x y) ∷ []
-callsOf (Point x y) = pointCall (cellAt x y) ∷ []
+callsOf (Insert x y tag) = insertCall (entryOf (cellOf x y) tag) ∷ []
+callsOf (Remove x y) = removeCall (cellOf x y) ∷ []
+callsOf (Point x y) = pointCall (cellOf x y) ∷ []
 callsOf (Window llx lly urx ury) = windowCall (rectOf llx lly urx ury) ∷ []
 callsOf Clear = clearCall ∷ []
 callsOf Other = []

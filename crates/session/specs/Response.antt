@@ -12,6 +12,7 @@ use Rattle.index.specs.declared.answer.WindowFound.{WindowFound}
 use Rattle.index.specs.Answers.{pointAnswer, clearAnswer, cleared}
 use Rattle.index.specs.Changes.{entryOf, InsertCall, RemoveCall}
 use Rattle.index.specs.Walks.{WindowCall}
+use Rattle.history.specs.Calls.{cellOf, rectOf}
 use Rattle.commands.specs.declared.parsing.Command.{Command}
 use Rattle.commands.specs.declared.parsing.Command.the-variants.{Insert, Remove, Point, Window, Clear, Other}
 use Rattle.commands.specs.Commands.{commandOf}
@@ -26,12 +27,6 @@ pub record Lent : Type 0 where
 
 abbrev pub lent : List ℕ → List ℕ → List ℕ → Lent
 lent m w l = record { index = m; work = w; list = l }
-
-abbrev pub cellAt : ℕ → ℕ → Cell
-cellAt a b = record { x = a; y = b }
-
-abbrev pub rectOf : ℕ → ℕ → ℕ → ℕ → Rect
-rectOf a b c d = record { llx = a; lly = b; urx = c; ury = d }
 
 -- An insertion was called, and its answer printed.
 pub record Inserts (c : Cell) (tag : ℕ) (a b : Lent) (text : List ℕ) : Type 0 where
@@ -75,9 +70,9 @@ pub record Passes (a b : Lent) (text : List ℕ) : Type 0 where
 
 -- what it means that a command was carried out on the lists a, left b and printed a text
 unfoldable pub CarriedOut : Command → Lent → Lent → List ℕ → Type 0
-CarriedOut (Insert x y tag) a b text = Inserts (cellAt x y) tag a b text
-CarriedOut (Remove x y) a b text = Removes (cellAt x y) a b text
-CarriedOut (Point x y) a b text = Asks (cellAt x y) a b text
+CarriedOut (Insert x y tag) a b text = Inserts (cellOf x y) tag a b text
+CarriedOut (Remove x y) a b text = Removes (cellOf x y) a b text
+CarriedOut (Point x y) a b text = Asks (cellOf x y) a b text
 CarriedOut (Window llx lly urx ury) a b text = Lists (rectOf llx lly urx ury) a b text
 CarriedOut Clear a b text = Clears a b text
 CarriedOut Other a b text = Passes a b text

@@ -1,0 +1,4 @@
+pub mod ReplyWays
+pub mod CodedWays
+pub mod CallWays
+pub mod ReplayLoop

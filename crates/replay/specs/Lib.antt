@@ -1,0 +1,3 @@
+pub mod Replies
+pub mod Coded
+pub mod Replay

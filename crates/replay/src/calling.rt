@@ -1,0 +1,57 @@
+// One call of a list, made by the function of its kind.
+ghost use Rattle.replay.specs.Coded.{callOf};
+ghost use Rattle.replay.specs.Replies.{Replied};
+use crate::coded::CodedCall;
+use crate::replies::Reply;
+use crate::replies::clear_reply;
+use crate::replies::insert_reply;
+use crate::replies::nearest_reply;
+use crate::replies::point_reply;
+use crate::replies::remove_reply;
+use crate::replies::window_reply;
+use geometry::Cell;
+use geometry::Rect;
+use index::clear;
+use index::point;
+use index::window;
+use insertion::insert;
+use nearest::nearest;
+use removal::remove;
+
+// Makes the call on the index m. An insertion is lent the list as its work area, a window query as its result list.
+pub fn make_call(call: CodedCall, m: &mut [u32], lent: &mut [u32]) -> Reply
+    ensures { λ r. ⌜ Replied (callOf call) (now (m .entry)) (now (lent .entry)) (now (m .exit)) (now (lent .exit)) r ⌝ }
+{
+    let cell = Cell {
+        x: call.a,
+        y: call.b,
+    };
+    if call.kind == 0 {
+        let answer = insert(m, lent, cell, call.c);
+        return insert_reply(answer);
+    }
+    if call.kind == 1 {
+        let answer = remove(m, cell);
+        return remove_reply(answer);
+    }
+    if call.kind == 2 {
+        let answer = clear(m);
+        return clear_reply(answer);
+    }
+    if call.kind == 3 {
+        let answer = point(m, cell);
+        return point_reply(answer);
+    }
+    if call.kind == 4 {
+        let w = Rect {
+            llx: call.a,
+            lly: call.b,
+            urx: call.c,
+            ury: call.d,
+        };
+        let answer = window(m, w, lent);
+        return window_reply(answer);
+    }
+    let answer = nearest(m, cell);
+    nearest_reply(answer)
+}
