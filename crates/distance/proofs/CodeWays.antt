@@ -1,4 +1,4 @@
--- The distances as the code computes them: differences, squares that fit 64 bits, clamped coordinates.
+-- The distances as the code computes them: squares that fit 64 bits, clamped coordinates.
 use Prim.Native.Nat.{ℕ, _+_, _*_, _-_, _≤_, _<_}
 use mathlib.Core.Bool.{true}
 use mathlib.Core.Path.{_≡_, ap, _∙_}
@@ -9,14 +9,6 @@ use Rattle.geometry.specs.Cells.{onGrid, valid}
 use Rattle.geometry.proofs.CellLaws.{valid-of, grid-of, valid-grid}
 use Rattle.distance.specs.Distance.{gap, squared, clamped, nearestCell, rectDistance}
 use Rattle.distance.proofs.DistanceLaws.{square-le, nearest-in}
-
-pub gap-less : (a b : ℕ) → a < b → b - a ≡ gap a b
-unfolding gap
-gap-less a b h = omega arith
-
-pub gap-more : (a b : ℕ) → b ≤ a → a - b ≡ gap a b
-unfolding gap
-gap-more a b h = omega arith
 
 gap-small : (a b n : ℕ) → a ≤ n → b ≤ n → gap a b ≤ n
 unfolding gap

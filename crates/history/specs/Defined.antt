@@ -9,7 +9,8 @@ use mathlib.Core.Path.{_≡_}
 use lib.Dec.{leb, eqb}
 use lib.ListN.{length, replicate, drop}
 use Rattle.geometry.specs.Cells.{onGrid, valid}
-use Rattle.tree.specs.Calls.{insertCall, removeCall, clearCall, pointCall, windowCall, nearestCall, Answer, refusal, reports, pointAnswer, windowAnswer, nearestAnswer, answer, after}
+use Rattle.tree.specs.Calls.{insertCall, removeCall, clearCall, pointCall, windowCall, nearestCall, answer, after}
+use Rattle.tree.specs.Calls.{Answer, refusal, reports, pointAnswer, windowAnswer, nearestAnswer}
 use Rattle.plane.specs.Plane.{planeSpace, planeRoot}
 use Rattle.plane.specs.Windows.{planeWindow}
 use Rattle.memory.specs.Reading.{reading}

@@ -144,7 +144,9 @@ pub extern "C" fn lintzoger_nearest(
     distance: &mut u64,
     visits: &mut u32,
 ) -> u32
-    ensures { λ r. ⌜ NearestExported (now (index .entry)) (cellOf x y) (now («near_x» .entry)) (now («near_y» .entry)) (now (tag .entry)) (now (distance .entry)) (now (visits .entry)) r (now («near_x» .exit)) (now («near_y» .exit)) (now (tag .exit)) (now (distance .exit)) (now (visits .exit)) ⌝ }
+    ensures { λ r. ⌜ NearestExported (now (index .entry)) (cellOf x y)
+        (now («near_x» .entry)) (now («near_y» .entry)) (now (tag .entry)) (now (distance .entry)) (now (visits .entry)) r
+        (now («near_x» .exit)) (now («near_y» .exit)) (now (tag .exit)) (now (distance .exit)) (now (visits .exit)) ⌝ }
 {
     match nearest(index, Cell { x, y }) {
         NearestFound::Found {

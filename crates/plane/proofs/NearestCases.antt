@@ -5,6 +5,7 @@ use mathlib.Core.List.{List, [], _∷_, flatMap}
 use mathlib.Core.Option.{none, some}
 use Rattle.polygons.specs.Lists.{least}
 use Rattle.geometry.specs.declared.rect.Cell.{Cell}
+use Rattle.geometry.specs.declared.rect.Rect.{Rect}
 use Rattle.geometry.proofs.Cases.{cell, rect}
 use Rattle.distance.specs.Distance.{gap, squared, clamped, rectDistance}
 use Rattle.tree.specs.Space.{Branch}
@@ -21,11 +22,11 @@ abbrev entry : ℕ → ℕ → CellEntry
 entry x y = record { cell = cell x y; tag = 10 + x }
 
 -- a tree of one leaf, and one of a root with two leaves
-abbrev oneLeaf : List CellEntry → Tree (planeSpace 8)
-oneLeaf es = record { level = 0; root = rect 0 0 65536 65536 ∷ []; items = es }
+abbrev oneLeaf : Rect → List CellEntry → Tree (planeSpace 8)
+oneLeaf root es = record { level = 0; root = root ∷ []; items = es }
 
-abbrev twoLeaves : Branch (planeSpace 8 .Poly) CellEntry → Branch (planeSpace 8 .Poly) CellEntry → Tree (planeSpace 8)
-twoLeaves a b = record { level = 1; root = rect 0 0 65536 65536 ∷ []; items = a ∷ b ∷ [] }
+abbrev twoLeaves : Rect → Branch (planeSpace 8 .Poly) CellEntry → Branch (planeSpace 8 .Poly) CellEntry → Tree (planeSpace 8)
+twoLeaves root a b = record { level = 1; root = root ∷ []; items = a ∷ b ∷ [] }
 
 -- a row: an index, the cell asked, and the answer
 pub record Row : Type 0 where
@@ -35,7 +36,9 @@ pub record Row : Type 0 where
 
 -- the definitions give the row's answer
 abbrev pub Holds : Row → Type 0
-Holds r = nearestEnd (planeSpace 8) (r .asks) (nearest (planeSpace 8) (r .asks) (r .index)) (walk (planeSpace 8) (r .asks) (r .index) .entered) ≡ r .answers
+Holds r =
+    nearestEnd (planeSpace 8) (r .asks) (nearest (planeSpace 8) (r .asks) (r .index)) (walk (planeSpace 8) (r .asks) (r .index) .entered)
+    ≡ r .answers
 
 -- every row of a table holds
 abbrev pub AllHold : List Row → Type 0
@@ -49,8 +52,12 @@ leftLeaf es = record { poly = rect 0 5 5 6 ∷ []; child = es }
 abbrev rightLeaf : Branch (planeSpace 8 .Poly) CellEntry
 rightLeaf = record { poly = rect 5 5 9 6 ∷ []; child = entry 5 5 ∷ entry 6 5 ∷ entry 7 5 ∷ entry 8 5 ∷ [] }
 
+-- G10's tree, with these entries in the left leaf: a removal leaves the polygons
+abbrev g10With : List CellEntry → Tree (planeSpace 8)
+g10With es = twoLeaves (rect 0 5 9 6) (leftLeaf es) rightLeaf
+
 abbrev g10 : Tree (planeSpace 8)
-g10 = twoLeaves (leftLeaf (entry 0 5 ∷ entry 1 5 ∷ entry 2 5 ∷ entry 3 5 ∷ entry 4 5 ∷ [])) rightLeaf
+g10 = g10With (entry 0 5 ∷ entry 1 5 ∷ entry 2 5 ∷ entry 3 5 ∷ entry 4 5 ∷ [])
 
 -- a tree, the cell asked, and the entry found, its squared distance and the visits
 abbrev row : Tree (planeSpace 8) → Cell → CellEntry → ℕ → ℕ → Row
@@ -59,18 +66,18 @@ row t c e d v = record { index = some t; asks = c; answers = nearestAnswer e d v
 abbrev pub table : List Row
 table =
     record { index = none; asks = cell 5 5; answers = refusal 10 }
-    ∷ row (oneLeaf (entry 0 0 ∷ [])) (cell 65535 65535) (entry 0 0) 8589672450 1
-    ∷ row (oneLeaf (entry 5 10 ∷ entry 10 5 ∷ entry 5 0 ∷ entry 0 5 ∷ [])) (cell 5 5) (entry 0 5) 25 1
-    ∷ row (oneLeaf (entry 5 10 ∷ entry 10 5 ∷ entry 5 0 ∷ [])) (cell 5 5) (entry 5 0) 25 1
+    ∷ row (oneLeaf (rect 0 0 1 1) (entry 0 0 ∷ [])) (cell 65535 65535) (entry 0 0) 8589672450 1
+    ∷ row (oneLeaf (rect 0 0 11 11) (entry 5 10 ∷ entry 10 5 ∷ entry 5 0 ∷ entry 0 5 ∷ [])) (cell 5 5) (entry 0 5) 25 1
+    ∷ row (oneLeaf (rect 0 0 11 11) (entry 5 10 ∷ entry 10 5 ∷ entry 5 0 ∷ [])) (cell 5 5) (entry 5 0) 25 1
     ∷ row g10 (cell 0 5) (entry 0 5) 0 2
     ∷ row g10 (cell 4 9) (entry 4 5) 16 2
     ∷ row g10 (cell 5 5) (entry 5 5) 0 3
     ∷ row g10 (cell 100 5) (entry 8 5) 8464 3
-    ∷ row (twoLeaves (leftLeaf (entry 0 5 ∷ entry 1 5 ∷ entry 2 5 ∷ entry 3 5 ∷ [])) rightLeaf) (cell 4 5) (entry 3 5) 1 3
-    ∷ row (twoLeaves (leftLeaf (entry 0 5 ∷ entry 1 5 ∷ entry 2 5 ∷ [])) rightLeaf) (cell 4 5) (entry 5 5) 1 3
-    ∷ row (twoLeaves (leftLeaf (entry 0 5 ∷ entry 1 5 ∷ entry 2 5 ∷ [])) rightLeaf) (cell 3 5) (entry 2 5) 1 2
+    ∷ row (g10With (entry 0 5 ∷ entry 1 5 ∷ entry 2 5 ∷ entry 3 5 ∷ [])) (cell 4 5) (entry 3 5) 1 3
+    ∷ row (g10With (entry 0 5 ∷ entry 1 5 ∷ entry 2 5 ∷ [])) (cell 4 5) (entry 5 5) 1 3
+    ∷ row (g10With (entry 0 5 ∷ entry 1 5 ∷ entry 2 5 ∷ [])) (cell 3 5) (entry 2 5) 1 2
     ∷ row
-    (twoLeaves (record { poly = rect 5 0 6 1 ∷ []; child = entry 5 0 ∷ [] }) (record { poly = rect 4 3 5 6 ∷ []; child = entry 4 5 ∷ entry 4 3 ∷ [] }))
+    (twoLeaves (rect 4 0 6 6) (record { poly = rect 5 0 6 1 ∷ []; child = entry 5 0 ∷ [] }) (record { poly = rect 4 3 5 6 ∷ []; child = entry 4 5 ∷ entry 4 3 ∷ [] }))
     (cell 0 0)
     (entry 4 3)
     25

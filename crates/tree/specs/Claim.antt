@@ -15,7 +15,9 @@ use Rattle.tree.specs.Tree.{Index, height, entries, nodeCount, Sound}
 use Rattle.tree.specs.Depth.{polygonsAt, leaves, leafDepths, edges}
 use Rattle.tree.specs.Query.{Window, ofCell, holds, visits}
 use Rattle.tree.specs.Nearest.{IsNearest, nearest, walk}
-use Rattle.tree.specs.Calls.{Call, insertCall, removeCall, clearCall, pointCall, windowCall, nearestCall, Answer, refusal, reports, pointAnswer, windowAnswer, nearestAnswer, isAccepted, afterAll, answers}
+use Rattle.tree.specs.Calls.{Call, insertCall, removeCall, clearCall, pointCall, windowCall, nearestCall}
+use Rattle.tree.specs.Calls.{Answer, refusal, reports, pointAnswer, windowAnswer, nearestAnswer}
+use Rattle.tree.specs.Calls.{isAccepted, afterAll, answers}
 use Rattle.tree.specs.Record.{recorded, recordOf}
 
 module _ (S : Space) where
