@@ -4,7 +4,6 @@ use mathlib.Core.Bool.{Bool, true, false, _&&_, not, cond, and-true, and-assoc, 
 use mathlib.Core.List.{List, [], _∷_, _++_}
 use mathlib.Core.Logic.{⊎-elim}
 use Prim.Native.Nat.{ℕ, _+_, _<_, _≤_}
-use native.Mathlib.Nat.{le-refl}
 use native.Mathlib.Omega.{arith}
 use borrow.Author.Tests.{lt-ltb, le-ltb, not-true}
 use lib.ListN.{drop}
@@ -18,10 +17,11 @@ use Rattle.geometry.specs.Numbers.{rectAt, rectsIn}
 use Rattle.geometry.specs.Refine.{within}
 use Rattle.geometry.proofs.Booleans.{is-false, not-both, either, or-left, or-right, both, split-and}
 use Rattle.geometry.proofs.CellLaws.{some-of, of-some, corner, corner-in, within-cells}
-use Rattle.geometry.proofs.CutLaws.{cut-cells}
+use Rattle.geometry.proofs.CutLaws.{uncut, cut-cells}
 use Rattle.geometry.proofs.NumberLaws.{rects-next, rects-end}
-use Rattle.cover.specs.Tests.{allPass, coveredBy, insideOf, apart, noneLeft, Skipped, FirstShared}
+use Rattle.cover.specs.Tests.{allPass, coveredBy, insideOf, apart, noneLeft, FirstShared}
 use Rattle.cover.proofs.CoverCells.{covered-none, covered-cons}
+use Rattle.cover.proofs.SkipLaws.{skipped-same}
 use Rattle.cover.proofs.PassLoops.{Passing, passing-start, passing-end, passing-stop, passing-on}
 
 pass-append : {A : Type 0} (f : A → Bool) (l k : List A) → allPass f (l ++ k) ≡ allPass f l && allPass f k
@@ -86,36 +86,16 @@ any-within-cells (s ∷ p) r e c h = ⊎-elim (λ t. or-left _ _ (within-cells r
 pub covered-within : (p : List Rect) (r : Rect) (b : Bool) → r .llx < r .urx → r .lly < r .ury → b ≡ any (within r) p → b ≡ true → true ≡ coveredBy p r
 covered-within p r b x y e f = sym (some-covered p r (of-some r (record { wide = x; high = y })) (any-within-cells p r (sym e ∙ f)))
 
--- rectangles that share no cell with r are passed over
-module _ (m : List ℕ) (n : ℕ) (r : Rect) (i : ℕ) where
-  pub skip-start : i ≤ n → Skipped m n r i i
-  skip-start h = record { from = le-refl i; to = h; same = refl }
-
-  pub skip-on : (j : ℕ) (s : Rect) (b : Bool) → Skipped m n r i j → j < n → s ≡ rectAt m j → b ≡ sharesWith s r → b ≡ false → Skipped m n r i (j + 1)
-  unfolding sharesWith cut allPass
-  skip-on j s b v h e g f =
-      let z : nonEmpty (overlap r s) ≡ false = sym g ∙ f in
-      let a = v .from in
-      record {
-        from = omega arith;
-        to = omega arith;
-        same = v .same ∙ ap (λ p. coveredBy p r) (rects-next m n j h ∙ ap (λ q. q ∷ drop (j + 1) (rectsIn m n)) (sym e))
-            ∙ covered-cons s (drop (j + 1) (rectsIn m n)) r ∙ rw z (and-true (coveredBy (drop (j + 1) (rectsIn m n)) r));
-      }
-
-  -- the search ends at the first that shares a cell, or at the end
-  module _ (j : ℕ) (v : Skipped m n r i j) where
-    pub shared-found : (s : Rect) (b : Bool) → s ≡ rectAt m j → b ≡ sharesWith s r → b ≡ true → FirstShared m n r i j
-    shared-found s b e g f = record { skipped = v; shares = λ h. rw (← e) (sym g ∙ f) }
-
-    pub shared-none : n ≤ j → FirstShared m n r i j
-    shared-none h = record { skipped = v; shares = λ k. absurd (omega arith) }
+-- a rectangle that shares no cell with r covers nothing of it
+covered-apart : (r s : Rect) (p : List Rect) → sharesWith s r ≡ false → coveredBy (s ∷ p) r ≡ coveredBy p r
+unfolding sharesWith allPass
+covered-apart r s p e = covered-cons s p r ∙ rw (uncut r s e) (and-true (coveredBy p r))
 
 -- what is left of a rectangle that is not empty, from the i₀-th of n rectangles on, of which the i-th is the next to cut
 module _ (m : List ℕ) (n i₀ i : ℕ) (r : Rect) (x : r .llx < r .urx) (y : r .lly < r .ury) (v : FirstShared m n r i₀ i) where
   -- the rectangles before are passed over
   left-passed : (p : List Rect) → drop i (rectsIn m n) ≡ p → noneLeft (drop i₀ (rectsIn m n)) r ≡ coveredBy p r
-  left-passed p e = left-some _ r x y ∙ v .skipped .same ∙ ap (λ q. coveredBy q r) e
+  left-passed p e = left-some _ r x y ∙ skipped-same m n r (λ q. coveredBy q r) (covered-apart r) i₀ i (v .skipped) ∙ ap (λ q. coveredBy q r) e
 
   pub left-end : n ≤ i → false ≡ noneLeft (drop i₀ (rectsIn m n)) r
   left-end h = sym (left-passed [] (rects-end m n i h) ∙ covered-none r)
@@ -172,18 +152,17 @@ module _ (m : List ℕ) (n i₀ i : ℕ) (r : Rect) (x : r .llx < r .urx) (y : r
 
 -- an empty rectangle is not covered: no rectangle cuts it
 module _ (r : Rect) (e : nonEmpty r ≡ false) where
-  uncut : (s : Rect) → nonEmpty (overlap r s) ≡ false
-  unfolding overlap
-  uncut s = is-false _ λ t.
+  none-shared : (s : Rect) → sharesWith s r ≡ false
+  unfolding sharesWith overlap
+  none-shared s = is-false _ λ t.
       let o = some-of (overlap r s) t in
       let a = o .wide in
       let b = o .high in
       not-both _ (of-some r (record { wide = omega arith; high = omega arith })) e
 
   pub covered-empty : (p : List Rect) → false ≡ coveredBy p r
-  unfolding allPass cut
   covered-empty [] = sym (covered-none r)
-  covered-empty (s ∷ p) = covered-empty p ∙ sym (covered-cons s p r ∙ rw (uncut s) (and-true (coveredBy p r)))
+  covered-empty (s ∷ p) = covered-empty p ∙ sym (covered-apart r s p (none-shared s))
 
 module _ (m : List ℕ) (n : ℕ) (r : Rect) where
   pub covered-flat : r .urx ≤ r .llx → false ≡ coveredBy (rectsIn m n) r

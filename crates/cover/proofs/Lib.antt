@@ -1,4 +1,5 @@
 pub mod PassLoops
 pub mod CoverCells
+pub mod SkipLaws
 pub mod CoverLaws
 pub mod HasLaws

@@ -1,16 +1,15 @@
--- Lists of rectangles against each other, as tests: a rectangle covered by a list, one list inside another, two apart. The theorems of
--- CoverCells say that they pass exactly where the cells are so.
+-- Lists of rectangles against each other, as tests: a rectangle covered by a list, one list inside another, two apart.
+-- The theorems of CoverCells say that they pass exactly where the cells are so.
 -- docs/RULES.md 2.7, 3.7, 3.8
 use Prim.Native.Nat.{ℕ, _≤_, _<_}
 use mathlib.Core.Path.{_≡_}
 use mathlib.Core.Bool.{Bool, true, false, _&&_, not}
 use mathlib.Core.List.{List, [], _∷_}
-use lib.ListN.{drop}
 use Rattle.polygons.specs.Lists.{any}
 use Rattle.geometry.specs.declared.rect.Rect.{Rect}
 use Rattle.geometry.specs.Common.{sharesWith, unlessEmpty}
 use Rattle.geometry.specs.Cut.{cutAll}
-use Rattle.geometry.specs.Numbers.{rectAt, rectsIn}
+use Rattle.geometry.specs.Numbers.{rectAt}
 
 -- every element passes
 unfoldable pub allPass : {A : Type 0} → (A → Bool) → List A → Bool
@@ -43,11 +42,11 @@ apart p q = allPass (λ r. not (any (sharesWith r) q)) p
 unfoldable pub noneLeft : List Rect → Rect → Bool
 noneLeft p r = allPass (coveredBy p) (unlessEmpty r)
 
--- the rectangles from the i-th to before the j-th of n cut nothing of r
+-- the rectangles from the i-th to before the j-th of n share no cell with r, so they cut nothing of it
 pub record Skipped (m : List ℕ) (n : ℕ) (r : Rect) (i j : ℕ) : Type 0 where
   pub from : i ≤ j
   pub to : j ≤ n
-  pub same : coveredBy (drop i (rectsIn m n)) r ≡ coveredBy (drop j (rectsIn m n)) r
+  pub unshared : (k : ℕ) → i ≤ k → k < j → sharesWith (rectAt m k) r ≡ false
 
 -- and the j-th, if there is one, shares a cell with r
 pub record FirstShared (m : List ℕ) (n : ℕ) (r : Rect) (i j : ℕ) : Type 0 where

@@ -9,7 +9,7 @@ use geometry::is_within_any;
 use geometry::rect_at;
 
 // The first of n rectangles from the i-th on that shares a cell with r; n where none does. Those before it cut nothing.
-fn first_shared(rects: &[u32], n: usize, i: usize, r: Rect) -> usize
+pub fn first_shared(rects: &[u32], n: usize, i: usize, r: Rect) -> usize
     requires { ⌜ i ≤ n ⌝ }
     requires { ⌜ 4 * n ≤ length (now rects) ⌝ }
     ensures { λ j. ⌜ FirstShared (now (rects .entry)) n r i j ⌝ }

@@ -2,6 +2,7 @@
 mod covering;
 mod scans;
 
+pub use covering::first_shared;
 pub use covering::inside;
 pub use scans::any_has;
 pub use scans::are_apart;

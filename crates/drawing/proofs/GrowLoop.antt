@@ -4,16 +4,16 @@ use mathlib.Core.Bool.{Bool, true, false, _&&_}
 use mathlib.Core.List.{List, [], _∷_, _++_, map, map-append}
 use Prim.Native.Nat.{ℕ, _+_, _*_, _/_, _≤_, _<_}
 use native.Mathlib.Omega.{arith}
-use lib.ListN.{length, drop, getD, take-append-drop, length-map, length-take}
+use lib.ListN.{length, drop, take-append-drop, length-map}
 use lib.Seq.{drop-drop}
 use Rattle.polygons.specs.Limits.{mostPieces}
 use Rattle.geometry.specs.declared.rect.Rect.{Rect}
 use Rattle.geometry.specs.declared.rect.Cell.{Cell}
-use Rattle.geometry.specs.declared.polygon.Polygon.{Polygon}
-use Rattle.geometry.specs.Cells.{onGrid, valid, noRect}
-use Rattle.geometry.specs.Grow.{grown, extraArea}
-use Rattle.geometry.specs.Numbers.{rectAt, rectsIn, rectsOf, putAt, numbersOf, PolygonOf}
+use Rattle.geometry.specs.Cells.{onGrid, valid}
+use Rattle.geometry.specs.Grow.{grown}
+use Rattle.geometry.specs.Numbers.{rectAt, rectsIn, putAt, numbersOf}
 use Rattle.geometry.proofs.NumberLaws.{length-rects, rects-suc, length-put, put-behind, put-rest, numbers-take}
+use Rattle.area.specs.Lacked.{extraArea}
 use Rattle.drawing.specs.declared.answer.Answer.the-variants.{Wrote}
 use Rattle.drawing.specs.declared.answer.Extra.the-variants.{Area, Unfit}
 use Rattle.drawing.specs.Arguments.{given, isList, isResult}
@@ -72,22 +72,14 @@ module _ (r : Rect) (c : Cell) (b : Bool) (e : b ≡ valid r) where
   unfolding validExtra extraOf
   unfit-rect f = rw (← e, f)
 
+  pub fit-rect : b ≡ true → valid r ≡ true
+  fit-rect f = sym e ∙ f
+
   module _ (f : b ≡ true) (d : Bool) (h : d ≡ onGrid c) where
     pub unfit-cell : d ≡ false → Unfit ≡ extraOf (validExtra r c) (extraDrawn r c)
     unfolding validExtra extraOf
     unfit-cell k = rw (← e, f, ← h, k)
 
-    pub fit : (p : Polygon) (n : ℕ) → d ≡ true → PolygonOf (r ∷ []) p → n ≡ extraArea (rectsOf p) 0 c → Area n ≡ extraOf (validExtra r c) (extraDrawn r c)
+    pub fit : (n : ℕ) → d ≡ true → n ≡ extraArea (r ∷ []) r c → Area n ≡ extraOf (validExtra r c) (extraDrawn r c)
     unfolding validExtra extraDrawn extraOf
-    fit p n k o q = rw (← e, f, ← h, k) (ap Area (q ∙ rw (o .list)))
-
--- the first rectangle of a polygon of one
-module _ (r : Rect) (p : Polygon) (o : PolygonOf (r ∷ []) p) where
-  pub one-some : 0 < p .count
-  one-some =
-      let a = ap length (o .list) in
-      let b = length-take (p .count) (p .rects) in
-      omega arith
-
-  pub one-valid : (b : Bool) → b ≡ valid r → b ≡ true → valid (getD (rectsOf p) 0 noRect) ≡ true
-  one-valid b e f = rw (o .list) (sym e ∙ f)
+    fit n k q = rw (← e, f, ← h, k, q)

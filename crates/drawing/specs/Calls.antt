@@ -10,8 +10,9 @@ use Rattle.geometry.specs.declared.rect.Rect.{Rect}
 use Rattle.geometry.specs.Cells.{onGrid, valid}
 use Rattle.geometry.specs.Common.{commonParts}
 use Rattle.geometry.specs.Cut.{cutList, cutLimited}
-use Rattle.geometry.specs.Grow.{grown, extraArea}
+use Rattle.geometry.specs.Grow.{grown}
 use Rattle.geometry.specs.Refine.{refine}
+use Rattle.area.specs.Lacked.{extraArea}
 use Rattle.drawing.specs.Arguments.{given, isList, isResult}
 
 -- a rectangle and a cell by their numbers
@@ -66,4 +67,4 @@ unfoldable pub validExtra : Rect → Cell → Bool
 validExtra r c = valid r && onGrid c
 
 unfoldable pub extraDrawn : Rect → Cell → ℕ
-extraDrawn r c = extraArea (r ∷ []) 0 c
+extraDrawn r c = extraArea (r ∷ []) r c

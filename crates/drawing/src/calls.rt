@@ -12,6 +12,7 @@ use crate::answer::Answer;
 use crate::answer::Extra;
 use crate::arguments::RESULT_NUMBERS;
 use crate::arguments::is_list;
+use area::extra_of_one;
 use geometry::Cell;
 use geometry::Count;
 use geometry::MOST_OF_POLYGON;
@@ -81,7 +82,7 @@ pub fn grow(list: &[u32], c: Cell, out: &mut [u32]) -> Answer
     Answer::Wrote(n)
 }
 
-// The extra area of a rectangle that grows to take a cell in.
+// The extra area of a rectangle, taken as a polygon of one, that grows to take a cell in.
 pub fn extra_area(r: Rect, c: Cell) -> Extra
     ensures { λ a. ⌜ a ≡ extraOf (validExtra r c) (extraDrawn r c) ⌝ }
 {
@@ -91,7 +92,7 @@ pub fn extra_area(r: Rect, c: Cell) -> Extra
     if !c.on_grid() {
         return Extra::Unfit;
     }
-    Extra::Area(Polygon::of(r).extra_area(0, c))
+    Extra::Area(extra_of_one(r, c))
 }
 
 // The list cut by a rectangle.

@@ -10,7 +10,6 @@ pub mod PairLaws
 pub mod SearchLaws
 pub mod ClipLaws
 pub mod PlaceLaws
-pub mod Cases
 pub mod Tests
 pub mod RectWays
 pub mod AppendLaws

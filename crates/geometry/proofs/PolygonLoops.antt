@@ -8,20 +8,17 @@ use native.Mathlib.Omega.{arith}
 use borrow.Author.Tests.{lt-ltb, le-ltb}
 use lib.Dec.{ltb}
 use lib.ListN.{length, take, drop, getD, set, length-set, replicate, length-replicate}
-use lib.Seq.{take-suc, take-suc-set, getD-take, length-take-le}
+use lib.Seq.{take-suc, take-suc-set, length-take-le}
 use Rattle.geometry.specs.declared.rect.Cell.{Cell}
 use Rattle.geometry.specs.declared.rect.Rect.{Rect}
 use Rattle.geometry.specs.declared.rect.Side.{Side}
 use Rattle.geometry.specs.declared.polygon.Polygon.{Polygon}
-use Rattle.geometry.specs.Cells.{onGrid, hasCell, anyHas, nonEmpty, valid, area, noRect}
+use Rattle.geometry.specs.Cells.{hasCell, anyHas, nonEmpty}
 use Rattle.geometry.specs.Clip.{sidePart, clipRect, clip}
 use Rattle.geometry.specs.Common.{unlessEmpty}
-use Rattle.geometry.specs.Grow.{grown, extraArea}
 use Rattle.geometry.specs.Numbers.{rectAt, rectsIn, rectsOf, putAt, Appended, PolygonOf}
 use Rattle.geometry.specs.Place.{place}
 use Rattle.geometry.proofs.ArrayLaws.{array-next, array-end}
-use Rattle.geometry.proofs.CellLaws.{Valid, valid-of}
-use Rattle.geometry.proofs.GrowLaws.{grow-valid, area-grows}
 use Rattle.geometry.proofs.NumberLaws.{rects-suc, put-behind, length-put}
 use Rattle.geometry.proofs.PlaceLaws.{place-any}
 
@@ -137,28 +134,6 @@ module _ (p : Polygon) (c : Cell) where
   place-found k g h e =
       let l : length (rectsOf p) ≡ p .count = length-take-le (p .count) (p .rects) (omega arith) in
       rw e (rw l at (place-any (rectsOf p) c))
-
--- The k-th rectangle of a polygon, read from its array, and grown to take a cell in.
-module _ (p : Polygon) (k : ℕ) (c : Cell) (h : k < p .count) (e : valid (getD (rectsOf p) k noRect) ≡ true) (f : onGrid c ≡ true) where
-  valid-at : valid (getD (p .rects) k noRect) ≡ true
-  valid-at = rw (getD-take (p .count) (p .rects) k noRect h) at e
-
-  -- the rectangle
-  pub old-valid : Valid (getD (p .rects) k noRect)
-  old-valid = valid-of (getD (p .rects) k noRect) valid-at
-
-  module _ (g : Rect) (eg : g ≡ grown (getD (p .rects) k noRect) c) where
-    -- the grown one
-    pub new-valid : Valid g
-    new-valid = rw eg (valid-of _ (grow-valid (getD (p .rects) k noRect) c valid-at f))
-
-    module _ (a b : ℕ) (ea : a ≡ area g) (eb : b ≡ area (getD (p .rects) k noRect)) where
-      pub area-less : b ≤ a
-      area-less = rw (ea, eb, eg) (area-grows (getD (p .rects) k noRect) c)
-
-      pub area-extra : a - b ≡ extraArea (rectsOf p) k c
-      unfolding extraArea
-      area-extra = rw (getD-take (p .count) (p .rects) k noRect h, ea, eb, eg)
 
 -- The parts of the first i of a polygon's n rectangles on a side are the first m rectangles of out.
 pub record Clipping (s : Side) (p : Polygon) (n : ℕ) (out : Polygon) (m i : ℕ) : Type 0 where

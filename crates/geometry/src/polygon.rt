@@ -1,12 +1,10 @@
 // A polygon by value: a list of 1 to 16 rectangles, whose cells are their union.
 ghost use mathlib.Core.Path.{_≡_};
-ghost use mathlib.Core.Bool.{true};
 ghost use mathlib.Core.List.{[], _∷_};
-ghost use Prim.Native.Nat.{_+_, _*_, _≤_, _<_};
-ghost use lib.ListN.{length, getD};
-ghost use Rattle.geometry.specs.Cells.{anyHas, valid, onGrid, noRect};
+ghost use Prim.Native.Nat.{_*_, _≤_};
+ghost use lib.ListN.{length};
+ghost use Rattle.geometry.specs.Cells.{anyHas};
 ghost use Rattle.geometry.specs.Clip.{clip};
-ghost use Rattle.geometry.specs.Grow.{extraArea};
 ghost use Rattle.geometry.specs.Numbers.{rectsIn, rectsOf, Appended, PolygonOf};
 ghost use Rattle.geometry.specs.Place.{place};
 use crate::limits::MOST_OF_POLYGON;
@@ -92,16 +90,6 @@ impl Polygon {
         ensures { λ r. ⌜ r ≡ anyHas (rectsOf self) c ⌝ }
     {
         self.place(c) < self.count
-    }
-
-    // By how many cells its k-th rectangle grows to take the cell in.
-    pub fn extra_area(self, k: usize, c: Cell) -> u64
-        requires { ⌜ (self .count ≤ 16) × (k < self .count) × (valid (getD (rectsOf self) k noRect) ≡ true) × (onGrid c ≡ true) ⌝ }
-        ensures { λ r. ⌜ r ≡ extraArea (rectsOf self) k c ⌝ }
-    {
-        let r = self.rects[k];
-        let g = r.grow(c);
-        g.area() - r.area()
     }
 
     // Its rectangles clipped to a side of a line, in order, empty ones left out.

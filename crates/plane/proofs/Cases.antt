@@ -6,7 +6,7 @@ use mathlib.Core.Option.{Option, none}
 use Rattle.geometry.specs.declared.rect.Cell.{Cell}
 use Rattle.geometry.specs.declared.rect.Line.{Line}
 use Rattle.geometry.specs.declared.rect.Line.the-variants.{AtX}
-use Rattle.geometry.proofs.Cases.{cell, Row as RectRow, Holds as RectHolds, AllHold as AllRectHold, table as rectTable, cases-hold as rect-cases-hold}
+use Rattle.area.proofs.Cases.{cell, Row as RectRow, Holds as RectHolds, AllHold as AllRectHold, table as rectTable, cases-hold as rect-cases-hold}
 use Rattle.tree.specs.Lists.{keep, total}
 use Rattle.tree.specs.Tree.{Index}
 use Rattle.tree.specs.Query.{entryAt, visits}

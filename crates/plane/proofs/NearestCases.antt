@@ -6,7 +6,7 @@ use mathlib.Core.Option.{none, some}
 use Rattle.polygons.specs.Lists.{least}
 use Rattle.geometry.specs.declared.rect.Cell.{Cell}
 use Rattle.geometry.specs.declared.rect.Rect.{Rect}
-use Rattle.geometry.proofs.Cases.{cell, rect}
+use Rattle.area.proofs.Cases.{cell, rect}
 use Rattle.distance.specs.Distance.{gap, squared, clamped, rectDistance}
 use Rattle.tree.specs.Space.{Branch}
 use Rattle.tree.specs.Nodes.{held}

@@ -4,16 +4,16 @@ use mathlib.Core.Bool.{Bool, true, _&&_}
 use mathlib.Core.Path.{_≡_, refl, ap, _∙_}
 use mathlib.Core.List.{List, [], _∷_, flatMap, append-nil}
 use lib.Dec.{eqb}
-use lib.ListN.{length, getD}
+use lib.ListN.{length}
 use native.Mathlib.Omega.{arith}
 use borrow.Author.Tests.{eqb-true, eq-eqb}
 use Rattle.polygons.specs.Lists.{any}
 use Rattle.geometry.specs.declared.rect.Cell.{Cell}
 use Rattle.geometry.specs.declared.rect.Rect.{Rect}
 use Rattle.geometry.specs.declared.rect.Line.{Line}
-use Rattle.geometry.specs.Cells.{hasCell, valid, allValid, anyHas, noRect}
+use Rattle.geometry.specs.Cells.{hasCell, valid, allValid, anyHas}
 use Rattle.geometry.specs.Common.{overlap, common}
-use Rattle.geometry.specs.Grow.{grown, extraArea}
+use Rattle.geometry.specs.Grow.{grown}
 use Rattle.geometry.specs.Refine.{refine}
 use Rattle.geometry.specs.Clip.{onSide, clipRect, sidePart, clip}
 use Rattle.geometry.proofs.Booleans.{both, split-and}
@@ -23,14 +23,16 @@ use Rattle.geometry.proofs.GrowLaws.{grow-has, grow-contains}
 use Rattle.geometry.proofs.CutLaws.{cut-cells}
 use Rattle.geometry.proofs.RefineLaws.{refine-cells, refine-length, refine-valid}
 use Rattle.geometry.proofs.ClipLaws.{side-cells, clip-valid}
+use Rattle.area.specs.Lacked.{extraArea}
 use Rattle.distance.proofs.DistanceLaws.{rect-least, rect-attained}
 use Rattle.tree.specs.Lists.{All}
 use Rattle.tree.specs.Space.{Side, left, right}
 use Rattle.tree.specs.Nodes.{on}
+use Rattle.tree.specs.Boxes.{extra}
 use Rattle.tree.proofs.Laws.{Laws}
 use Rattle.tree.proofs.BoxLaws.{BoxLaws}
 use Rattle.tree.proofs.BoxSpace.{space-laws}
-use Rattle.plane.specs.Plane.{rectSide, extraOf, plane, planeSpace}
+use Rattle.plane.specs.Plane.{rectSide, plane, planeSpace}
 
 -- valid lists, as boxes and as rectangles
 pub all-valid : (l : List Rect) → allValid l ≡ true → All (λ q. valid q ≡ true) l
@@ -43,10 +45,10 @@ unfolding allValid All
 valid-all [] h = refl
 valid-all (r ∷ l) h = both _ _ (h .0) (valid-all l (h .1))
 
--- the extra area of a polygon's rectangle is the rectangle's own
-pub extra-own : (p : List Rect) (k : ℕ) (c : Cell) → extraArea p k c ≡ extraOf (getD p k noRect) c
-unfolding extraArea extraOf
-extra-own p k c = refl
+-- the tree's extra area is that of rectangles
+pub extra-area : (fanout : ℕ) (p : List Rect) (r : Rect) (c : Cell) → extra (plane fanout) p r c ≡ extraArea p r c
+unfolding extra extraArea
+extra-area fanout p r c = refl
 
 on-side : (fanout : ℕ) (s : Side Line) (c : Cell) → onSide (rectSide s) c ≡ on (planeSpace fanout) s c
 unfolding onSide

@@ -1,27 +1,29 @@
 -- Two insertions worked out from the definitions.
 use Prim.Native.Nat.{ℕ}
-use mathlib.Core.Path.{_≡_, refl}
+use mathlib.Core.Path.{_≡_, refl, _∙_}
 use mathlib.Core.List.{[], _∷_, flatMap}
 use mathlib.Core.Option.{some, bind}
 use Rattle.polygons.specs.Limits.{atMost}
 use Rattle.polygons.specs.Lists.{any, least}
-use Rattle.geometry.specs.Cells.{hasCell, nonEmpty, area}
+use Rattle.geometry.specs.Cells.{onGrid, hasCell, nonEmpty, valid, area}
 use Rattle.geometry.specs.Common.{overlap, unlessEmpty, common}
-use Rattle.geometry.specs.Grow.{grown, extraArea}
+use Rattle.geometry.specs.Grow.{grown}
 use Rattle.geometry.specs.Cut.{cut, xCeiling, xFloor, yCeiling, yFloor}
 use Rattle.geometry.specs.Refine.{firstFrom, within, strictlyWithin, contained, firstContained, stacked, abreast, joinable, union, joins, partner, hasPartner, firstJoin, refineStep, refineSteps, refine}
 use Rattle.geometry.specs.Clip.{below, sidePart, clipRect}
-use Rattle.geometry.proofs.Cases.{rect, cell}
+use Rattle.area.proofs.LackLaws.{extra-single}
+use Rattle.area.proofs.Cases.{rect, cell}
 use Rattle.tree.specs.Lists.{total}
 use Rattle.tree.specs.Split.{half, split}
 use Rattle.tree.specs.Insert.{insertAt, insertTree}
 use Rattle.tree.specs.Tree.{Tree}
-use Rattle.tree.specs.Boxes.{anyHas}
+use Rattle.tree.specs.Boxes.{anyHas, extra}
 use Rattle.tree.specs.Search.{first}
 use Rattle.polygons.specs.Rules.{cutEach}
 use Rattle.tree.specs.Step2.{choose, grownPoly}
 use Rattle.plane.specs.Lines.{CellEntry, leafLine}
-use Rattle.plane.specs.Plane.{planeSpace, planeRoot, extraOf}
+use Rattle.plane.specs.Plane.{plane, planeSpace, planeRoot}
+use Rattle.plane.proofs.Rects.{extra-area}
 
 abbrev entry : ℕ → ℕ → ℕ → CellEntry
 entry a b t = record { cell = cell a b; tag = t }
@@ -54,6 +56,15 @@ grownAfter = record {
       ∷ record { poly = rect 5 5 9 6 ∷ []; child = entry 5 5 5 ∷ entry 6 5 6 ∷ entry 7 5 7 ∷ entry 8 5 8 ∷ [] } ∷ [];
 }
 
+-- the extra areas of the two branches' polygons: each is of one rectangle
+left-extra : extra (plane 8) (rect 0 5 5 6 ∷ []) (rect 0 5 5 6) (cell 3 7) ≡ 10
+unfolding area grown valid onGrid
+left-extra = extra-area 8 (rect 0 5 5 6 ∷ []) (rect 0 5 5 6) (cell 3 7) ∙ extra-single (rect 0 5 5 6) (cell 3 7) refl refl
+
+right-extra : extra (plane 8) (rect 5 5 9 6 ∷ []) (rect 5 5 9 6) (cell 3 7) ≡ 14
+unfolding area grown valid onGrid
+right-extra = extra-area 8 (rect 5 5 9 6 ∷ []) (rect 5 5 9 6) (cell 3 7) ∙ extra-single (rect 5 5 9 6) (cell 3 7) refl refl
+
 pub tenth : insertTree (planeSpace 8) (planeRoot 8) (some after) (entry 3 7 9) ≡ some grownAfter
-unfolding insertTree insertAt bind split half flatMap leafLine total choose grownPoly cutEach atMost anyHas any first least hasCell extraOf extraArea area grown overlap common cut xCeiling xFloor yCeiling yFloor unlessEmpty nonEmpty within strictlyWithin stacked abreast joinable union joins refine refineSteps refineStep firstFrom contained partner hasPartner firstContained firstJoin
-tenth = refl
+unfolding insertTree insertAt bind split half flatMap leafLine total choose grownPoly cutEach atMost anyHas any first least hasCell area grown overlap common cut xCeiling xFloor yCeiling yFloor unlessEmpty nonEmpty within strictlyWithin stacked abreast joinable union joins refine refineSteps refineStep firstFrom contained partner hasPartner firstContained firstJoin
+tenth = simp (left-extra, right-extra)

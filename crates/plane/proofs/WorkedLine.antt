@@ -6,7 +6,7 @@ use native.Mathlib.Omega.{arith}
 use Rattle.geometry.specs.declared.rect.Line.the-variants.{AtY}
 use Rattle.geometry.specs.Cells.{onGrid}
 use Rattle.geometry.specs.Clip.{below}
-use Rattle.geometry.proofs.Cases.{cell}
+use Rattle.area.proofs.Cases.{cell}
 use Rattle.tree.specs.Lists.{keep, All}
 use Rattle.polygons.specs.Lists.{least}
 use Rattle.plane.specs.Best.{greatest, scan}

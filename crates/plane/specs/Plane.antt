@@ -12,10 +12,11 @@ use Rattle.geometry.specs.declared.rect.Side.{Side as RectSide}
 use Rattle.geometry.specs.declared.rect.Side.the-variants.{Left, Right}
 use Rattle.geometry.specs.Cells.{onGrid, hasCell, valid}
 use Rattle.geometry.specs.Common.{common}
-use Rattle.geometry.specs.Grow.{grown, extraArea}
+use Rattle.geometry.specs.Grow.{grown}
 use Rattle.geometry.specs.Cut.{cut}
 use Rattle.geometry.specs.Refine.{refine}
 use Rattle.geometry.specs.Clip.{below, clipRect}
+use Rattle.area.specs.CellCount.{cellCount}
 use Rattle.distance.specs.Distance.{squared, rectDistance}
 use Rattle.tree.specs.Space.{Space, Side, left, right}
 use Rattle.tree.specs.Root.{Root}
@@ -27,10 +28,6 @@ use Rattle.plane.specs.Lines.{xOf, yOf, leafLine, nodeLine}
 abbrev pub rectSide : Side Line → RectSide
 rectSide (left l) = Left l
 rectSide (right l) = Right l
-
--- a rectangle's own extra area (that of its place in any list is the same: the law extra-own)
-unfoldable pub extraOf : Rect → Cell → ℕ
-extraOf r c = extraArea (r ∷ []) 0 c
 
 -- rectangles as boxes, with the fanout
 abbrev pub plane : ℕ → Boxes
@@ -46,7 +43,7 @@ plane fanout = record {
   clip = λ s r. clipRect (rectSide s) r;
   common = common;
   grow = grown;
-  extra = extraOf;
+  count = cellCount;
   cut = cut;
   refine = refine;
   leafLine = leafLine;

@@ -1,8 +1,8 @@
 -- The rules of lists of rectangles, over any rectangles: they look at a rectangle only through its own rules, which are their first argument.
 -- The geometry's rules and the tree's are both instances of these.
--- docs/RULES.md 2.6, 2.13, 2.14, 4.5, 4.6, 4.9, 4.15, 5.14
+-- docs/RULES.md 2.6, 2.10, 2.13, 2.14, 4.4, 4.5, 4.6, 4.9, 4.15, 5.14
 use Prim.Native.Nat.{ℕ}
-use mathlib.Core.Bool.{Bool}
+use mathlib.Core.Bool.{Bool, _&&_, not}
 use mathlib.Core.List.{List, [], _∷_, flatMap}
 use mathlib.Core.Option.{Option, some, bind}
 use Rattle.polygons.specs.Limits.{mostPieces, atMost}
@@ -11,6 +11,15 @@ use Rattle.polygons.specs.Lists.{any, least}
 -- 'its cells are their union': some rectangle of the list has the cell
 abbrev pub unionHas : {A C : Type 0} → (A → C → Bool) → List A → C → Bool
 unionHas has l c = any (λ r. has r c) l
+
+-- how many cells of a rectangle a polygon lacks. count gives how many cells of the grid pass a test.
+abbrev pub lackedBy : {A C : Type 0} → ((C → Bool) → ℕ) → (A → C → Bool) → List A → A → ℕ
+lackedBy count has p r = count (λ c. has r c && not (unionHas has p c))
+
+-- A.2: 'extra area is the number of cells of the grown rectangle that the whole polygon lacks': of a polygon, one of its rectangles,
+-- and the cell that the rectangle grows to
+abbrev pub extraAreaBy : {A C : Type 0} → ((C → Bool) → ℕ) → (A → C → Bool) → (A → C → A) → List A → A → C → ℕ
+extraAreaBy count has grow p r c = lackedBy count has p (grow r c)
 
 -- 'A list is cut by S piece by piece, in order.'
 abbrev pub cutPieces : {A : Type 0} → (A → A → List A) → List A → A → List A

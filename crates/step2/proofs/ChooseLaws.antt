@@ -13,19 +13,21 @@ use Rattle.polygons.specs.Lists.{any, least}
 use Rattle.geometry.specs.declared.rect.Cell.{Cell}
 use Rattle.geometry.specs.declared.rect.Rect.{Rect}
 use Rattle.geometry.specs.Cells.{noRect}
+use Rattle.area.specs.Lacked.{extraArea}
 use Rattle.tree.specs.Lists.{All}
 use Rattle.tree.specs.Space.{Branch}
 use Rattle.tree.specs.Search.{Focus, first}
-use Rattle.tree.specs.Boxes.{anyHas}
-use Rattle.tree.specs.Step2.{grownPoly, allBoxes, chosen, growing, choose}
+use Rattle.tree.specs.Boxes.{anyHas, extra}
+use Rattle.tree.specs.Step2.{grownPoly, allBoxes, extras, hasExtra, chosen, growing, choose}
 use Rattle.tree.proofs.Any.{any-append, any-none}
-use Rattle.tree.proofs.Lists.{flatMap-append, all-append, all-map, all-second, all-flatMap, all-head}
-use Rattle.plane.specs.Plane.{extraOf, plane}
+use Rattle.tree.proofs.Lists.{flatMap-append, all-append, all-map, all-second, all-flatMap, all-of-map, all-head}
+use Rattle.plane.specs.Plane.{plane}
 use Rattle.plane.proofs.Best.{least-low, least-high}
 use Rattle.memory.specs.Fanout.{fanout}
 use Rattle.index.specs.Walks.{hasTest}
+use Rattle.step2.specs.Least.{extraIn}
 use Rattle.step2.specs.Pieces.{rectsAll, siblings, focusAt, grownAt}
-use Rattle.step2.proofs.NearestLaws.{AtLeast, More, FirstOf}
+use Rattle.step2.proofs.LeastLaws.{AtLeast, More, FirstOf}
 
 -- the first that passes, where none before it does
 first-at : {A : Type 0} (t : A → Bool) (u v : List A) (a : A) → All (λ x. t x ≡ false) u → t a ≡ true
@@ -109,69 +111,83 @@ module _ {A : Type 0} (p : List Rect) (c : Cell) (bs : List (Branch (List Rect) 
 
   module _ (K : Focus Rect) (F : Focus (Branch (List Rect) A)) (m : ℕ) where
     -- the rectangle of least extra area is found and grown
-    grows : least (λ r. extraOf r c) (allBoxes (plane fanout) bs) ≡ m
-        → first (λ b. any (λ r. eqb (extraOf r c) m) (b .poly)) bs ≡ some F
-        → first (λ r. eqb (extraOf r c) m) (F .at .poly) ≡ some K
+    grows : least (λ x. x) (extras (plane fanout) bs c) ≡ m
+        → first (λ b. any (hasExtra (plane fanout) c m (b .poly)) (b .poly)) bs ≡ some F
+        → first (hasExtra (plane fanout) c m (F .at .poly)) (F .at .poly) ≡ some K
         → growing (plane fanout) p bs c
         ≡ bind (grownPoly (plane fanout) p (allBoxes (plane fanout) (F .before ++ F .after)) K c) (λ q. some (chosen (plane fanout) F q))
     unfolding bind
     grows e f g = rw (e, f, g)
 
 -- the least of a list that has it between others that are not less
-least-is : (c : Cell) (u v : List Rect) (a : Rect) → AtLeast c (extraOf a c) u → AtLeast c (extraOf a c) v → least (λ r. extraOf r c) (u ++ (a ∷ v)) ≡ extraOf a c
+least-is : (u v : List ℕ) (a : ℕ) → All (λ x. a ≤ x) u → All (λ x. a ≤ x) v → least (λ x. x) (u ++ (a ∷ v)) ≡ a
 unfolding All
-least-is c u v a h g =
-    let f : Rect → ℕ = λ r. extraOf r c in
+least-is u v a h g =
     let l = u ++ (a ∷ v) in
-    let z : f a ≤ f a = omega arith in
+    let z : a ≤ a = omega arith in
     let n : 1 ≤ length l = rw (length-append u (a ∷ v)) (omega arith) in
-    let x : f a ≤ least f l = least-high f (f a) l n (all-append (λ r. f a ≤ f r) u (a ∷ v) h (z, g)) in
-    let y : least f l ≤ f a = all-head (λ r. least f l ≤ f r) a v (all-second (λ r. least f l ≤ f r) u (a ∷ v) (least-low f l)) in
+    let x : a ≤ least (λ y. y) l = least-high (λ y. y) a l n (all-append (λ y. a ≤ y) u (a ∷ v) h (z, g)) in
+    let y : least (λ y. y) l ≤ a = all-head (λ y. least (λ w. w) l ≤ y) a v (all-second (λ y. least (λ w. w) l ≤ y) u (a ∷ v) (least-low (λ w. w) l)) in
     omega arith
 
 -- rectangles with more than the least do not have it
-none-equal : (c : Cell) (x : ℕ) (l : List Rect) → More c x l → All (λ r. eqb (extraOf r c) x ≡ false) l
-none-equal c x l h = all-map (λ r. x < extraOf r c) _ l (λ r g. ne-eqb (extraOf r c) x (λ e. omega arith)) h
+none-equal : (extra : Rect → ℕ) (x : ℕ) (l : List Rect) → More extra x l → All (λ r. eqb (extra r) x ≡ false) l
+none-equal extra x l h = all-map (λ r. x < extra r) _ l (λ r g. ne-eqb (extra r) x (λ e. omega arith)) h
 
-least-more : (c : Cell) (x : ℕ) (l : List Rect) → More c x l → AtLeast c x l
-least-more c x l h = all-map (λ r. x < extraOf r c) _ l (λ r g. omega arith) h
+least-more : (extra : Rect → ℕ) (x : ℕ) (l : List Rect) → More extra x l → AtLeast extra x l
+least-more extra x l h = all-map (λ r. x < extra r) _ l (λ r g. omega arith) h
+
+-- the extra areas of a polygon's rectangles, and of some polygons'
+abbrev own : Cell → List Rect → List ℕ
+own c q = map (extraIn q c) q
+
+unfoldable extrasOf : Cell → List (List Rect) → List ℕ
+extrasOf c ps = flatMap (own c) ps
+
+extras-are : {A : Type 0} (c : Cell) (bs : List (Branch (List Rect) A)) → extras (plane fanout) bs c ≡ extrasOf c (map (λ b. b .poly) bs)
+unfolding extrasOf flatMap extra extraArea
+extras-are c [] = refl
+extras-are c (b ∷ bs) = ap (λ l. own c (b .poly) ++ l) (extras-are c bs)
 
 module _ (c : Cell) (ps : List (List Rect)) (limit : ℕ) (f : FirstOf c limit ps) where
   -- the least extra area
-  least-found : least (λ r. extraOf r c) (rectsAll ps) ≡ extraOf (f .inside .at) c
-  unfolding rectsAll flatMap
+  least-found : least (λ x. x) (extrasOf c ps) ≡ extraArea (f .polygon) (f .inside .at) c
+  unfolding extrasOf flatMap
   least-found =
       let i = f .inside in
-      let x = extraOf (i .at) c in
-      let e : rectsAll ps ≡ (rectsAll (f .before) ++ i .left) ++ (i .at ∷ (i .right ++ rectsAll (f .after))) =
-      ap rectsAll (f .row) ∙ flatMap-append (λ q. q) (f .before) (f .polygon ∷ f .after) ∙ rw (i .list) (simp append-assoc) in
-      ap (least (λ r. extraOf r c)) e
-      ∙ least-is c (rectsAll (f .before) ++ i .left) (i .right ++ rectsAll (f .after)) (i .at)
-      (all-append _ (rectsAll (f .before)) (i .left)
-      (all-flatMap (λ r. x ≤ extraOf r c) (λ q. q) (f .before) (all-map (More c x) (AtLeast c x) (f .before) (least-more c x) (f .before-more)))
-      (least-more c x (i .left) (i .left-more)))
-      (all-append _ (i .right) (rectsAll (f .after)) (i .right-least) (all-flatMap (λ r. x ≤ extraOf r c) (λ q. q) (f .after) (f .after-least)))
+      let q = f .polygon in
+      let x = extraIn q c (i .at) in
+      let w : own c q ≡ map (extraIn q c) (i .left) ++ (x ∷ map (extraIn q c) (i .right)) = ap (map (extraIn q c)) (i .list) ∙ map-append (extraIn q c) (i .left) (i .at ∷ i .right) in
+      let e : extrasOf c ps ≡ (extrasOf c (f .before) ++ map (extraIn q c) (i .left)) ++ (x ∷ (map (extraIn q c) (i .right) ++ extrasOf c (f .after))) =
+      ap (extrasOf c) (f .row) ∙ flatMap-append (own c) (f .before) (q ∷ f .after) ∙ ap (λ l. extrasOf c (f .before) ++ (l ++ extrasOf c (f .after))) w ∙ simp append-assoc in
+      ap (least (λ y. y)) e
+      ∙ least-is (extrasOf c (f .before) ++ map (extraIn q c) (i .left)) (map (extraIn q c) (i .right) ++ extrasOf c (f .after)) x
+      (all-append _ (extrasOf c (f .before)) (map (extraIn q c) (i .left))
+      (all-flatMap (λ y. x ≤ y) (own c) (f .before) (all-map (λ s. More (extraIn s c) x s) (λ s. All (λ y. x ≤ y) (own c s)) (f .before) (λ s h. all-of-map (λ y. x ≤ y) (extraIn s c) s (least-more (extraIn s c) x s h)) (f .before-more)))
+      (all-of-map (λ y. x ≤ y) (extraIn q c) (i .left) (least-more (extraIn q c) x (i .left) (i .left-more))))
+      (all-append _ (map (extraIn q c) (i .right)) (extrasOf c (f .after)) (all-of-map (λ y. x ≤ y) (extraIn q c) (i .right) (i .right-least))
+      (all-flatMap (λ y. x ≤ y) (own c) (f .after) (all-map (λ s. AtLeast (extraIn s c) x s) (λ s. All (λ y. x ≤ y) (own c s)) (f .after) (λ s h. all-of-map (λ y. x ≤ y) (extraIn s c) s h) (f .after-least))))
 
   -- the rectangle in its polygon
-  rect-found : first (λ r. eqb (extraOf r c) (extraOf (f .inside .at) c)) (f .polygon)
+  rect-found : first (λ r. eqb (extraArea (f .polygon) r c) (extraArea (f .polygon) (f .inside .at) c)) (f .polygon)
       ≡ some (record { before = f .inside .left; at = f .inside .at; after = f .inside .right })
   rect-found =
       let i = f .inside in
-      ap (first (λ r. eqb (extraOf r c) (extraOf (i .at) c))) (i .list)
-      ∙ first-at _ (i .left) (i .right) (i .at) (none-equal c (extraOf (i .at) c) (i .left) (i .left-more)) (eq-eqb (extraOf (i .at) c) _ refl)
+      ap (first (λ r. eqb (extraArea (f .polygon) r c) (extraArea (f .polygon) (i .at) c))) (i .list)
+      ∙ first-at _ (i .left) (i .right) (i .at) (none-equal (extraIn (f .polygon) c) (extraArea (f .polygon) (i .at) c) (i .left) (i .left-more)) (eq-eqb (extraArea (f .polygon) (i .at) c) _ refl)
 
   -- its polygon among the others
-  has-least : any (λ r. eqb (extraOf r c) (extraOf (f .inside .at) c)) (f .polygon) ≡ true
+  has-least : any (λ r. eqb (extraArea (f .polygon) r c) (extraArea (f .polygon) (f .inside .at) c)) (f .polygon) ≡ true
   unfolding any
   has-least =
       let i = f .inside in
-      let t : Rect → Bool = λ r. eqb (extraOf r c) (extraOf (i .at) c) in
-      ap (any t) (i .list) ∙ any-append t (i .left) (i .at ∷ i .right) ∙ rw (eq-eqb (extraOf (i .at) c) (extraOf (i .at) c) refl) (or-true (any t (i .left)))
+      let t : Rect → Bool = λ r. eqb (extraArea (f .polygon) r c) (extraArea (f .polygon) (i .at) c) in
+      ap (any t) (i .list) ∙ any-append t (i .left) (i .at ∷ i .right) ∙ rw (eq-eqb (extraArea (f .polygon) (i .at) c) (extraArea (f .polygon) (i .at) c) refl) (or-true (any t (i .left)))
 
-  none-least : All (λ q. any (λ r. eqb (extraOf r c) (extraOf (f .inside .at) c)) q ≡ false) (f .before)
+  none-least : All (λ q. any (λ r. eqb (extraArea q r c) (extraArea (f .polygon) (f .inside .at) c)) q ≡ false) (f .before)
   none-least =
-      let x = extraOf (f .inside .at) c in
-      all-map (More c x) _ (f .before) (λ q g. any-none (λ r. eqb (extraOf r c) x) q (none-equal c x q g)) (f .before-more)
+      let x = extraArea (f .polygon) (f .inside .at) c in
+      all-map (λ q. More (extraIn q c) x q) _ (f .before) (λ q g. any-none (λ r. eqb (extraArea q r c) x) q (none-equal (extraIn q c) x q g)) (f .before-more)
 
   -- the place of the polygon, and of the rectangle in it
   pub place-below : length (f .before) < length ps
@@ -212,18 +228,18 @@ module _ (c : Cell) (ps : List (List Rect)) (limit : ℕ) (f : FirstOf c limit p
         → choose (plane fanout) p bs c
         ≡ bind (grownAt p ps (length (f .before)) (length (f .inside .left)) c)
         (λ q. some (record { before = take (length (f .before)) bs; old = s .old; grown = q; after = drop (suc (length (f .before))) bs }))
-    unfolding choose hasTest
+    unfolding choose hasTest extra extraArea
     choose-grown e h =
-        let x = extraOf (f .inside .at) c in
+        let x = extraArea (f .polygon) (f .inside .at) c in
         let n = length (f .before) in
-        let t : Branch (List Rect) A → Bool = λ b. any (λ r. eqb (extraOf r c) x) (b .poly) in
+        let t : Branch (List Rect) A → Bool = λ b. any (λ r. eqb (extraArea (b .poly) r c) x) (b .poly) in
         let F : Focus (Branch (List Rect) A) = record { before = take n bs; at = s .old; after = drop (suc n) bs } in
         let K : Focus Rect = record { before = f .inside .left; at = f .inside .at; after = f .inside .right } in
         let none-has = first-miss (λ b. anyHas (plane fanout) (b .poly) c) bs (all-unmap (λ x. anyHas (plane fanout) x c ≡ false) (λ b. b .poly) bs (rw e h)) in
-        let a : least (λ r. extraOf r c) (allBoxes (plane fanout) bs) ≡ x = ap (least (λ r. extraOf r c)) (flat-polygons bs ∙ ap rectsAll e) ∙ least-found in
-        let k : All (λ b. t b ≡ false) (take n bs) = all-unmap (λ q. any (λ r. eqb (extraOf r c) x) q ≡ false) (λ b. b .poly) (take n bs) (rw (s .front) none-least) in
+        let a : least (λ y. y) (extras (plane fanout) bs c) ≡ x = ap (least (λ y. y)) (extras-are c bs ∙ ap (extrasOf c) e) ∙ least-found in
+        let k : All (λ b. t b ≡ false) (take n bs) = all-unmap (λ q. any (λ r. eqb (extraArea q r c) x) q ≡ false) (λ b. b .poly) (take n bs) (rw (s .front) none-least) in
         let b : first t bs ≡ some F = ap (first t) (s .row) ∙ first-at t (take n bs) (drop (suc n) bs) (s .old) k (rw (s .poly) has-least) in
-        let d : first (λ r. eqb (extraOf r c) x) (s .old .poly) ≡ some K = rw (s .poly) rect-found in
+        let d : first (λ r. eqb (extraArea (s .old .poly) r c) x) (s .old .poly) ≡ some K = rw (s .poly) rect-found in
         let w : allBoxes (plane fanout) (take n bs ++ drop (suc n) bs) ≡ rectsAll (f .before ++ f .after) = others s in
         rw none-has (grows p c bs K F x a b d)
         ∙ ap (λ ss. bind (grownPoly (plane fanout) p ss K c) (λ q. some (chosen (plane fanout) F q))) w

@@ -13,7 +13,6 @@ use Rattle.geometry.specs.declared.rect.Rect.{Rect}
 use Rattle.geometry.specs.declared.polygon.Polygon.{Polygon}
 use Rattle.geometry.specs.declared.cut.Count.{Count}
 use Rattle.geometry.specs.declared.cut.Count.the-variants.{Rects, Over}
-use Rattle.geometry.specs.Cells.{onGrid}
 use Rattle.geometry.specs.Numbers.{rectsIn, rectsOf, counted, Written, PolygonOf}
 use Rattle.geometry.proofs.NumberLaws.{length-rects}
 use Rattle.tree.specs.Lists.{All}
@@ -24,15 +23,15 @@ use Rattle.memory.specs.Layout.{part, polygonIn}
 use Rattle.memory.specs.Fanout.{fanout}
 use Rattle.layout.specs.Nodes.{countAt, childAt, PolygonPart}
 use Rattle.index.specs.Walks.{hasTest}
-use Rattle.step2.specs.declared.extra.Nearest.{Nearest}
+use Rattle.step2.specs.declared.least.Least.{Least}
 use Rattle.step2.specs.Branches.{polygonsIn, Branches, firstPlace}
 use Rattle.step2.specs.Choose.{ChosenBranch, ChosenAt, NoneChosen}
-use Rattle.step2.specs.Extra.{noneYet, nearestFrom}
+use Rattle.step2.specs.Least.{noneYet, leastFrom}
 use Rattle.step2.specs.Pieces.{grownAt}
 use Rattle.step2.proofs.ChildParts.{next-polygon, child-polygon, polygon-there}
 use Rattle.step2.proofs.ReadBranches.{polygons-read}
 use Rattle.step2.proofs.FirstLoop.{none-before, passes-at}
-use Rattle.step2.proofs.NearestLaws.{Least, nearest-least}
+use Rattle.step2.proofs.LeastLaws.{FoundLeast, least-first}
 use Rattle.step2.proofs.PieceLaws.{grown-few}
 use Rattle.step2.proofs.ChooseLaws.{BranchAt, branch-at, choose-has, choose-grown, place-below, polygon-at, rect-below}
 
@@ -73,24 +72,24 @@ module _ (m : List ℕ) (k : ℕ) (p : List Rect) (c : Cell) (v : Branches m k) 
           (chosen-branch n b p c place (take place ps) (drop (suc place) ps) (getD ps place []) (getD ps place []) s
           (choose-has p c (b .child) place (take place ps) (drop (suc place) ps) (getD ps place []) s none-has has))
 
-  module _ (g : onGrid c ≡ true) (x : Nearest) (e : x ≡ nearestFrom c 0 noneYet (polygonsIn m k)) where
-    found : Least c (polygonsIn m k) x
+  module _ (x : Least) (e : x ≡ leastFrom c 0 noneYet (polygonsIn m k)) where
+    found : FoundLeast c (polygonsIn m k) x
     found =
         let s = v .some in
         let q : polygonsIn m k ≡ polygonIn (part m (childAt m k 0)) ∷ drop 1 (polygonsIn m k) = next-polygon m k v 0 s in
         let o = v .good 0 s in
         let l : 1 ≤ length (polygonIn (part m (childAt m k 0))) = rw (length-rects _ _) (o .some-rects) in
-        rw q (nearest-least c (polygonIn (part m (childAt m k 0))) (drop 1 (polygonsIn m k)) x l (o .valid) g (rw q at e))
+        rw q (least-first c (polygonIn (part m (childAt m k 0))) (drop 1 (polygonsIn m k)) x l (rw q at e))
 
-    pub nearest-place : x .branch < countAt m k
-    nearest-place =
+    pub least-place : x .branch < countAt m k
+    least-place =
         let a = place-below c (polygonsIn m k) _ (found .first) in
         let b = found .branch in
         let z = v .count in
         omega arith
 
-    pub nearest-rect : x .rect < length (getD (polygonsIn m k) (x .branch) [])
-    nearest-rect =
+    pub least-rect : x .rect < length (getD (polygonsIn m k) (x .branch) [])
+    least-rect =
         let f = found .first in
         let a = rect-below c (polygonsIn m k) _ f in
         let b = found .rect in

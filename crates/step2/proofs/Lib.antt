@@ -2,8 +2,8 @@ pub mod ChoiceCases
 pub mod ChildParts
 pub mod ReadBranches
 pub mod FirstLoop
-pub mod ExtraLoops
-pub mod NearestLaws
+pub mod LeastLoops
+pub mod LeastLaws
 pub mod PutLoop
 pub mod PieceLaws
 pub mod SiblingLoop

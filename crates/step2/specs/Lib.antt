@@ -1,4 +1,4 @@
 pub mod Choose
 pub mod Branches
-pub mod Extra
+pub mod Least
 pub mod Pieces

@@ -10,7 +10,7 @@ ghost use Rattle.step2.specs.Branches.{polygonsIn, Branches, firstPlace}
 ghost use Rattle.step2.specs.Choose.{Routing, ChoiceIs};
 use crate::branch::first_with;
 use crate::branch::polygon_at;
-use crate::extra::find_nearest;
+use crate::least::find_least;
 use crate::pieces::put_grown;
 use geometry::Cell;
 use geometry::Count;
@@ -32,11 +32,11 @@ pub struct Choice {
 }
 
 // The branch of least extra area, where none has the cell, with its polygon grown.
-fn choose_nearest(m: &[u32], k: u32, p: Polygon, c: Cell) -> Choice
+fn choose_least(m: &[u32], k: u32, p: Polygon, c: Cell) -> Choice
     requires { ⌜ Branches (now m) k × (firstPlace (hasTest c) (polygonsIn (now m) k) ≡ countAt (now m) k) × (p .count ≤ 16) × (onGrid c ≡ true) ⌝ }
     ensures { λ r. ⌜ ChoiceIs (now (m .entry)) k (rectsOf p) c r ⌝ }
 {
-    let found = find_nearest(m, k, c);
+    let found = find_least(m, k, c);
     let place = found.branch;
     let rect = found.rect;
     let mut list = [0u32; WORK_NUMBERS];
@@ -59,7 +59,7 @@ fn choose_branch(m: &[u32], k: u32, p: Polygon, c: Cell) -> Choice
     let n = count_at(m, k) as usize;
     let place = first_with(m, k, c);
     if n <= place {
-        return choose_nearest(m, k, p, c);
+        return choose_least(m, k, p, c);
     }
     let j = child_at(m, k, place);
     let polygon = polygon_at(m, j);

@@ -1,7 +1,7 @@
 // Step 2 of an insertion on memory: the branch of a routing node that it goes to, and that branch's polygon.
 mod branch;
 mod choosing;
-mod extra;
+mod least;
 mod pieces;
 mod replacing;
 mod siblings;

@@ -1,10 +1,10 @@
 -- Step 2 refuses only where a limit is passed.
 use Prim.Native.Nat.{ℕ, _≤_, min}
 use mathlib.Core.Bool.{Bool, true, _||_, or-true, false≢true}
-use mathlib.Core.Path.{_≡_, refl, sym, _∙_}
-use mathlib.Core.List.{List, [], _∷_, _++_, flatMap}
+use mathlib.Core.Path.{_≡_, refl, sym, ap, _∙_}
+use mathlib.Core.List.{List, [], _∷_, _++_, map, flatMap}
 use mathlib.Core.Option.{Option, none, some, bind}
-use lib.ListN.{length, length-append}
+use lib.ListN.{length, length-append, length-map}
 use lib.Dec.{eqb}
 use native.Mathlib.Omega.{arith}
 use native.Mathlib.Decide.{decLe}
@@ -12,10 +12,10 @@ use borrow.Author.Tests.{eq-eqb}
 use Rattle.polygons.specs.Lists.{any, least}
 use Rattle.tree.specs.Lists.{All}
 use Rattle.tree.specs.Space.{Branch}
-use Rattle.tree.specs.Boxes.{Boxes, anyHas, GoodPolygon, Poly}
+use Rattle.tree.specs.Boxes.{Boxes, anyHas, extra, GoodPolygon, Poly}
 use Rattle.tree.specs.Search.{first, Focus, orElse}
-use Rattle.tree.specs.Step2.{grownPoly, allBoxes, chosen, whole, growing, choose}
-use Rattle.tree.proofs.Any.{any-flatMap, first-none, first-some, any-none}
+use Rattle.tree.specs.Step2.{grownPoly, allBoxes, extras, hasExtra, chosen, whole, growing, choose}
+use Rattle.tree.proofs.Any.{any-flatMap, any-same, first-none, first-some, any-none}
 
 least-any : {A : Type 0} (f : A → ℕ) (a : A) (l : List A) → any (λ r. eqb (f r) (least f (a ∷ l))) (a ∷ l) ≡ true
 unfolding any least
@@ -37,11 +37,28 @@ some-all : {A : Type 0} (f : A → ℕ) (l : List A) → 1 ≤ length l → any 
 some-all f [] h = absurd (omega arith)
 some-all f (a ∷ l) h = least-any f a l
 
+any-map : {A C : Type 0} (t : C → Bool) (f : A → C) (l : List A) → any t (map f l) ≡ any (λ a. t (f a)) l
+unfolding any
+any-map t f [] = refl
+any-map t f (a ∷ l) = ap (λ b. t (f a) || b) (any-map t f l)
+
 module _ (B : Boxes) {A : Type 0} (p : Poly B) (bs : List (Branch (Poly B) A)) (c : B .Cell) where
-  some-boxes : (l : List (Branch (Poly B) A)) → 1 ≤ length l → All (λ b. GoodPolygon B (b .poly)) l → 1 ≤ length (allBoxes B l)
+  -- a branch has an extra area for each of its rectangles
+  some-extras : (l : List (Branch (Poly B) A)) → 1 ≤ length l → All (λ b. GoodPolygon B (b .poly)) l → 1 ≤ length (extras B l c)
   unfolding All flatMap
-  some-boxes [] h f = absurd (omega arith)
-  some-boxes (b ∷ l) h f = let a = f .0 .lower in let e = length-append (b .poly) (flatMap (λ x. x .poly) l) in omega arith
+  some-extras [] h f = absurd (omega arith)
+  some-extras (b ∷ l) h f =
+      let a = f .0 .lower in
+      let e = length-append (map (λ r. extra B (b .poly) r c) (b .poly)) (extras B l c) in
+      let g = length-map (b .poly) (λ r. extra B (b .poly) r c) in
+      omega arith
+
+  -- a number is one of the extra areas exactly if some branch has a rectangle with it
+  any-extras : (m : ℕ) (l : List (Branch (Poly B) A))
+      → any (λ x. eqb x m) (extras B l c) ≡ any (λ b. any (hasExtra B c m (b .poly)) (b .poly)) l
+  any-extras m l =
+      any-flatMap (λ x. eqb x m) (λ b. map (λ r. extra B (b .poly) r c) (b .poly)) l
+      ∙ any-same _ (λ b. any (hasExtra B c m (b .poly)) (b .poly)) l (λ b. any-map (λ x. eqb x m) (λ r. extra B (b .poly) r c) (b .poly))
 
   -- the refusal names a branch and a box whose growth passes a limit
   pub record Cause : Type 0 where
@@ -53,11 +70,12 @@ module _ (B : Boxes) {A : Type 0} (p : Poly B) (bs : List (Branch (Poly B) A)) (
   growing-cause : 1 ≤ length bs → All (λ b. GoodPolygon B (b .poly)) bs → growing B p bs c ≡ none → Cause
   unfolding bind
   growing-cause n f h =
-      let m = least (λ r. B .extra r c) (allBoxes B bs) in
-      let a = some-all (λ r. B .extra r c) (allBoxes B bs) (some-boxes bs n f) in
-      let i = finds (λ b. any (λ r. eqb (B .extra r c) (least (λ r. B .extra r c) (allBoxes B bs))) (b .poly)) bs (sym (any-flatMap (λ r. eqb (B .extra r c) (least (λ r. B .extra r c) (allBoxes B bs))) (λ b. b .poly) bs) ∙ a) in
-      let k = first-some (λ b. any (λ r. eqb (B .extra r c) (least (λ r. B .extra r c) (allBoxes B bs))) (b .poly)) bs (i .0) (i .1) in
-      let j = finds (λ r. eqb (B .extra r c) (least (λ r. B .extra r c) (allBoxes B bs))) (i .0 .at .poly) (k .passes) in
+      let m = least (λ x. x) (extras B bs c) in
+      let a : any (λ b. any (hasExtra B c m (b .poly)) (b .poly)) bs ≡ true =
+      sym (any-extras m bs) ∙ some-all (λ x. x) (extras B bs c) (some-extras bs n f) in
+      let i = finds (λ b. any (hasExtra B c m (b .poly)) (b .poly)) bs a in
+      let k = first-some (λ b. any (hasExtra B c m (b .poly)) (b .poly)) bs (i .0) (i .1) in
+      let j = finds (hasExtra B c m (i .0 .at .poly)) (i .0 .at .poly) (k .passes) in
       record {
         branch = i .0;
         box = j .0;

@@ -3,13 +3,12 @@ use mathlib.Core.Bool.{true, false}
 use mathlib.Core.Path.{_≡_, refl, _∙_, subst}
 use mathlib.Core.List.{List, _∷_, _++_}
 use mathlib.Core.Option.{Option, none, some}
-use lib.Dec.{eqb}
 use Rattle.polygons.specs.Lists.{any, least}
 use Rattle.tree.specs.Lists.{All, Pairs}
 use Rattle.tree.specs.Space.{Branch, Chosen}
 use Rattle.tree.specs.Boxes.{Boxes, anyHas, GoodPolygon, Poly}
 use Rattle.tree.specs.Search.{first, Focus, orElse}
-use Rattle.tree.specs.Step2.{grownPoly, allBoxes, chosen, whole, growing, choose}
+use Rattle.tree.specs.Step2.{grownPoly, allBoxes, extras, hasExtra, chosen, whole, growing, choose}
 use Rattle.tree.specs.BoxSpace.{spaceOf}
 use Rattle.tree.proofs.BoxLaws.{BoxLaws}
 use Rattle.tree.proofs.Lists.{all-append, all-first, all-second, all-map, pairs-parts, all-head, all-tail, pairs-head}
@@ -86,9 +85,9 @@ module _ (B : Boxes) (W : BoxLaws B) where
         go : (m : Option (Focus (Branch (Poly B) A))) → first (λ b. anyHas B (b .poly) c) bs ≡ m → orElse (whole B m) (growing B p bs c) ≡ some ch → Chose (spaceOf B) p bs c ch
         go (some f) e h = let q : ch ≡ chosen B f (f .at .poly) = cc in rw q (whole-chose f (first-some (λ b. anyHas B (b .poly) c) bs f e))
         go none e h =
-            let m = least (λ r. B .extra r c) (allBoxes B bs) in
-            let i = bind-some (first (λ b. any (λ r. eqb (B .extra r c) m) (b .poly)) bs) _ ch h in
-            let j = bind-some (first (λ r. eqb (B .extra r c) m) (i .0 .at .poly)) _ ch (i .2) in
+            let m = least (λ x. x) (extras B bs c) in
+            let i = bind-some (first (λ b. any (hasExtra B c m (b .poly)) (b .poly)) bs) _ ch h in
+            let j = bind-some (first (hasExtra B c m (i .0 .at .poly)) (i .0 .at .poly)) _ ch (i .2) in
             let k = bind-some (grownPoly B p (allBoxes B (i .0 .before ++ i .0 .after)) (j .0) c) _ ch (j .2) in
             let q : ch ≡ chosen B (i .0) (k .0) = cc (k .2) in
             rw q (grown-chose (i .0) (j .0) (k .0) (first-some _ bs (i .0) (i .1) .list) (first-some _ (i .0 .at .poly) (j .0) (j .1) .list) (first-none (λ b. anyHas B (b .poly) c) bs e) (k .1))
@@ -101,9 +100,9 @@ chose-row B {A = A} p bs c ch h = go (first (λ b. anyHas B (b .poly) c) bs) ref
     go : (m : Option (Focus (Branch (Poly B) A))) → first (λ b. anyHas B (b .poly) c) bs ≡ m → orElse (whole B m) (growing B p bs c) ≡ some ch → bs ≡ ch .before ++ (ch .old ∷ ch .after)
     go (some f) e h = let q : ch ≡ chosen B f (f .at .poly) = cc in rw q (first-some (λ b. anyHas B (b .poly) c) bs f e .list)
     go none e h =
-        let m = least (λ r. B .extra r c) (allBoxes B bs) in
-        let i = bind-some (first (λ b. any (λ r. eqb (B .extra r c) m) (b .poly)) bs) _ ch h in
-        let j = bind-some (first (λ r. eqb (B .extra r c) m) (i .0 .at .poly)) _ ch (i .2) in
+        let m = least (λ x. x) (extras B bs c) in
+        let i = bind-some (first (λ b. any (hasExtra B c m (b .poly)) (b .poly)) bs) _ ch h in
+        let j = bind-some (first (hasExtra B c m (i .0 .at .poly)) (i .0 .at .poly)) _ ch (i .2) in
         let k = bind-some (grownPoly B p (allBoxes B (i .0 .before ++ i .0 .after)) (j .0) c) _ ch (j .2) in
         let q : ch ≡ chosen B (i .0) (k .0) = cc (k .2) in
         rw q (first-some _ bs (i .0) (i .1) .list)

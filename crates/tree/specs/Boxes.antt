@@ -1,12 +1,12 @@
 -- The rectangle rules as the tree uses them, and polygons as lists of rectangles.
--- docs/RULES.md 2.6, 3.7, 4.15, 5.14
+-- docs/RULES.md 2.6, 3.7, 4.4, 4.15, 5.14
 use Prim.Native.Nat.{ℕ, _≤_}
 use mathlib.Core.Bool.{Bool, true}
 use mathlib.Core.List.{List}
 use mathlib.Core.Path.{_≡_}
 use lib.ListN.{length}
 use Rattle.polygons.specs.Limits.{mostOfPolygon}
-use Rattle.polygons.specs.Rules.{unionHas, clipRefine, leastDistance}
+use Rattle.polygons.specs.Rules.{unionHas, extraAreaBy, clipRefine, leastDistance}
 use Rattle.tree.specs.Lists.{All}
 use Rattle.tree.specs.Space.{Side, Entry}
 
@@ -29,9 +29,10 @@ pub record Boxes : Type 1 where
   pub clip : Side Line → Box → List Box
   -- "Common part"; no rectangle where it is empty
   pub common : Box → Box → List Box
-  -- "Grow" and its extra area
+  -- "Grow"
   pub grow : Box → Cell → Box
-  pub extra : Box → Cell → ℕ
+  -- how many cells of the grid pass a test
+  pub count : (Cell → Bool) → ℕ
   -- "Cut"
   pub cut : Box → Box → List Box
   -- "Refine"
@@ -61,6 +62,11 @@ module _ (B : Boxes) where
     pub lower : 1 ≤ length p
     pub upper : length p ≤ mostOfPolygon
     pub valid : All (λ r. B .valid r ≡ true) p
+
+  -- "extra area is the number of cells of the grown rectangle that the whole polygon lacks": of a polygon, one of its rectangles, and the
+  -- cell that the rectangle grows to
+  unfoldable pub extra : Poly → B .Box → B .Cell → ℕ
+  extra p r c = extraAreaBy (B .count) (B .has) (B .grow) p r c
 
   -- "Splitting clips the polygon's rectangles to each side, in order, and refines them."
   abbrev pub clipPoly : Side (B .Line) → Poly → Poly

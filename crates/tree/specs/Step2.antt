@@ -1,6 +1,8 @@
 -- Document 01, 'Insertion', step 2: the branch that is gone to, and its polygon grown.
 -- docs/RULES.md 4.3 to 4.9
-use mathlib.Core.List.{List, [], _∷_, _++_, flatMap}
+use Prim.Native.Nat.{ℕ}
+use mathlib.Core.Bool.{Bool}
+use mathlib.Core.List.{List, [], _∷_, _++_, map, flatMap}
 use mathlib.Core.Option.{Option, none, some, bind}
 use lib.Dec.{eqb}
 use Rattle.polygons.specs.Rules.{cutEach, commons}
@@ -8,7 +10,7 @@ use Rattle.polygons.specs.Limits.{atMost, mostOfPolygon, mostPieces}
 use Rattle.polygons.specs.Lists.{any, least}
 use Rattle.tree.specs.Search.{Focus, first, orElse}
 use Rattle.tree.specs.Space.{Branch, Chosen}
-use Rattle.tree.specs.Boxes.{Boxes, Poly, anyHas}
+use Rattle.tree.specs.Boxes.{Boxes, Poly, anyHas, extra}
 
 module _ (B : Boxes) where
   -- The polygon with one rectangle k grown to the cell: "Grow it; cut the grown one ..; replace each piece ..; put the pieces where the chosen rectangle stood; refine." p is the parent's polygon. Nothing where there are pieces over 256, or "the refined polygon over 16".
@@ -31,12 +33,20 @@ module _ (B : Boxes) where
   whole none = none
   whole (some f) = some (chosen f (f .at .poly))
 
+  -- The extra areas of the branches' rectangles, in order.
+  abbrev pub extras : {A : Type 0} → List (Branch (Poly B) A) → B .Cell → List ℕ
+  extras bs c = flatMap (λ b. map (λ r. extra B (b .poly) r c) (b .poly)) bs
+
+  -- The polygon's rectangle has this extra area.
+  abbrev pub hasExtra : B .Cell → ℕ → Poly B → B .Box → Bool
+  hasExtra c m q r = eqb (extra B q r c) m
+
   -- "choose the rectangle of least extra area, first branch then first rectangle on ties", and grow it
   abbrev pub growing : {A : Type 0} → Poly B → List (Branch (Poly B) A) → B .Cell → Option (Chosen (Poly B) A)
   growing p bs c =
-      let m = least (λ r. B .extra r c) (allBoxes bs) in
-      bind (first (λ b. any (λ r. eqb (B .extra r c) m) (b .poly)) bs) λ f.
-      bind (first (λ r. eqb (B .extra r c) m) (f .at .poly)) λ k.
+      let m = least (λ x. x) (extras bs c) in
+      bind (first (λ b. any (hasExtra c m (b .poly)) (b .poly)) bs) λ f.
+      bind (first (hasExtra c m (f .at .poly)) (f .at .poly)) λ k.
       bind (grownPoly p (allBoxes (f .before ++ f .after)) k c) λ q.
       some (chosen f q)
 

@@ -1,8 +1,8 @@
--- `covering::first_shared` meets its contract; its loop is in CoverLaws.
+-- `covering::first_shared` meets its contract; its loop is in SkipLaws.
 use Prim.Native.Nat.{_-_}
 use borrow.Author.Needs.{needs}
 use Rattle.cover.specs.Tests.{Skipped}
-use Rattle.cover.proofs.CoverLaws.{skip-start, skip-on, shared-found, shared-none}
+use Rattle.cover.proofs.SkipLaws.{skip-start, skip-on, shared-found, shared-none}
 use Rattle.cover.proofs.covering.first_shared.Statement.{statement}
 use Rattle.cover.proofs.covering.first_shared.Tie as tie
 

@@ -2,7 +2,7 @@
 use borrow.Author.Tests.{not-true, not-false}
 use borrow.Author.Needs.{needs}
 use Rattle.drawing.proofs.Ways.{told}
-use Rattle.drawing.proofs.GrowLoop.{unfit-rect, unfit-cell, fit, one-some, one-valid}
+use Rattle.drawing.proofs.GrowLoop.{unfit-rect, unfit-cell, fit-rect, fit}
 use Rattle.drawing.proofs.calls.extra_area.Statement.{statement}
 use Rattle.drawing.proofs.calls.extra_area.Tie as tie
 
@@ -18,11 +18,8 @@ on-grid-requires c κs = search needs
 returns-2 : tie.Need-returns-2
 returns-2 c = search (unfit-cell, not-true, not-false)
 
-of-requires : tie.Need-of-requires
-of-requires c κs = search needs
-
-extra-area-requires : tie.Need-extra-area-requires
-extra-area-requires c κs = (search needs, search one-some, search (one-valid, not-false), search (told, not-false))
+extra-of-one-requires : tie.Need-extra-of-one-requires
+extra-of-one-requires c κs = (search (fit-rect, not-false), told _ _ (c .before .on-grid .ensures) (not-false _ (c .if2 .left)))
 
 returns-3 : tie.Need-returns-3
 returns-3 c = search (fit, not-true, not-false)
@@ -35,6 +32,5 @@ extra-area-spec =
     returns
     on-grid-requires
     returns-2
-    of-requires
-    extra-area-requires
+    extra-of-one-requires
     returns-3)

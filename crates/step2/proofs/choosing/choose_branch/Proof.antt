@@ -14,8 +14,8 @@ cast-n c = search needs
 first-with-requires : tie.Need-first-with-requires
 first-with-requires c κs = search needs
 
-choose-nearest-requires : tie.Need-choose-nearest-requires
-choose-nearest-requires c κs = (search needs, search none-first, search needs, search needs)
+choose-least-requires : tie.Need-choose-least-requires
+choose-least-requires c κs = (search needs, search none-first, search needs, search needs)
 
 returns : tie.Need-returns
 returns c = search needs
@@ -36,7 +36,7 @@ choose-branch-spec =
     count-at-requires
     cast-n
     first-with-requires
-    choose-nearest-requires
+    choose-least-requires
     returns
     child-at-requires
     polygon-at-requires

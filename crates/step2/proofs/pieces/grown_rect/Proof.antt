@@ -1,6 +1,6 @@
 -- `pieces::grown_rect` meets its contract.
 use borrow.Author.Needs.{needs}
-use Rattle.step2.proofs.ExtraLoops.{grid-x, grid-y}
+use Rattle.step2.proofs.LeastLoops.{grid-x, grid-y}
 use Rattle.step2.proofs.GrownWays.{rect-room, rect-grown}
 use Rattle.step2.proofs.pieces.grown_rect.Statement.{statement}
 use Rattle.step2.proofs.pieces.grown_rect.Tie as tie

@@ -1,10 +1,10 @@
--- `extra::nearest_in` meets its contract; its loop is in ExtraLoops.
+-- `least::least_in` meets its contract; its loop is in LeastLoops.
 use Prim.Native.Nat.{_-_}
 use mathlib.Core.Logic.{⊎-elim}
 use borrow.Author.Needs.{needs}
-use Rattle.step2.proofs.ExtraLoops.{Comparing, compare-start, compared-valid, compare-nearer, compare-same, compare-end}
-use Rattle.step2.proofs.extra.nearest_in.Statement.{statement}
-use Rattle.step2.proofs.extra.nearest_in.Tie as tie
+use Rattle.step2.proofs.LeastLoops.{Comparing, compare-start, compared-valid, compare-lesser, compare-same, compare-end}
+use Rattle.step2.proofs.least.least_in.Statement.{statement}
+use Rattle.step2.proofs.least.least_in.Tie as tie
 
 abbrev Inv-loop : tie.InvT-loop
 Inv-loop list n branch c best₀ i₀ best i = Comparing c list n branch best₀ best i
@@ -15,11 +15,8 @@ abbrev μ-loop : tie.MeasureT-loop
 loop-holds : tie.Need-loop-holds Inv-loop μ-loop
 loop-holds c = search compare-start
 
-rect-at-requires : tie.Need-rect-at-requires Inv-loop μ-loop
-rect-at-requires c κs = search needs
-
 extra-area-requires : tie.Need-extra-area-requires Inv-loop μ-loop
-extra-area-requires c κs = (search compared-valid, search needs)
+extra-area-requires c κs = (search needs, (search needs, (search compared-valid, search needs)))
 
 add-i : tie.Need-add-i Inv-loop μ-loop
 add-i c = search needs
@@ -28,19 +25,18 @@ loop-less : tie.Need-loop-less Inv-loop μ-loop
 loop-less c = search needs
 
 loop-again : tie.Need-loop-again Inv-loop μ-loop
-loop-again c = ⊎-elim (λ w. search compare-nearer) (λ w. search compare-same) (c .if1 .came)
+loop-again c = ⊎-elim (λ w. search compare-lesser) (λ w. search compare-same) (c .if1 .came)
 
 returns : tie.Need-returns Inv-loop μ-loop
 returns c = search compare-end
 
-pub nearest-in-spec : {M : Type 1} → statement M
-nearest-in-spec =
+pub least-in-spec : {M : Type 1} → statement M
+least-in-spec =
     tie.close
     (tie.spec
     Inv-loop
     μ-loop
     loop-holds
-    rect-at-requires
     extra-area-requires
     add-i
     loop-less

@@ -4,13 +4,15 @@ use mathlib.Core.Path.{_≡_, refl}
 use mathlib.Core.List.{List, [], _∷_}
 use Prim.Native.Nat.{ℕ}
 use Rattle.polygons.specs.Lists.{any}
 use Rattle.geometry.specs.declared.rect.Cell.{Cell}
 use Rattle.geometry.specs.declared.rect.Rect.{Rect}
-use Rattle.geometry.specs.Cells.{nonEmpty, area}
+use Rattle.geometry.specs.Cells.{onGrid, nonEmpty, valid, area}
 use Rattle.geometry.specs.Common.{overlap, unlessEmpty}
-use Rattle.geometry.specs.Grow.{grown, extraArea}
+use Rattle.geometry.specs.Grow.{grown}
 use Rattle.geometry.specs.Cut.{xCeiling, xFloor, yCeiling, yFloor, pieces, cut}
 use Rattle.geometry.specs.Refine.{firstFrom, within, strictlyWithin, contained, firstContained, stacked, abreast, joinable, union, joins, partner, hasPartner, firstJoin, refineStep, refineSteps, refine}
+use Rattle.area.specs.Lacked.{extraArea}
+use Rattle.area.proofs.LackLaws.{extra-single}
 
 -- (a,b)-(c,d)
 abbrev pub rect : ℕ → ℕ → ℕ → ℕ → Rect
@@ -26,10 +28,10 @@ pub data Row : Type 0 where
   takes : Rect → Cell → Rect → ℕ → Row
   refines : List Rect → List Rect → Row
 
--- the definitions give the row's result
+-- the definitions give the row's result; a rectangle that grows is 'taken as a polygon of one rectangle'
 abbrev pub Holds : Row → Type 0
 Holds (cuts r s l) = cut r s ≡ l
-Holds (takes r c g n) = (grown r c ≡ g) × (extraArea (r ∷ []) 0 c ≡ n)
+Holds (takes r c g n) = (grown r c ≡ g) × (extraArea (r ∷ []) r c ≡ n)
 Holds (refines l m) = refine l ≡ m
 
 -- every row of a table holds
@@ -60,7 +62,17 @@ table =
     ∷ refines (rect 0 0 2 2 ∷ rect 2 2 4 4 ∷ []) (rect 0 0 2 2 ∷ rect 2 2 4 4 ∷ [])
     ∷ []
 
+-- the extra areas of G5 and G6
+extra-5 : extraArea (rect 2 2 4 4 ∷ []) (rect 2 2 4 4) (cell 4 3) ≡ 2
+unfolding valid onGrid area grown
+extra-5 = extra-single (rect 2 2 4 4) (cell 4 3) refl refl
+
+extra-6 : extraArea (rect 2 2 4 4 ∷ []) (rect 2 2 4 4) (cell 3 3) ≡ 0
+unfolding valid onGrid area grown
+extra-6 = extra-single (rect 2 2 4 4) (cell 3 3) refl refl
+
 -- all rows hold
 pub cases-hold : AllHold table
-unfolding nonEmpty area overlap unlessEmpty grown extraArea xCeiling xFloor yCeiling yFloor pieces cut firstFrom any within strictlyWithin contained firstContained stacked abreast joinable union joins partner hasPartner firstJoin refineStep refineSteps refine
-cases-hold = (refl, (refl, (refl, (refl, ((refl, refl), ((refl, refl), (refl, (refl, (refl, tt)))))))))
+unfolding nonEmpty overlap unlessEmpty grown xCeiling xFloor yCeiling yFloor pieces cut firstFrom any within strictlyWithin contained
+  firstContained stacked abreast joinable union joins partner hasPartner firstJoin refineStep refineSteps refine
+cases-hold = (refl, (refl, (refl, (refl, ((refl, extra-5), ((refl, extra-6), (refl, (refl, (refl, tt)))))))))

@@ -1,12 +1,12 @@
--- `choosing::choose_nearest` meets its contract; its ways out are in ChooseWays.
+-- `choosing::choose_least` meets its contract; its ways out are in ChooseWays.
 use borrow.Author.Needs.{needs}
-use Rattle.step2.proofs.ChooseWays.{nearest-place, nearest-rect, over-way, rects-few, grown-way}
+use Rattle.step2.proofs.ChooseWays.{least-place, least-rect, over-way, rects-few, grown-way}
 use Rattle.step2.proofs.GrownWays.{array-room}
-use Rattle.step2.proofs.choosing.choose_nearest.Statement.{statement}
-use Rattle.step2.proofs.choosing.choose_nearest.Tie as tie
+use Rattle.step2.proofs.choosing.choose_least.Statement.{statement}
+use Rattle.step2.proofs.choosing.choose_least.Tie as tie
 
-find-nearest-requires : tie.Need-find-nearest-requires
-find-nearest-requires c κs = search needs
+find-least-requires : tie.Need-find-least-requires
+find-least-requires c κs = search needs
 
 slice-aggregate-put-grown : tie.Need-slice-aggregate-put-grown
 slice-aggregate-put-grown c = search needs
@@ -15,7 +15,7 @@ slice-aggregate-put-grown-2 : tie.Need-slice-aggregate-put-grown-2
 slice-aggregate-put-grown-2 c = search needs
 
 put-grown-requires : tie.Need-put-grown-requires
-put-grown-requires c κs = (search needs, search nearest-place, search nearest-rect, search needs, search needs, search needs, search needs)
+put-grown-requires c κs = (search needs, search least-place, search least-rect, search needs, search needs, search needs, search needs)
 
 enum-known-grown : tie.Need-enum-known-grown
 enum-known-grown c = search needs
@@ -35,11 +35,11 @@ load-requires c κs = (search rects-few, search array-room)
 returns-2 : tie.Need-returns-2
 returns-2 c = search grown-way
 
-pub choose-nearest-spec : {M : Type 1} → statement M
-choose-nearest-spec =
+pub choose-least-spec : {M : Type 1} → statement M
+choose-least-spec =
     tie.close
     (tie.spec
-    find-nearest-requires
+    find-least-requires
     slice-aggregate-put-grown
     slice-aggregate-put-grown-2
     put-grown-requires

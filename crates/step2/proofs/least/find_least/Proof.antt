@@ -1,13 +1,13 @@
--- `extra::find_nearest` meets its contract; its loop is in ExtraLoops.
+-- `least::find_least` meets its contract; its loop is in LeastLoops.
 use Prim.Native.Nat.{_-_}
 use borrow.Author.Needs.{needs}
-use Rattle.step2.proofs.ExtraLoops.{Nearing, near-start, near-child, near-again, near-end}
+use Rattle.step2.proofs.LeastLoops.{ComparingAll, all-start, all-child, all-again, all-end}
 use Rattle.step2.proofs.ChildParts.{loaded-branches, each-nine, each-child}
-use Rattle.step2.proofs.extra.find_nearest.Statement.{statement}
-use Rattle.step2.proofs.extra.find_nearest.Tie as tie
+use Rattle.step2.proofs.least.find_least.Statement.{statement}
+use Rattle.step2.proofs.least.find_least.Tie as tie
 
 abbrev Inv-loop : tie.InvT-loop
-Inv-loop m k c node n best₀ i₀ best i = Nearing c m k n best i
+Inv-loop m k c node n best₀ i₀ best i = ComparingAll c m k n best i
 
 abbrev μ-loop : tie.MeasureT-loop
 μ-loop m k c node n best₀ i₀ best i = n - i
@@ -19,13 +19,13 @@ cast-n : tie.Need-cast-n Inv-loop μ-loop
 cast-n c = search needs
 
 loop-holds : tie.Need-loop-holds Inv-loop μ-loop
-loop-holds c = search (near-start, loaded-branches)
+loop-holds c = search (all-start, loaded-branches)
 
 child-requires : tie.Need-child-requires Inv-loop μ-loop
 child-requires c κs = search each-nine
 
-nearest-at-requires : tie.Need-nearest-at-requires Inv-loop μ-loop
-nearest-at-requires c κs = (search (near-child, each-child), search needs)
+least-at-requires : tie.Need-least-at-requires Inv-loop μ-loop
+least-at-requires c κs = (search (all-child, each-child), search needs)
 
 add-i : tie.Need-add-i Inv-loop μ-loop
 add-i c = search needs
@@ -34,13 +34,13 @@ loop-less : tie.Need-loop-less Inv-loop μ-loop
 loop-less c = search needs
 
 loop-again : tie.Need-loop-again Inv-loop μ-loop
-loop-again c = search (near-again, each-child)
+loop-again c = search (all-again, each-child)
 
 returns : tie.Need-returns Inv-loop μ-loop
-returns c = search near-end
+returns c = search all-end
 
-pub find-nearest-spec : {M : Type 1} → statement M
-find-nearest-spec =
+pub find-least-spec : {M : Type 1} → statement M
+find-least-spec =
     tie.close
     (tie.spec
     Inv-loop
@@ -49,7 +49,7 @@ find-nearest-spec =
     cast-n
     loop-holds
     child-requires
-    nearest-at-requires
+    least-at-requires
     add-i
     loop-less
     loop-again

@@ -1,0 +1,10 @@
+pub mod Sums
+pub mod AreaCells
+pub mod CutCells
+pub mod LackLaws
+pub mod CutAreas
+pub mod LackCuts
+pub mod OneWays
+pub mod ExtraWays
+pub mod Cases
+pub mod ExtraCases

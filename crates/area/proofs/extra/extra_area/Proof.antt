@@ -1,0 +1,42 @@
+-- `extra::extra_area` meets its contract; its ways out are in ExtraWays.
+use borrow.Author.Needs.{needs}
+use Rattle.geometry.proofs.CellLaws.{Valid}
+use Rattle.area.proofs.OneWays.{grid-x, grid-y}
+use Rattle.area.proofs.ExtraWays.{read-valid, new-valid, extra-below, extra-above, extra-counted}
+use Rattle.area.proofs.extra.extra_area.Statement.{statement}
+use Rattle.area.proofs.extra.extra_area.Tie as tie
+
+rect-at-requires : tie.Need-rect-at-requires
+rect-at-requires c κs = search needs
+
+extra-of-one-requires : tie.Need-extra-of-one-requires
+extra-of-one-requires c κs = (search read-valid, search needs)
+
+returns : tie.Need-returns
+returns c = search extra-below
+
+returns-2 : tie.Need-returns-2
+returns-2 c = search extra-above
+
+grow-requires : tie.Need-grow-requires
+grow-requires c κs = (search grid-x, search grid-y)
+
+lacking-requires : tie.Need-lacking-requires
+lacking-requires c κs =
+    let v : Valid (c .grow .result) = search new-valid in
+    search needs
+
+returns-3 : tie.Need-returns-3
+returns-3 c = search extra-counted
+
+pub extra-area-spec : {M : Type 1} → statement M
+extra-area-spec =
+    tie.close
+    (tie.spec
+    rect-at-requires
+    extra-of-one-requires
+    returns
+    returns-2
+    grow-requires
+    lacking-requires
+    returns-3)

@@ -1,0 +1,2 @@
+pub mod CellCount
+pub mod Lacked

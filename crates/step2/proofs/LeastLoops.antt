@@ -1,0 +1,118 @@
+-- The loops that look for the rectangle of least extra area.
+use Prim.Native.Nat.{ℕ, _+_, _*_, _≤_, _<_, min}
+use mathlib.Core.Path.{_≡_, refl, sym, ap, _∙_}
+use mathlib.Core.Bool.{true}
+use mathlib.Core.List.{List}
+use native.Mathlib.Omega.{arith}
+use borrow.Author.Tests.{lt-ltb, le-ltb}
+use lib.ListN.{length, drop}
+use Rattle.geometry.specs.declared.rect.Cell.{Cell}
+use Rattle.geometry.specs.Cells.{onGrid, valid, allValid}
+use Rattle.area.specs.Lacked.{extraArea}
+use Rattle.geometry.specs.Numbers.{rectAt, rectsIn}
+use Rattle.geometry.proofs.CellLaws.{grid-of, valid-at}
+use Rattle.geometry.proofs.NumberLaws.{length-rects, rects-at, rects-next, rects-end}
+use Rattle.memory.specs.Layout.{part, rectCount, polygonIn, rectNumbers}
+use Rattle.layout.specs.Nodes.{countAt, childAt}
+use Rattle.layout.proofs.NodeLaws.{lent-polygon, polygon-few}
+use Rattle.step2.specs.declared.least.Least.{Least}
+use Rattle.step2.specs.Branches.{polygonsIn, GoodPart, Branches}
+use Rattle.step2.specs.Least.{noneYet, extraIn, lesser, leastIn, leastOf, leastFrom}
+use Rattle.step2.proofs.ChildParts.{next-polygon, no-polygon}
+
+-- a cell on the grid
+module _ (c : Cell) (h : onGrid c ≡ true) where
+  pub grid-x : c .x ≤ 65535
+  grid-x = grid-of c h .x-most
+
+  pub grid-y : c .y ≤ 65535
+  grid-y = grid-of c h .y-most
+
+-- The first i of a branch's n rectangles are compared.
+pub record Comparing (c : Cell) (list : List ℕ) (n branch : ℕ) (known best : Least) (i : ℕ) : Type 0 where
+  pub i-le : i ≤ n
+  pub fits : 4 * n ≤ length list
+  pub valid : allValid (rectsIn list n) ≡ true
+  pub rest : leastOf c branch known (rectsIn list n) ≡ leastIn (extraIn (rectsIn list n) c) branch i best (drop i (rectsIn list n))
+
+module _ (c : Cell) (list : List ℕ) (n branch : ℕ) (known : Least) where
+  pub compare-start : 4 * n ≤ length list → allValid (rectsIn list n) ≡ true → Comparing c list n branch known known 0
+  compare-start h v = record { i-le = omega arith; fits = h; valid = v; rest = refl }
+
+  module _ (best : Least) (i : ℕ) (v : Comparing c list n branch known best i) where
+    module _ (h : i < n) where
+      pub compared-valid : valid (rectAt list i) ≡ true
+      compared-valid =
+          let l = length-rects list n in
+          let k : i < length (rectsIn list n) = omega arith in
+          rw (← (rects-at list n i h)) (valid-at (rectsIn list n) i (v .valid) k)
+
+      module _ (x : ℕ) (f : x ≡ min (best .extra) (extraArea (rectsIn list n) (rectAt list i) c)) (best′ : Least) where
+        next : (x′ : Least) → lesser (extraIn (rectsIn list n) c) branch i best (rectAt list i) ≡ x′ → Comparing c list n branch known x′ (i + 1)
+        unfolding leastIn
+        next x′ q = record {
+          i-le = omega arith;
+          fits = v .fits;
+          valid = v .valid;
+          rest = v .rest ∙ ap (leastIn (extraIn (rectsIn list n) c) branch i best) (rects-next list n i h)
+              ∙ ap (λ y. leastIn (extraIn (rectsIn list n) c) branch (i + 1) y (drop (i + 1) (rectsIn list n))) q;
+        }
+
+        pub compare-lesser : x < best .extra → best′ ≡ record { branch = branch; rect = i; extra = x } → Comparing c list n branch known best′ (i + 1)
+        unfolding lesser
+        compare-lesser g q =
+            let y : extraArea (rectsIn list n) (rectAt list i) c ≡ x = omega arith in
+            rw q (next _ (rw (y, lt-ltb x (best .extra) g)))
+
+        pub compare-same : best .extra ≤ x → best′ ≡ best → Comparing c list n branch known best′ (i + 1)
+        unfolding lesser
+        compare-same g q =
+            let y : best .extra ≤ extraArea (rectsIn list n) (rectAt list i) c = omega arith in
+            rw q (next best (rw (le-ltb (extraArea (rectsIn list n) (rectAt list i) c) (best .extra) y)))
+
+    pub compare-end : n ≤ i → best ≡ leastOf c branch known (rectsIn list n)
+    unfolding leastIn
+    compare-end h = sym (v .rest ∙ rw (rects-end list n i h))
+
+-- the rectangles s of the part p of a child, and their count n
+module _ (m : List ℕ) (j : ℕ) (p s : List ℕ) (n : ℕ) (e : p ≡ part m j) (f : s ≡ rectNumbers p) (g : n ≡ rectCount p) where
+  module _ (v : GoodPart m j) where
+    pub good-fit : 4 * n ≤ length s
+    good-fit = polygon-few m j p s n (v .polygon) e f g
+
+    pub good-valid : allValid (rectsIn s n) ≡ true
+    good-valid = rw (lent-polygon m j p s n e f g) (v .valid)
+
+  pub compared-at : (c : Cell) (branch : ℕ) (known r : Least) → r ≡ leastOf c branch known (rectsIn s n)
+      → r ≡ leastOf c branch known (polygonIn (part m j))
+  compared-at c branch known r q = q ∙ ap (leastOf c branch known) (lent-polygon m j p s n e f g)
+
+-- The first i of the n children are compared.
+pub record ComparingAll (c : Cell) (m : List ℕ) (k n : ℕ) (best : Least) (i : ℕ) : Type 0 where
+  pub branches : Branches m k
+  pub count : n ≡ countAt m k
+  pub i-le : i ≤ n
+  pub rest : leastFrom c 0 noneYet (polygonsIn m k) ≡ leastFrom c i best (drop i (polygonsIn m k))
+
+module _ (c : Cell) (m : List ℕ) (k n : ℕ) where
+  pub all-start : Branches m k → n ≡ countAt m k → ComparingAll c m k n noneYet 0
+  all-start v q = record { branches = v; count = q; i-le = omega arith; rest = refl }
+
+  module _ (best : Least) (i : ℕ) (v : ComparingAll c m k n best i) where
+    module _ (j : ℕ) (h : i < n) (q : j ≡ childAt m k i) where
+      pub all-child : GoodPart m j
+      all-child = rw q (v .branches .good i (rw (v .count) at h))
+
+      pub all-again : (best′ : Least) → best′ ≡ leastOf c i best (polygonIn (part m j)) → ComparingAll c m k n best′ (i + 1)
+      unfolding leastFrom
+      all-again best′ e = record {
+        branches = v .branches;
+        count = v .count;
+        i-le = omega arith;
+        rest = v .rest ∙ ap (leastFrom c i best) (next-polygon m k (v .branches) i (rw (v .count) at h))
+            ∙ ap (λ y. leastFrom c (i + 1) y (drop (i + 1) (polygonsIn m k))) (sym (rw q at e));
+      }
+
+    pub all-end : n ≤ i → best ≡ leastFrom c 0 noneYet (polygonsIn m k)
+    unfolding leastFrom
+    all-end h = sym (v .rest ∙ rw (no-polygon m k (v .branches) i (rw (v .count) at h)))

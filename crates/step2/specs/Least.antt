@@ -1,0 +1,36 @@
+-- Document 01, 'Insertion', step 2: 'choose the rectangle of least extra area, first branch then first rectangle on ties', as a scan finds it.
+-- docs/RULES.md 4.4
+use Prim.Native.Nat.{ℕ, _+_}
+use mathlib.Core.Bool.{cond}
+use mathlib.Core.List.{List, [], _∷_}
+use lib.Dec.{ltb}
+use Rattle.geometry.specs.declared.rect.Cell.{Cell}
+use Rattle.geometry.specs.declared.rect.Rect.{Rect}
+use Rattle.area.specs.Lacked.{extraArea}
+use Rattle.step2.specs.declared.least.Least.{Least}
+
+-- before any rectangle: an extra area that is larger than any
+abbrev pub noneYet : Least
+noneYet = record { branch = 0; rect = 0; extra = 18446744073709551615 }
+
+-- the i-th rectangle of a branch against the least so far: it is taken only if its extra area is smaller
+unfoldable pub lesser : (Rect → ℕ) → ℕ → ℕ → Least → Rect → Least
+lesser extra branch i best r = cond (ltb (extra r) (best .extra)) (record { branch = branch; rect = i; extra = extra r }) best
+
+-- the least so far and the rectangles of a branch from the i-th on, by their extra areas
+unfoldable pub leastIn : (Rect → ℕ) → ℕ → ℕ → Least → List Rect → Least
+leastIn extra branch i best [] = best
+leastIn extra branch i best (r ∷ l) = leastIn extra branch (i + 1) (lesser extra branch i best r) l
+
+-- the extra area of a polygon's rectangle
+abbrev pub extraIn : List Rect → Cell → Rect → ℕ
+extraIn q c r = extraArea q r c
+
+-- the least so far and all rectangles of a branch, whose polygon is q
+abbrev pub leastOf : Cell → ℕ → Least → List Rect → Least
+leastOf c branch best q = leastIn (extraIn q c) branch 0 best q
+
+-- the least so far and the polygons of the branches from the i-th on
+unfoldable pub leastFrom : Cell → ℕ → Least → List (List Rect) → Least
+leastFrom c i best [] = best
+leastFrom c i best (q ∷ ps) = leastFrom c (i + 1) (leastOf c i best q) ps
