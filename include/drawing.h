@@ -53,7 +53,9 @@ uint32_t lintzoger_grow(const uint32_t *list, size_t list_len,
                         uint32_t x, uint32_t y,
                         uint32_t *result, size_t result_len, uint32_t *written);
 
-/* The extra area of the rectangle grown to the cell: new area minus old. */
+/* The extra area of the rectangle grown to the cell: new area minus old. (In the
+   index a rectangle is one of a polygon, and its extra area is the number of cells
+   of the grown rectangle that the whole polygon lacks.) */
 uint32_t lintzoger_extra_area(uint32_t llx, uint32_t lly, uint32_t urx, uint32_t ury,
                               uint32_t x, uint32_t y, uint64_t *extra);
 

@@ -74,5 +74,5 @@ extra-6 = extra-single (rect 2 2 4 4) (cell 3 3) refl refl
 -- all rows hold
 pub cases-hold : AllHold table
 unfolding nonEmpty overlap unlessEmpty grown xCeiling xFloor yCeiling yFloor pieces cut firstFrom any within strictlyWithin contained
-  firstContained stacked abreast joinable union joins partner hasPartner firstJoin refineStep refineSteps refine
+    firstContained stacked abreast joinable union joins partner hasPartner firstJoin refineStep refineSteps refine
 cases-hold = (refl, (refl, (refl, (refl, ((refl, extra-5), ((refl, extra-6), (refl, (refl, (refl, tt)))))))))

@@ -66,7 +66,7 @@ computed-hold (w ∷ l) h =
 
 computed : AllComputed table
 unfolding allValid valid onGrid grown cutAll cutList flatMap cut pieces xCeiling xFloor yCeiling yFloor overlap unlessEmpty nonEmpty
-  totalArea area
+    totalArea area
 computed =
     ((refl, refl, refl), ((refl, refl, refl), ((refl, refl, refl), ((refl, refl, refl), ((refl, refl, refl), ((refl, refl, refl), tt))))))
 

@@ -2,6 +2,7 @@ pub mod Sums
 pub mod AreaCells
 pub mod CutCells
 pub mod LackLaws
+pub mod ExtraLaws
 pub mod CutAreas
 pub mod LackCuts
 pub mod OneWays

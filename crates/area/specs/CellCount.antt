@@ -1,5 +1,5 @@
 -- How many cells of the grid pass a test.
--- docs/RULES.md 2.1, 2.4
+-- docs/RULES.md 2.4, 2.10
 use Prim.Native.Nat.{ℕ, zero, suc, _+_}
 use mathlib.Core.Bool.{Bool, cond}
 use Rattle.geometry.specs.declared.rect.Cell.{Cell}

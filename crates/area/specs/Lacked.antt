@@ -1,5 +1,5 @@
 -- The cells of a rectangle that a polygon lacks, and the extra area of a polygon's rectangle.
--- docs/RULES.md 2.10, 4.4
+-- docs/RULES.md 2.10
 use Prim.Native.Nat.{ℕ}
 use mathlib.Core.List.{List}
 use Rattle.polygons.specs.Rules.{lackedBy, extraAreaBy}

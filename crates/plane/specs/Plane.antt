@@ -1,5 +1,5 @@
 -- The plane: rectangles as the tree's boxes, and what insertion does at the root.
--- docs/RULES.md 3.4, 4.1, 4.4, 5.13
+-- docs/RULES.md 3.4, 4.1, 5.13
 use Prim.Native.Nat.{ℕ, _+_}
 use mathlib.Core.Bool.{true, _&&_}
 use mathlib.Core.Path.{_≡_}

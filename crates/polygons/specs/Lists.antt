@@ -1,5 +1,5 @@
 -- Lists of any elements: whether one passes a test, the least number that they give.
--- docs/RULES.md 2.6
+-- docs/RULES.md 2.6, 4.4
 use Prim.Native.Nat.{ℕ, min}
 use mathlib.Core.Bool.{Bool, false, _||_}
 use mathlib.Core.List.{List, [], _∷_}

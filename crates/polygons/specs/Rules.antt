@@ -1,6 +1,6 @@
 -- The rules of lists of rectangles, over any rectangles: they look at a rectangle only through its own rules, which are their first argument.
 -- The geometry's rules and the tree's are both instances of these.
--- docs/RULES.md 2.6, 2.10, 2.13, 2.14, 4.4, 4.5, 4.6, 4.9, 4.15, 5.14
+-- docs/RULES.md 2.6, 2.10, 2.13, 2.14, 4.5, 4.6, 4.9, 4.15, 5.14
 use Prim.Native.Nat.{ℕ}
 use mathlib.Core.Bool.{Bool, _&&_, not}
 use mathlib.Core.List.{List, [], _∷_, flatMap}

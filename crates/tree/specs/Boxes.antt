@@ -1,5 +1,5 @@
 -- The rectangle rules as the tree uses them, and polygons as lists of rectangles.
--- docs/RULES.md 2.6, 3.7, 4.4, 4.15, 5.14
+-- docs/RULES.md 2.6, 2.10, 3.7, 4.4, 4.15, 5.14
 use Prim.Native.Nat.{ℕ, _≤_}
 use mathlib.Core.Bool.{Bool, true}
 use mathlib.Core.List.{List}

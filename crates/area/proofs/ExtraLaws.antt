@@ -1,0 +1,31 @@
+-- Where extra area is 0.
+use mathlib.Core.Path.{_≡_, refl, sym}
+use mathlib.Core.Bool.{Bool, true, false, _&&_, not}
+use mathlib.Core.List.{List}
+use Prim.Native.Nat.{_≤_}
+use native.Mathlib.Omega.{arith}
+use Rattle.geometry.specs.declared.rect.Cell.{Cell}
+use Rattle.geometry.specs.declared.rect.Rect.{Rect}
+use Rattle.geometry.specs.Cells.{onGrid, hasCell, anyHas}
+use Rattle.geometry.proofs.GrowLaws.{grow-keeps}
+use Rattle.area.specs.Lacked.{extraArea}
+use Rattle.area.proofs.LackLaws.{count-none, extra-some}
+
+module _ (p : List Rect) (r : Rect) (c : Cell) where
+  -- where there is none, the polygon has the cell
+  pub extra-zero : onGrid c ≡ true → extraArea p r c ≡ 0 → anyHas p c ≡ true
+  extra-zero g z = go (anyHas p c) (extra-some p r c g)
+    where
+      go : (b : Bool) → (b ≡ false → 1 ≤ extraArea p r c) → b ≡ true
+      go true h = refl
+      go false h = let k = h refl in absurd (omega arith)
+
+  -- where a rectangle of the polygon has the cell already, it adds none
+  pub extra-of-inside : ((d : Cell) → hasCell r d ≡ true → anyHas p d ≡ true) → hasCell r c ≡ true → extraArea p r c ≡ 0
+  unfolding extraArea anyHas
+  extra-of-inside m t = rw (grow-keeps r c t) (count-none _ (λ d. none (hasCell r d) _ (m d)))
+    where
+      none : (a b : Bool) → (a ≡ true → b ≡ true) → a && not b ≡ false
+      none true true h = refl
+      none true false h = sym (h refl)
+      none false b h = refl
