@@ -1,6 +1,6 @@
-//! The second implementation of document 01 and of document 02's request A.1, written from their
-//! sentences and as plain as possible, and the declarations of the proved library that the tests
-//! compare it with.
+//! The second implementation of document 01 and of document 02's requests A.1 and A.2, written from
+//! their sentences and as plain as possible, and the declarations of the proved library that the
+//! tests compare it with.
 
 pub mod bands;
 pub mod drawing;

@@ -6,6 +6,7 @@ mod support;
 
 use reference::geometry::{cut, cut_list, cut_list_by_polygon, refine, OverLimit, Rectangle};
 use reference::random::Random;
+use reference::tree::extra_area;
 use support::seed;
 
 const SIDE: u32 = 8;
@@ -101,6 +102,44 @@ fn grown_rectangle_is_the_smallest() {
                 assert_eq!(r.extra_area([x, y]), extra, "{r:?} takes ({x},{y})");
             }
         }
+    }
+}
+
+/// 'The number of cells of the grown rectangle that the whole polygon lacks', for each rectangle of
+/// the polygon and each cell of the grid.
+fn check_extra_areas(polygon: &[Rectangle], side: u32, place: &str) {
+    let held = cells_of_list(polygon);
+    for &r in polygon {
+        for [x, y] in (0..side * side).map(|i| [i % side, i / side]) {
+            let lacked = cells(r.grow([x, y])) & !held;
+            assert_eq!(
+                extra_area(polygon, r, [x, y]),
+                u64::from(lacked.count_ones()),
+                "{place}: {polygon:?}, {r:?} takes ({x},{y})"
+            );
+        }
+    }
+}
+
+#[test]
+fn extra_areas_of_every_short_polygon() {
+    for &a in &all_rectangles(4) {
+        check_extra_areas(&[a], 4, "polygon of 1");
+        for &b in &all_rectangles(3) {
+            check_extra_areas(&[a, b], 4, "polygon of 2");
+        }
+    }
+}
+
+#[test]
+fn extra_areas_of_random_polygons() {
+    let seed = seed();
+    let all = all_rectangles(SIDE);
+    for case in 0..LISTS / 20 {
+        let mut random = Random::for_case(seed, 102, case);
+        let polygon = random_list(&mut random, &all, 16);
+        let place = format!("LINTZOGER_SEED={seed}, case {case}");
+        check_extra_areas(&polygon, SIDE, &place);
     }
 }
 

@@ -13,10 +13,13 @@ use reference::geometry::Cell;
 use reference::random::Random;
 use reference::tree::Tree;
 use support::checked::{Checked, Command};
+use support::inside::limits_inside;
 use support::limits::{
-    across, around_the_limit, below_a_parent, filled_bars, pieces, row_after_the_bars, rungs,
-    ACROSS_CELL, PARTS_256, PARTS_258, PIECES_256, PIECES_257,
+    across, around_the_limit, below_a_parent, filled_bars, over_bars, pieces, row_after_the_bars,
+    rungs, ACROSS_CELL, INSIDE_256, INSIDE_257, PARTS_256, PARTS_258, PIECES_256, PIECES_257,
+    REFINED_16, REFINED_17,
 };
+use support::nested::CELL;
 use support::{bars, ladder, seed};
 
 /// The commands that built the index, in a session of their own from a fresh index of n parts; then
@@ -138,6 +141,33 @@ fn limit_at_a_low_level() {
         for levels in [1, 2, 50, 240] {
             insert_into(&below(&tree, levels), cell, 256, answer);
         }
+    }
+}
+
+/// A leaf grows over bars of its sibling: each cause just below and just above, also below other
+/// levels.
+#[test]
+fn bars_inside_the_grown_rectangle() {
+    for limited in limits_inside() {
+        let answer = if limited.limit.is_some() { 7 } else { 0 };
+        for levels in [0, 1, 60] {
+            insert_into(&below(&limited.tree, levels), CELL, 70, answer);
+        }
+    }
+}
+
+/// The same by streams from a fresh index. With 256 pieces it is the refined polygon that refuses.
+#[test]
+fn streams_to_bars_inside() {
+    let cases: [(&[u32], u32); 4] = [
+        (&REFINED_16, 0),
+        (&REFINED_17, 7),
+        (&INSIDE_256, 7),
+        (&INSIDE_257, 7),
+    ];
+    for (reaches, answer) in cases {
+        let (built, cell) = over_bars(reaches);
+        replay(&built, cell, 5, answer);
     }
 }
 

@@ -169,6 +169,7 @@ fn churn(seed: u64, n: usize, side: u32, most_held: usize, streams: u64) -> Tall
         let mut session = Session::fresh(n, DIRTS[case as usize % 4], label);
         for _ in 0..CHURN_LENGTH {
             let cell = [0, 1].map(|_| random.between(0, side));
+            session.count_choice(cell);
             let accepted = session.apply(Command::Insert(cell, 0)) == 0;
             let held = session.held();
             if !held.is_empty() && (held.len() > most_held || !accepted || random.one_in(2)) {
@@ -189,11 +190,25 @@ const CHURN_LENGTH: usize = 3000;
 /// streams of a fixed seed are known to reach it.
 #[test]
 fn churn_reaches_the_limit_of_a_polygon() {
-    churn(1, 16, 1000, 20, 20).require(1, &["insert refused 7"]);
+    let tally = churn(1, 16, 1000, 20, 20);
+    tally.require(1, &["insert refused 7"]);
+    tally.require(500, &["insert not as by area alone"]);
+    tally.require(1, &["insert, a sibling's rectangle inside"]);
     let seed = seed();
     churn(seed, 16, 1000, 20, 20);
     churn(seed, 8, 60_000, 20, 20);
     churn(seed, 64, 60_000, 40, 10);
+}
+
+/// The same on tiny grids, where extra areas are small and often equal.
+#[test]
+fn churn_on_tiny_grids() {
+    let seed = seed();
+    let mut tally = Tally::default();
+    for (n, side) in [(5, 6), (8, 12), (16, 25)] {
+        tally.add_all(&churn(seed, n, side, 24, 10));
+    }
+    tally.require(100, &["insert not as by area alone"]);
 }
 
 /// Fills an index until it refuses with 8 fifteen times; now and then a third is removed. Then all

@@ -4,6 +4,7 @@
 mod support;
 
 use reference::geometry::{cut, refine, Rectangle};
+use reference::tree::extra_area;
 use support::case::{Call, Case};
 
 fn rectangles(numbers: &[u32]) -> Vec<Rectangle> {
@@ -33,6 +34,8 @@ fn check_grow(name: &str, r: [u32; 4], cell: [u32; 2], grown: [u32; 4], extra: u
     let rectangle = rectangles(&r)[0];
     assert_eq!(rectangle.grow(cell), rectangles(&grown)[0], "{name}");
     assert_eq!(rectangle.extra_area(cell), extra, "{name}");
+    let as_polygon = extra_area(&[rectangle], rectangle, cell);
+    assert_eq!(as_polygon, extra, "{name}, a polygon of one rectangle");
 
     let mut case = Case::new(Call::Grow);
     case.list = r.to_vec();

@@ -5,13 +5,18 @@
 mod support;
 
 use reference::tree::{PolygonLimit, Refusal, Tree};
+use support::build::entry;
 use support::checked::{Checked, Command};
+use support::extra::by_area;
+use support::inside::limits_inside;
 use support::limits::{
-    across, around_the_limit, below_a_parent, filled_bars, pieces, row_after_the_bars, rungs,
-    sizes, ACROSS_CELL, PARTS_256, PARTS_258, PIECES_256, PIECES_257,
+    across, around_the_limit, below_a_parent, filled_bars, over_bars, pieces, row_after_the_bars,
+    rungs, sizes, ACROSS_CELL, INSIDE_256, INSIDE_257, PARTS_256, PARTS_258, PIECES_256,
+    PIECES_257, REFINED_16, REFINED_17,
 };
 use support::lines::{answers, line};
-use support::trace::Sizes;
+use support::nested::CELL;
+use support::trace::{trace_by, Sizes};
 use support::{bars, ladder};
 
 fn insert(checked: &mut Checked, cell: [u32; 2]) -> Result<(), Refusal> {
@@ -27,6 +32,7 @@ fn pieces_after_a_cut() {
         after_cut: 256,
         after_common_parts: 31,
         refined: 13,
+        inside: 0,
         levels: 1,
     };
     assert_eq!(sizes(&checked, cell), largest);
@@ -151,4 +157,49 @@ fn refined_polygon() {
     let tally = &checked.tally;
     tally.require(1, &["I accepted, refined polygon of 16"]);
     tally.require(1, &["I refused 7, refined polygon"]);
+}
+
+/// By area alone step 2 has one piece and passes no limit.
+fn check_by_area(tree: &Tree, cell: [u32; 2], name: &str) {
+    let alone = trace_by(by_area, tree, entry(cell));
+    assert_eq!((alone.limit, alone.sizes.after_cut), (None, 1), "{name}");
+}
+
+/// Built by hand, as sound trees: a leaf grows over bars of its sibling, which it does by request A.2
+/// only.
+#[test]
+fn bars_inside_the_grown_rectangle() {
+    for limited in limits_inside() {
+        let (name, tree) = (limited.name, limited.tree);
+        check_by_area(&tree, CELL, name);
+        let mut checked = Checked::from_tree(7, Some(tree), name.to_string());
+        let sizes = sizes(&checked, CELL);
+        let sizes = [sizes.after_cut, sizes.after_common_parts, sizes.refined];
+        assert_eq!(sizes, limited.sizes, "{name}");
+        let expected = limited
+            .limit
+            .map_or(Ok(()), |limit| Err(Refusal::Polygon(limit)));
+        assert_eq!(insert(&mut checked, CELL), expected, "{name}");
+    }
+}
+
+/// The same by built streams. 256 pieces pass the limit after the cuts, and the refined polygon is
+/// then over its own.
+#[test]
+fn streams_to_bars_inside() {
+    let cases: [(&[u32], _, _); 4] = [
+        (&REFINED_16, [27, 16], None),
+        (&REFINED_17, [36, 17], Some(PolygonLimit::Refined)),
+        (&INSIDE_256, [256, 47], Some(PolygonLimit::Refined)),
+        (&INSIDE_257, [257, 0], Some(PolygonLimit::AfterCut)),
+    ];
+    for (reaches, expected, limit) in cases {
+        let (mut checked, cell) = over_bars(reaches);
+        let name = format!("{reaches:?}");
+        check_by_area(checked.index.tree().expect("a tree"), cell, &name);
+        let sizes = sizes(&checked, cell);
+        assert_eq!([sizes.after_cut, sizes.refined], expected, "{name}");
+        let expected = limit.map_or(Ok(()), |limit| Err(Refusal::Polygon(limit)));
+        assert_eq!(insert(&mut checked, cell), expected, "{name}");
+    }
 }

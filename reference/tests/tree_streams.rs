@@ -109,6 +109,7 @@ fn n_3() {
 fn n_5() {
     let tally = run(5);
     tally.require(20, &["I accepted, leaf split", "R accepted, leaf removed"]);
+    tally.require(20, &["I not as by area alone"]);
 }
 
 /// Outcomes of trees with three levels.
@@ -123,7 +124,9 @@ const DEEP: [&str; 6] = [
 
 #[test]
 fn n_16() {
-    run(16).require(5, &DEEP);
+    let tally = run(16);
+    tally.require(5, &DEEP);
+    tally.require(100, &["I not as by area alone"]);
 }
 
 /// Large enough for some lines with a branch on both sides; tree_steps has a built one.
@@ -132,6 +135,7 @@ fn n_64() {
     let tally = run(64);
     tally.require(5, &DEEP);
     tally.require(1, &["I accepted, branches split recursively"]);
+    tally.require(50, &["I not as by area alone"]);
 }
 
 #[test]
@@ -171,6 +175,8 @@ fn churn_reaches_the_limit_of_a_polygon() {
     let tally = churn(1, 16, 1000, 20, 20);
     tally.require(1, &["I refused 7, refined polygon"]);
     tally.require(1, &["I accepted, refined polygon of 16"]);
+    tally.require(500, &["I not as by area alone"]);
+    tally.require(1, &["I with a sibling's rectangle inside"]);
     let seed = seed();
     churn(seed, 16, 1000, 20, 40);
     churn(seed, 8, 60_000, 20, 20);

@@ -80,7 +80,8 @@ impl Rectangle {
         u64::from(self.ur[0] - self.ll[0]) * u64::from(self.ur[1] - self.ll[1])
     }
 
-    /// Grow: 'its extra area is new area minus old.'
+    /// Grow: 'its extra area is new area minus old.' The drawing exercise's; step 2 chooses by the extra
+    /// area of a polygon's rectangle (`tree::extra_area`).
     pub fn extra_area(self, cell: Cell) -> u64 {
         self.grow(cell).area() - self.area()
     }

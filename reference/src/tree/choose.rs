@@ -1,5 +1,6 @@
 //! Insertion, step 2 at one routing node: the branch to go on in.
 
+use super::extra_area::extra_area;
 use super::polygon::{common_parts, has};
 use super::{Branch, PolygonLimit};
 use crate::geometry::{cut_list_by_polygon, refine, Cell, Rectangle, LIST_LIMIT, POLYGON_LIMIT};
@@ -27,12 +28,13 @@ struct Chosen {
     rectangle: usize,
 }
 
-/// 'The rectangle of least extra area, first branch then first rectangle on ties.'
+/// 'The rectangle of least extra area, first branch then first rectangle on ties.' Extra area is that
+/// of request A.2: against the whole polygon of the branch.
 fn least_extra_area(branches: &[Branch], cell: Cell) -> Chosen {
     let mut least: Option<(u64, Chosen)> = None;
     for (branch, b) in branches.iter().enumerate() {
         for (rectangle, r) in b.polygon.iter().enumerate() {
-            let extra = r.extra_area(cell);
+            let extra = extra_area(&b.polygon, *r, cell);
             if least.is_none_or(|(least_extra, _)| extra < least_extra) {
                 least = Some((extra, Chosen { branch, rectangle }));
             }

@@ -1,8 +1,9 @@
-//! Document 01, 'The tree and its memory' up to 'Causes for saying no', and document 02's nearest
-//! query: the index as an owned tree, with the tree after a call named from the tree before. Memory
-//! and its layout are not part of it.
+//! Document 01, 'The tree and its memory' up to 'Causes for saying no', with document 02's nearest
+//! query and extra area: the index as an owned tree, with the tree after a call named from the tree
+//! before. Memory and its layout are not part of it.
 
 mod choose;
+mod extra_area;
 mod index;
 mod insert;
 mod line;
@@ -14,6 +15,7 @@ mod refusal;
 mod remove;
 mod split;
 
+pub use extra_area::extra_area;
 pub use index::{Index, NearestAnswer, PointAnswer, WindowAnswer};
 pub use insert::insert;
 pub use line::{leaf_line, routing_line, Line};

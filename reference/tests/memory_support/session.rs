@@ -7,6 +7,7 @@ use super::nearest::NearestOutput;
 use super::work::{Dirt, Work};
 use crate::support::checked::Command;
 use crate::support::tally::Tally;
+use crate::support::trace::{differs_by_area, trace};
 use reference::geometry::{Cell, Rectangle};
 use reference::memory::Reading;
 use reference::random::Random;
@@ -111,6 +112,23 @@ impl Session {
         let given = self.apply(command);
         let (label, number) = (&self.label, self.commands);
         assert_eq!(given, answer, "{label}, command {number}: {command:?}");
+    }
+
+    /// Counts an insertion that is to be made, where step 2 by area alone would decide it otherwise.
+    pub fn count_choice(&mut self, cell: Cell) {
+        let is_held = self.record.iter().any(|e| e.cell == cell);
+        let Some(tree) = self.tree().filter(|_| !is_held) else {
+            return;
+        };
+        let entry = Entry { cell, tag: 0 };
+        let trace = trace(tree, entry);
+        let (differs, inside) = (differs_by_area(&trace, tree, entry), trace.sizes.inside);
+        if differs {
+            self.tally.count("insert not as by area alone");
+        }
+        if inside > 0 {
+            self.tally.count("insert, a sibling's rectangle inside");
+        }
     }
 
     fn insert(&mut self, entry: Entry, place: Arguments) -> u32 {

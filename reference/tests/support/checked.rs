@@ -4,7 +4,7 @@ use super::kinds::{accepted_kinds, refused_kind};
 use super::settle::settle;
 use super::sound::{check_sound, held_entries, polygon_has, polygon_meets, views};
 use super::tally::Tally;
-use super::trace::{trace, Sizes, Trace};
+use super::trace::{differs_by_area, trace, Sizes, Trace};
 use super::GRID_END;
 use reference::geometry::{Cell, Rectangle};
 use reference::tree::{Entry, Index, Refusal, Tree};
@@ -144,6 +144,12 @@ impl Checked {
         place: &str,
     ) {
         let trace = trace(tree, entry);
+        if differs_by_area(&trace, tree, entry) {
+            self.tally.count("I not as by area alone");
+        }
+        if trace.sizes.inside > 0 {
+            self.tally.count("I with a sibling's rectangle inside");
+        }
         let expected = trace.limit.map(Refusal::Polygon);
         let passed = answer
             .err()

@@ -4,7 +4,7 @@
 use super::build::{leaf, routing, tree};
 use super::checked::Checked;
 use super::trace::{trace, Sizes};
-use super::{bars, ladder, parent};
+use super::{bars, ladder, notch, parent};
 use reference::geometry::Cell;
 use reference::tree::{Branch, Entry, Node, Tree};
 
@@ -114,4 +114,19 @@ pub fn rungs() -> (Checked, Cell) {
     assert_eq!(ladder::polygon_of(&checked, [0, rows[0]]).len(), 16);
     let above = ladder::rung_to_pass(&mut checked, 0, rows[0]);
     (checked, [0, above])
+}
+
+/// How far bars reach that lie inside the grown rectangle: the refined polygon has 16 rectangles, or
+/// 17; there are 256 pieces after the cuts, or 257.
+pub const REFINED_16: [u32; 6] = [0, 0, 0, 1, 2, 3];
+pub const REFINED_17: [u32; 5] = [0, 1, 2, 3, 4];
+pub const INSIDE_256: [u32; 15] = [0, 1, 2, 3, 4, 5, 6, 7, 8, 9, 10, 11, 12, 13, 14];
+pub const INSIDE_257: [u32; 16] = [0, 0, 1, 2, 3, 4, 5, 6, 7, 8, 9, 10, 11, 12, 13, 14];
+
+/// The bars in a fresh index, and the cell to which a leaf grows over all of them. By area alone
+/// another of its rectangles would grow, past no bar.
+pub fn over_bars(reaches: &[u32]) -> (Checked, Cell) {
+    let mut checked = Checked::new(5, format!("over bars {reaches:?}"));
+    let cell = notch::build(&mut checked, reaches);
+    (checked, cell)
 }

@@ -1,9 +1,10 @@
 //! Step 2 of an insertion, followed by the tests: the sizes of its lists at each level, the limit
 //! that is passed first, and the tree before any split.
 
+use super::extra::{by_area, by_cuts, Rule};
 use super::sound::polygon_has;
 use super::{LIST_LIMIT, POLYGON_LIMIT};
-use reference::geometry::{cut_list, refine, Rectangle};
+use reference::geometry::{cut_list, refine, Cell, Rectangle};
 use reference::tree::{Branch, Entry, Node, PolygonLimit, Tree};
 
 /// The largest lists of step 2, over all levels up to the one that passes a limit.
@@ -13,6 +14,8 @@ pub struct Sizes {
     pub after_cut: usize,
     pub after_common_parts: usize,
     pub refined: usize,
+    /// Rectangles of siblings that lie wholly in the grown one.
+    pub inside: usize,
     /// Levels at which a polygon grew.
     pub levels: usize,
 }
@@ -24,6 +27,7 @@ impl Sizes {
             after_cut: self.after_cut.max(other.after_cut),
             after_common_parts: self.after_common_parts.max(other.after_common_parts),
             refined: self.refined.max(other.refined),
+            inside: self.inside.max(other.inside),
             levels: self.levels.max(other.levels),
         }
     }
@@ -41,6 +45,20 @@ pub struct Trace {
 
 /// Follows the insertion of an entry whose cell is not held.
 pub fn trace(tree: &Tree, entry: Entry) -> Trace {
+    trace_by(by_cuts, tree, entry)
+}
+
+/// Step 2 by area alone, as before request A.2, would pass another limit or give another tree.
+pub fn differs_by_area(trace: &Trace, tree: &Tree, entry: Entry) -> bool {
+    let by_area = trace_by(by_area, tree, entry);
+    match (trace.limit, by_area.limit) {
+        (None, None) => trace.unsplit != by_area.unsplit,
+        (limit, other) => limit != other,
+    }
+}
+
+/// Follows it with this extra area.
+pub fn trace_by(rule: Rule, tree: &Tree, entry: Entry) -> Trace {
     let mut unsplit = tree.clone();
     unsplit.rectangle = unsplit.rectangle.grow(entry.cell);
     let mut polygon = vec![unsplit.rectangle];
@@ -54,7 +72,7 @@ pub fn trace(tree: &Tree, entry: Entry) -> Trace {
                 break;
             }
             Node::Routing(routing) => {
-                let level = follow(&routing.branches, &polygon, entry, &mut sizes);
+                let level = follow(rule, &routing.branches, &polygon, entry, &mut sizes);
                 let (place, grown) = match level {
                     Ok(level) => level,
                     Err(passed) => {
@@ -78,6 +96,7 @@ pub fn trace(tree: &Tree, entry: Entry) -> Trace {
 
 /// One level: the branch's place and its polygon after.
 fn follow(
+    rule: Rule,
     branches: &[Branch],
     parent: &[Rectangle],
     entry: Entry,
@@ -89,11 +108,15 @@ fn follow(
         }
     }
     sizes.levels += 1;
-    let (place, at) = cheapest(branches, entry);
+    let (place, at) = cheapest(rule, branches, entry.cell);
     let mut list = branches[place].polygon.clone();
-    let mut pieces = vec![list[at].grow(entry.cell)];
+    let grown = list[at].grow(entry.cell);
     let siblings = (0..branches.len()).filter(|&other| other != place);
-    for &s in siblings.flat_map(|other| &branches[other].polygon) {
+    let siblings = siblings.flat_map(|other| branches[other].polygon.iter());
+    let inside = siblings.clone().filter(|s| s.is_contained_in(grown));
+    sizes.inside = sizes.inside.max(inside.count());
+    let mut pieces = vec![grown];
+    for &s in siblings {
         pieces = cut_list(&pieces, s);
         sizes.after_cut = sizes.after_cut.max(pieces.len());
         within(pieces.len(), LIST_LIMIT, PolygonLimit::AfterCut)?;
@@ -113,9 +136,10 @@ fn follow(
 
 /// The branch and the rectangle of least extra area: the smallest of (extra area, branch,
 /// rectangle).
-fn cheapest(branches: &[Branch], entry: Entry) -> (usize, usize) {
+fn cheapest(rule: Rule, branches: &[Branch], cell: Cell) -> (usize, usize) {
     let all = branches.iter().enumerate().flat_map(|(b, branch)| {
-        let extras = branch.polygon.iter().map(|r| r.extra_area(entry.cell));
+        let polygon = &branch.polygon;
+        let extras = polygon.iter().map(move |&r| rule(polygon, r, cell));
         extras.enumerate().map(move |(r, extra)| (extra, b, r))
     });
     let (_, branch, rectangle) = all.min().expect("a branch");
