@@ -13,7 +13,8 @@ use std::slice::Iter;
 use support::lines::{answers, OTHER_LINES, SAMPLE_INPUT, SAMPLE_OUTPUT};
 use support::program::check_answers_at_once;
 use support::tables::{
-    check_ends, check_long_lines, check_other_lines, check_sample, check_session, FIELDS, REFUSALS,
+    check_ends, check_long_lines, check_other_lines, check_sample, check_session, CELLS_GAINED,
+    FIELDS, REFUSALS,
 };
 
 /// Gives the input in parts of these sizes, again and again, with an interruption before each.
@@ -100,6 +101,11 @@ fn long_lines() {
 #[test]
 fn refusals() {
     check_session(&REFUSALS, answers_in_parts);
+}
+
+#[test]
+fn cells_gained() {
+    check_session(&CELLS_GAINED, answers_in_parts);
 }
 
 /// 'N = 64, a result list for all 512 entries': a full index is printed, the next is refused 8.

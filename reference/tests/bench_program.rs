@@ -10,7 +10,8 @@ use support::compared::{compare, printed, printed_in_parts, WHOLE};
 use support::lines::{answers, SAMPLE_INPUT, SAMPLE_OUTPUT};
 use support::program::{check_answers_at_once, Open};
 use support::tables::{
-    check_ends, check_long_lines, check_other_lines, check_sample, check_session, FIELDS, REFUSALS,
+    check_ends, check_long_lines, check_other_lines, check_sample, check_session, CELLS_GAINED,
+    FIELDS, REFUSALS,
 };
 
 #[test]
@@ -26,6 +27,14 @@ fn stored_session() {
     let output = fs::read_to_string(folder.join("stdout")).expect("crates/bench/stdout");
     assert!(input.starts_with(SAMPLE_INPUT.as_bytes()));
     assert!(output.starts_with(SAMPLE_OUTPUT));
+    let gained: String = CELLS_GAINED.map(|(line, _)| format!("{line}\n")).concat();
+    let has_gained = input
+        .windows(gained.len())
+        .any(|part| part == gained.as_bytes());
+    assert!(
+        has_gained,
+        "step 2 by area alone would give the same output"
+    );
     assert_eq!(answers(&input), output);
     assert_eq!(printed(&input), output);
 }
@@ -84,6 +93,11 @@ fn fields() {
 #[test]
 fn refusals() {
     check_session(&REFUSALS, printed_in_parts);
+}
+
+#[test]
+fn cells_gained() {
+    check_session(&CELLS_GAINED, printed_in_parts);
 }
 
 #[test]

@@ -9,7 +9,9 @@ use reference::random::Random;
 use reference::tree::Entry;
 use support::checked::{Checked, Command};
 use support::compared::{compare, expect, WHOLE};
-use support::limits::{filled_bars, rungs, PIECES_256, PIECES_257};
+use support::limits::{
+    filled_bars, over_bars, rungs, INSIDE_257, PIECES_256, PIECES_257, REFINED_16, REFINED_17,
+};
 use support::lines::{answers, line};
 use support::streams::Stream;
 use support::{say, seed};
@@ -44,7 +46,10 @@ fn limits_of_polygons() {
     add(filled_bars(&PIECES_256));
     add(filled_bars(&PIECES_257));
     add(rungs());
-    assert_eq!(answers(input.as_bytes()).matches("I ! 7\n").count(), 2);
+    add(over_bars(&REFINED_16));
+    add(over_bars(&REFINED_17));
+    add(over_bars(&INSIDE_257));
+    assert_eq!(answers(input.as_bytes()).matches("I ! 7\n").count(), 4);
     compare(input.as_bytes(), &WHOLE, "limits of polygons");
 }
 

@@ -57,6 +57,40 @@ pub const REFUSALS: [Row; 23] = [
     ("R 3 4", "R 0 0"),
 ];
 
+/// The worked stream of document 02's request A.2. Step 2 by area alone would have two visits of (0, 6).
+pub const CELLS_GAINED: [Row; 15] = [
+    ("I 3 5 1", "I 0 1"),
+    ("I 6 3 1", "I 0 2"),
+    ("I 2 4 1", "I 0 3"),
+    ("I 2 6 1", "I 0 4"),
+    ("I 2 3 1", "I 0 5"),
+    ("I 5 4 1", "I 0 6"),
+    ("I 6 5 1", "I 0 7"),
+    ("I 4 4 1", "I 0 8"),
+    ("I 5 5 1", "I 0 9"),
+    ("I 1 1 1", "I 0 10"),
+    ("I 4 1 1", "I 0 11"),
+    ("I 0 3 1", "I 0 12"),
+    ("P 0 6", "P 0 1"),
+    ("P 0 1", "P 0 2"),
+    (
+        "S 0 0 10 10",
+        "S 12 3\n\
+         E 3 5 1\n\
+         E 2 4 1\n\
+         E 2 6 1\n\
+         E 2 3 1\n\
+         E 1 1 1\n\
+         E 4 1 1\n\
+         E 0 3 1\n\
+         E 6 3 1\n\
+         E 5 4 1\n\
+         E 6 5 1\n\
+         E 4 4 1\n\
+         E 5 5 1",
+    ),
+];
+
 /// The rows one after another.
 pub fn check_session(rows: &[Row], print: impl Fn(&[u8], &[usize]) -> String) {
     let lines = |text: &[&str]| text.iter().map(|t| format!("{t}\n")).collect::<String>();
