@@ -32,6 +32,13 @@ pub fn answers(stream: &Stream) -> (Vec<u32>, Vec<u32>) {
     (answers.collect(), index)
 }
 
+/// The answers alone. A function of its own, so that instructions can be collected in it and not where
+/// a stream is made up.
+#[inline(never)]
+pub fn counted_answers(stream: &Stream) -> Vec<u32> {
+    answers(stream).0
+}
+
 /// All calls with their least times.
 pub fn times(stream: &Stream) -> Vec<Timed> {
     let (answers, _) = answers(stream);

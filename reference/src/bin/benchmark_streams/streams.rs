@@ -16,26 +16,55 @@ pub enum Command {
 }
 
 pub struct Stream {
-    pub name: String,
     /// The index before the first call.
     pub index: Vec<u32>,
     pub commands: Vec<Command>,
 }
 
-/// All streams for an index of n parts.
-pub fn streams(n: usize) -> Vec<Stream> {
-    let mut streams: Vec<Stream> = SHAPES.iter().map(|&shape| filling(n, shape)).collect();
-    for shape in [Shape::Random, Shape::Sorted, Shape::Crowded] {
-        streams.push(changing(n, shape));
+/// The kinds of streams.
+#[derive(Clone, Copy)]
+pub enum Kind {
+    Filling(Shape),
+    Changing(Shape),
+    Full(Shape),
+    GoingOn(Shape),
+    Ragged,
+    WithDearCall,
+}
+
+/// All kinds, in the order of the rows.
+pub fn kinds() -> Vec<Kind> {
+    let mut kinds = SHAPES.map(Kind::Filling).to_vec();
+    kinds.extend([Shape::Random, Shape::Sorted, Shape::Crowded].map(Kind::Changing));
+    kinds.extend([Shape::Random, Shape::Sorted].map(Kind::Full));
+    kinds.extend([Shape::Sorted, Shape::Row, Shape::Diagonal].map(Kind::GoingOn));
+    kinds.extend([Kind::Ragged, Kind::WithDearCall]);
+    kinds
+}
+
+impl Kind {
+    pub fn name(self) -> String {
+        match self {
+            Kind::Filling(shape) => shape.name().to_string(),
+            Kind::Changing(shape) => format!("{}, removals", shape.name()),
+            Kind::Full(shape) => format!("{}, full", shape.name()),
+            Kind::GoingOn(shape) => format!("{} goes on", shape.name()),
+            Kind::Ragged => "ragged".to_string(),
+            Kind::WithDearCall => "one dear call".to_string(),
+        }
     }
-    for shape in [Shape::Random, Shape::Sorted] {
-        streams.push(full(n, shape));
+
+    /// The stream for an index of n parts.
+    pub fn stream(self, n: usize) -> Stream {
+        match self {
+            Kind::Filling(shape) => filling(n, shape),
+            Kind::Changing(shape) => changing(n, shape),
+            Kind::Full(shape) => full(n, shape),
+            Kind::GoingOn(shape) => going_on(n, shape),
+            Kind::Ragged => ragged(n),
+            Kind::WithDearCall => with_dear_call(n),
+        }
     }
-    for shape in [Shape::Sorted, Shape::Row, Shape::Diagonal] {
-        streams.push(going_on(n, shape));
-    }
-    streams.push(with_dear_call(n));
-    streams
 }
 
 fn random_of(n: usize, shape: Shape) -> Random {
@@ -46,7 +75,6 @@ fn random_of(n: usize, shape: Shape) -> Random {
 fn filling(n: usize, shape: Shape) -> Stream {
     let cells = shape.cells(n, &mut random_of(n, shape));
     let mut stream = Stream {
-        name: shape.name().to_string(),
         index: vec![0; length_of(n)],
         commands: cells.into_iter().map(Command::Insert).collect(),
     };
@@ -64,7 +92,6 @@ fn changing(n: usize, shape: Shape) -> Stream {
     let pairs = cells[held..].iter().zip(&cells);
     let rest = pairs.flat_map(|(&new, &old)| [Command::Remove(old), Command::Insert(new)]);
     Stream {
-        name: format!("{}, removals", shape.name()),
         index: vec![0; length_of(n)],
         commands: first.chain(rest).collect(),
     }
@@ -76,7 +103,6 @@ fn full(n: usize, shape: Shape) -> Stream {
     let mut random = Random::for_case(2, n as u64, shape as u64);
     let cells = Shape::Random.cells(n, &mut random);
     Stream {
-        name: format!("{}, full", shape.name()),
         index,
         commands: cells[..2 * n]
             .iter()
@@ -91,9 +117,28 @@ fn going_on(n: usize, shape: Shape) -> Stream {
     let cells = shape.cells(n, &mut random_of(n, shape));
     let next = cells[filling.commands.len()..].iter().take(2 * n);
     Stream {
-        name: format!("{} goes on", shape.name()),
         index: answers(&filling).1,
         commands: next.map(|&cell| Command::Insert(cell)).collect(),
+    }
+}
+
+/// Anywhere; once 24 entries are held, any one is removed after each insertion. Polygons do not shrink,
+/// so they become ragged: three to five rectangles on average, and up to 16.
+fn ragged(n: usize) -> Stream {
+    let mut random = Random::for_case(3, n as u64, 0);
+    let (mut held, mut commands) = (Vec::new(), Vec::new());
+    for _ in 0..5_000 {
+        let cell = [0; 2].map(|_| random.between(0, 65535));
+        commands.push(Command::Insert(cell));
+        held.push(cell);
+        if held.len() > 24 {
+            let removed = random.between(0, 24) as usize;
+            commands.push(Command::Remove(held.swap_remove(removed)));
+        }
+    }
+    Stream {
+        index: vec![0; length_of(n)],
+        commands,
     }
 }
 
@@ -108,7 +153,6 @@ fn with_dear_call(n: usize) -> Stream {
     let before = (0..250).flat_map(ordinary);
     let after = (250..500).flat_map(ordinary);
     Stream {
-        name: "one dear call".to_string(),
         index: image(n, Some(&tree), &parts),
         commands: before.chain([Command::Insert(cell)]).chain(after).collect(),
     }
