@@ -12,7 +12,9 @@ use Rattle.geometry.specs.Grow.{grown}
 use Rattle.geometry.specs.Numbers.{rectAt, rectsIn}
 use Rattle.geometry.proofs.CellLaws.{Valid, valid-of}
 use Rattle.geometry.proofs.GrowLaws.{grow-valid}
+use Rattle.area.specs.Bounds.{boundsOf}
 use Rattle.area.specs.Lacked.{lacked, extraArea}
+use Rattle.area.proofs.BoundLaws.{lacked-outside}
 
 one-rect : (m : List ℕ) → rectsIn m 1 ≡ rectAt m 0 ∷ []
 unfolding rectsIn
@@ -37,8 +39,21 @@ module _ (m : List ℕ) (i : ℕ) (r : Rect) (e : r ≡ rectAt m i) where
 
   -- a polygon of more
   module _ (c : Cell) (g : Rect) (f : g ≡ grown r c) where
-    pub new-valid : valid (rectAt m i) ≡ true → onGrid c ≡ true → Valid g
-    new-valid v o = rw f (valid-of (grown r c) (grow-valid r c (rw e v) o))
+    pub new-valid : valid (rectAt m i) ≡ true → onGrid c ≡ true → valid g ≡ true
+    new-valid v o = rw f (grow-valid r c (rw e v) o)
+
+    pub new-ends : valid (rectAt m i) ≡ true → onGrid c ≡ true → Valid g
+    new-ends v o = valid-of g (new-valid v o)
+
+    -- the limit is reached outside the bounds
+    pub extra-outside : (n l x : ℕ) (b : Rect) → b ≡ boundsOf (rectsIn m n) → x ≡ lacked (b ∷ []) g → l ≤ x
+        → l ≡ min l (extraArea (rectsIn m n) (rectAt m i) c)
+    unfolding lacked extraArea
+    extra-outside n l x b d k h =
+        let a = lacked-outside (rectsIn m n) g in
+        let y : x ≡ lacked (boundsOf (rectsIn m n) ∷ []) g = k ∙ rw d in
+        let z : extraArea (rectsIn m n) (rectAt m i) c ≡ lacked (rectsIn m n) g = rw (f, e) in
+        omega arith
 
     pub extra-counted : (n l x : ℕ) → x ≡ min l (lacked (drop 0 (rectsIn m n)) g) → x ≡ min l (extraArea (rectsIn m n) (rectAt m i) c)
     unfolding lacked extraArea

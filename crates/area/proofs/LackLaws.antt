@@ -48,6 +48,19 @@ count-split t u = grid-same 65536 _ _ (λ c. go (t c) (u c)) ∙ grid-add 65536 
     go true false = refl
     go false b = refl
 
+-- where a test passes wherever another does, both pass where the other does
+inner : (a b : Bool) → (b ≡ true → a ≡ true) → a && b ≡ b
+inner true b h = refl
+inner false true h = h refl
+inner false false h = refl
+
+-- a test passed wherever another is has at least as many cells
+pub count-le : (t u : Cell → Bool) → ((c : Cell) → t c ≡ true → u c ≡ true) → cellCount t ≤ cellCount u
+count-le t u h =
+    let s = count-split u t in
+    let k = count-same (λ c. u c && t c) t (λ c. inner (u c) (t c) (h c)) in
+    omega arith
+
 at-most-one : (b : Bool) → bit b ≤ 1
 at-most-one true = omega arith
 at-most-one false = omega arith
@@ -145,11 +158,6 @@ extra-single r c e f =
     let m = count-same (λ d. hasCell (grown r c) d && not (hasCell r d || false)) (λ d. hasCell (grown r c) d && not (hasCell r d))
     (λ d. rw (or-false (hasCell r d))) in
     omega arith
-  where
-    inner : (a b : Bool) → (b ≡ true → a ≡ true) → a && b ≡ b
-    inner true b h = refl
-    inner false true h = h refl
-    inner false false h = refl
 
 module _ (p : List Rect) (r : Rect) (c : Cell) where
   -- extra area is no more than the cells of the grid

@@ -5,6 +5,9 @@ pub mod LackLaws
 pub mod ExtraLaws
 pub mod CutAreas
 pub mod LackCuts
+pub mod BoundLaws
+pub mod BoundLoop
+pub mod OutsideWays
 pub mod OneWays
 pub mod ExtraWays
 pub mod Cases

@@ -7,7 +7,9 @@ use native.Mathlib.Omega.{arith}
 use borrow.Author.Tests.{lt-ltb, le-ltb}
 use lib.ListN.{length, drop}
 use Rattle.geometry.specs.declared.rect.Cell.{Cell}
+use Rattle.geometry.specs.declared.rect.Rect.{Rect}
 use Rattle.geometry.specs.Cells.{onGrid, valid, allValid}
+use Rattle.area.specs.Bounds.{boundsOf}
 use Rattle.area.specs.Lacked.{extraArea}
 use Rattle.geometry.specs.Numbers.{rectAt, rectsIn}
 use Rattle.geometry.proofs.CellLaws.{grid-of, valid-at}
@@ -28,18 +30,20 @@ module _ (c : Cell) (h : onGrid c ≡ true) where
   pub grid-y : c .y ≤ 65535
   grid-y = grid-of c h .y-most
 
--- The first i of a branch's n rectangles are compared.
-pub record Comparing (c : Cell) (list : List ℕ) (n branch : ℕ) (known best : Least) (i : ℕ) : Type 0 where
+-- The first i of a branch's n rectangles are compared; b is the bounds of all n.
+pub record Comparing (c : Cell) (list : List ℕ) (n branch : ℕ) (b : Rect) (known best : Least) (i : ℕ) : Type 0 where
   pub i-le : i ≤ n
   pub fits : 4 * n ≤ length list
+  pub bounds : b ≡ boundsOf (rectsIn list n)
   pub valid : allValid (rectsIn list n) ≡ true
   pub rest : leastOf c branch known (rectsIn list n) ≡ leastIn (extraIn (rectsIn list n) c) branch i best (drop i (rectsIn list n))
 
-module _ (c : Cell) (list : List ℕ) (n branch : ℕ) (known : Least) where
-  pub compare-start : 4 * n ≤ length list → allValid (rectsIn list n) ≡ true → Comparing c list n branch known known 0
-  compare-start h v = record { i-le = omega arith; fits = h; valid = v; rest = refl }
+module _ (c : Cell) (list : List ℕ) (n branch : ℕ) (b : Rect) (known : Least) where
+  pub compare-start : 4 * n ≤ length list → b ≡ boundsOf (rectsIn list n) → allValid (rectsIn list n) ≡ true
+      → Comparing c list n branch b known known 0
+  compare-start h e v = record { i-le = omega arith; fits = h; bounds = e; valid = v; rest = refl }
 
-  module _ (best : Least) (i : ℕ) (v : Comparing c list n branch known best i) where
+  module _ (best : Least) (i : ℕ) (v : Comparing c list n branch b known best i) where
     module _ (h : i < n) where
       pub compared-valid : valid (rectAt list i) ≡ true
       compared-valid =
@@ -48,23 +52,24 @@ module _ (c : Cell) (list : List ℕ) (n branch : ℕ) (known : Least) where
           rw (← (rects-at list n i h)) (valid-at (rectsIn list n) i (v .valid) k)
 
       module _ (x : ℕ) (f : x ≡ min (best .extra) (extraArea (rectsIn list n) (rectAt list i) c)) (best′ : Least) where
-        next : (x′ : Least) → lesser (extraIn (rectsIn list n) c) branch i best (rectAt list i) ≡ x′ → Comparing c list n branch known x′ (i + 1)
+        next : (x′ : Least) → lesser (extraIn (rectsIn list n) c) branch i best (rectAt list i) ≡ x′ → Comparing c list n branch b known x′ (i + 1)
         unfolding leastIn
         next x′ q = record {
           i-le = omega arith;
           fits = v .fits;
+          bounds = v .bounds;
           valid = v .valid;
           rest = v .rest ∙ ap (leastIn (extraIn (rectsIn list n) c) branch i best) (rects-next list n i h)
               ∙ ap (λ y. leastIn (extraIn (rectsIn list n) c) branch (i + 1) y (drop (i + 1) (rectsIn list n))) q;
         }
 
-        pub compare-lesser : x < best .extra → best′ ≡ record { branch = branch; rect = i; extra = x } → Comparing c list n branch known best′ (i + 1)
+        pub compare-lesser : x < best .extra → best′ ≡ record { branch = branch; rect = i; extra = x } → Comparing c list n branch b known best′ (i + 1)
         unfolding lesser
         compare-lesser g q =
             let y : extraArea (rectsIn list n) (rectAt list i) c ≡ x = omega arith in
             rw q (next _ (rw (y, lt-ltb x (best .extra) g)))
 
-        pub compare-same : best .extra ≤ x → best′ ≡ best → Comparing c list n branch known best′ (i + 1)
+        pub compare-same : best .extra ≤ x → best′ ≡ best → Comparing c list n branch b known best′ (i + 1)
         unfolding lesser
         compare-same g q =
             let y : best .extra ≤ extraArea (rectsIn list n) (rectAt list i) c = omega arith in
@@ -77,6 +82,9 @@ module _ (c : Cell) (list : List ℕ) (n branch : ℕ) (known : Least) where
 -- the rectangles s of the part p of a child, and their count n
 module _ (m : List ℕ) (j : ℕ) (p s : List ℕ) (n : ℕ) (e : p ≡ part m j) (f : s ≡ rectNumbers p) (g : n ≡ rectCount p) where
   module _ (v : GoodPart m j) where
+    pub good-some : 1 ≤ n
+    good-some = rw (g, e) (v .some-rects)
+
     pub good-fit : 4 * n ≤ length s
     good-fit = polygon-few m j p s n (v .polygon) e f g
 

@@ -8,6 +8,7 @@ ghost use Rattle.geometry.specs.Numbers.{rectsIn};
 ghost use Rattle.memory.specs.Layout.{part, polygonIn};
 ghost use Rattle.step2.specs.Branches.{polygonsIn, GoodPart, Branches};
 ghost use Rattle.step2.specs.Least.{noneYet, leastOf, leastFrom};
+use area::bounds_of;
 use area::extra_area;
 use geometry::Cell;
 use layout::child;
@@ -23,18 +24,20 @@ pub struct Least {
     pub extra: u64,
 }
 
-// The least so far, or the first of the branch's n rectangles with the least extra area if that is smaller. A rectangle's
-// cells are counted up to the least so far.
+// The least so far, or the first of the branch's n rectangles with the least extra area if that is smaller. The cells
+// of a rectangle are counted up to the least so far.
 fn least_in(list: &[u32], n: usize, branch: usize, c: Cell, known: Least) -> Least
+    requires { ⌜ 1 ≤ n ⌝ }
     requires { ⌜ 4 * n ≤ length (now list) ⌝ }
     requires { ⌜ allValid (rectsIn (now list) n) ≡ true ⌝ }
     requires { ⌜ onGrid c ≡ true ⌝ }
     ensures { λ r. ⌜ r ≡ leastOf c branch known (rectsIn (now (list .entry)) n) ⌝ }
 {
+    let bounds = bounds_of(list, n);
     let mut best = known;
     let mut i = 0;
     while i < n {
-        let extra = extra_area(list, n, i, c, best.extra);
+        let extra = extra_area(list, n, i, c, bounds, best.extra);
         if extra < best.extra {
             best = Least {
                 branch,

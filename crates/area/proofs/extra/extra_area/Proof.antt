@@ -2,7 +2,7 @@
 use borrow.Author.Needs.{needs}
 use Rattle.geometry.proofs.CellLaws.{Valid}
 use Rattle.area.proofs.OneWays.{grid-x, grid-y}
-use Rattle.area.proofs.ExtraWays.{read-valid, new-valid, extra-below, extra-above, extra-counted}
+use Rattle.area.proofs.ExtraWays.{read-valid, new-valid, new-ends, extra-below, extra-above, extra-outside, extra-counted}
 use Rattle.area.proofs.extra.extra_area.Statement.{statement}
 use Rattle.area.proofs.extra.extra_area.Tie as tie
 
@@ -21,13 +21,19 @@ returns-2 c = search extra-above
 grow-requires : tie.Need-grow-requires
 grow-requires c κs = (search grid-x, search grid-y)
 
-lacking-requires : tie.Need-lacking-requires
-lacking-requires c κs =
-    let v : Valid (c .grow .result) = search new-valid in
-    search needs
+outside-requires : tie.Need-outside-requires
+outside-requires c κs = search new-valid
 
 returns-3 : tie.Need-returns-3
-returns-3 c = search extra-counted
+returns-3 c = search extra-outside
+
+lacking-requires : tie.Need-lacking-requires
+lacking-requires c κs =
+    let v : Valid (c .before .before .grow .result) = search new-ends in
+    search needs
+
+returns-4 : tie.Need-returns-4
+returns-4 c = search extra-counted
 
 pub extra-area-spec : {M : Type 1} → statement M
 extra-area-spec =
@@ -38,5 +44,7 @@ extra-area-spec =
     returns
     returns-2
     grow-requires
+    outside-requires
+    returns-3
     lacking-requires
-    returns-3)
+    returns-4)

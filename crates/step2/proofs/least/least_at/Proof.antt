@@ -1,6 +1,6 @@
 -- `least::least_at` meets its contract; what it reads of the part is in LeastLoops.
 use borrow.Author.Needs.{needs}
-use Rattle.step2.proofs.LeastLoops.{good-fit, good-valid, compared-at}
+use Rattle.step2.proofs.LeastLoops.{good-some, good-fit, good-valid, compared-at}
 use Rattle.step2.proofs.least.least_at.Statement.{statement}
 use Rattle.step2.proofs.least.least_at.Tie as tie
 
@@ -17,7 +17,7 @@ cast-least-in : tie.Need-cast-least-in
 cast-least-in c = search needs
 
 least-in-requires : tie.Need-least-in-requires
-least-in-requires c κs = (search good-fit, (search good-valid, search needs))
+least-in-requires c κs = (search good-some, (search good-fit, (search good-valid, search needs)))
 
 returns : tie.Need-returns
 returns c = search compared-at

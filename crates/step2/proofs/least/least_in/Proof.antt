@@ -7,16 +7,19 @@ use Rattle.step2.proofs.least.least_in.Statement.{statement}
 use Rattle.step2.proofs.least.least_in.Tie as tie
 
 abbrev Inv-loop : tie.InvT-loop
-Inv-loop list n branch c best₀ i₀ best i = Comparing c list n branch best₀ best i
+Inv-loop list n branch c bounds best₀ i₀ best i = Comparing c list n branch bounds best₀ best i
 
 abbrev μ-loop : tie.MeasureT-loop
-μ-loop list n branch c best₀ i₀ best i = n - i
+μ-loop list n branch c bounds best₀ i₀ best i = n - i
+
+bounds-of-requires : tie.Need-bounds-of-requires Inv-loop μ-loop
+bounds-of-requires c κs = search needs
 
 loop-holds : tie.Need-loop-holds Inv-loop μ-loop
 loop-holds c = search compare-start
 
 extra-area-requires : tie.Need-extra-area-requires Inv-loop μ-loop
-extra-area-requires c κs = (search needs, (search needs, (search compared-valid, search needs)))
+extra-area-requires c κs = (search needs, (search needs, (search compared-valid, (search needs, search needs))))
 
 add-i : tie.Need-add-i Inv-loop μ-loop
 add-i c = search needs
@@ -36,6 +39,7 @@ least-in-spec =
     (tie.spec
     Inv-loop
     μ-loop
+    bounds-of-requires
     loop-holds
     extra-area-requires
     add-i
