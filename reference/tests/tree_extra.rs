@@ -46,9 +46,11 @@ fn worked_extra_areas() {
 #[test]
 fn more_pieces_than_a_list_holds() {
     let (cell, extra, alone) = ([60_000, 60_000], 3_599_970_001, 3_600_090_001);
-    check_extras("A2.5", &arm_and_bars(), cell, &[extra], &[alone]);
-    let polygon = polygon(&arm_and_bars());
-    assert_eq!(pieces(&polygon, polygon[0], cell).len(), 272);
+    check_extras("A2.5", &arm_and_bars(0), cell, &[extra], &[alone]);
+    for more in [0, 20_000] {
+        let polygon = polygon(&arm_and_bars(more));
+        assert_eq!(pieces(&polygon, polygon[0], cell).len(), 272);
+    }
 }
 
 /// The tree's two leaves have these polygons.

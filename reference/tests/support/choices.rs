@@ -43,6 +43,7 @@ pub fn choices() -> Vec<Choice> {
         siblings_cells(),
         cells_outside_the_parent(),
         tie_of_lacking_cells(),
+        first_rectangle(),
         branch_before_rectangle(),
         many_pieces(),
         whole_grid(),
@@ -122,6 +123,18 @@ fn tie_of_lacking_cells() -> Choice {
     }
 }
 
+/// Both rectangles of the branch lack 4 cells.
+fn first_rectangle() -> Choice {
+    let root = [0, 0, 7, 2];
+    let (a, b) = ([5, 0, 7, 2], [0, 0, 2, 2]);
+    Choice {
+        name: "first rectangle on ties",
+        before: tree(root, vec![leaf(&[a, b], &[[5, 0]])]),
+        cell: [3, 0],
+        after: tree(root, vec![leaf(&[[3, 0, 7, 2], b], &[[5, 0], [3, 0]])]),
+    }
+}
+
 /// The second rectangle of the first branch and the first one of the second branch lack 4 cells.
 fn branch_before_rectangle() -> Choice {
     let root = [0, 0, 11, 22];
@@ -138,27 +151,28 @@ fn branch_before_rectangle() -> Choice {
     }
 }
 
-/// The worked polygon A2.5: an arm, and bars of which each is longer than the one below it.
-pub fn arm_and_bars() -> Vec<[u32; 4]> {
+/// An arm, and bars above its end, each a little longer than the one below it. With 0 more to each end
+/// of each bar it is the worked polygon A2.5.
+pub fn arm_and_bars(more: u32) -> Vec<[u32; 4]> {
     let bar = |j: u32| {
-        let y = 90 + 10 * j;
-        [30_000 - 100 * j, y, 30_000 + 100 * j, y + 5]
+        let (reach, y) = (more + 100 * j, 90 + 10 * j);
+        [30_000 - reach, y, 30_000 + reach, y + 5]
     };
     let arm = [0, 0, 30_000, 1];
     [arm].into_iter().chain((1..=15).map(bar)).collect()
 }
 
-/// The polygon cuts the grown arm into 272 pieces, which no limit forbids. The lowest bar lacks fewer
-/// cells.
+/// The polygon cuts the grown arm into 272 pieces, which no limit forbids; the last 16 of them have a
+/// third of the cells. The lowest bar lacks fewer than the arm, but more than the first 256 pieces have.
 fn many_pieces() -> Choice {
     let cell = [60_000, 60_000];
     let with = |polygon: &[[u32; 4]], cells: &[Cell]| {
         let other = leaf(&[[0, 1, 1, 2]], &[[0, 1]]);
         tree([0, 0, 60_001, 60_001], vec![leaf(polygon, cells), other])
     };
-    let before = arm_and_bars();
+    let before = arm_and_bars(20_000);
     let mut after = before.clone();
-    after[1] = [29_900, 100, 60_001, 60_001];
+    after[1] = [9_900, 100, 60_001, 60_001];
     Choice {
         name: "more than 256 pieces",
         before: with(&before, &[[0, 0]]),
