@@ -122,19 +122,24 @@ fn going_on(n: usize, shape: Shape) -> Stream {
     }
 }
 
-/// Anywhere; once 24 entries are held, any one is removed after each insertion. Polygons do not shrink,
-/// so they become ragged: three to five rectangles on average, and up to 16.
+/// Ten rounds from an empty index, with cells anywhere; once 20 entries are held, any one is removed
+/// after each insertion. Polygons do not shrink, so they become ragged: some three rectangles on
+/// average, and up to 16. Several rounds, since one can go far from the average.
 fn ragged(n: usize) -> Stream {
     let mut random = Random::for_case(3, n as u64, 0);
-    let (mut held, mut commands) = (Vec::new(), Vec::new());
-    for _ in 0..5_000 {
-        let cell = [0; 2].map(|_| random.between(0, 65535));
-        commands.push(Command::Insert(cell));
-        held.push(cell);
-        if held.len() > 24 {
-            let removed = random.between(0, 24) as usize;
-            commands.push(Command::Remove(held.swap_remove(removed)));
+    let mut commands = Vec::new();
+    for _ in 0..10 {
+        let mut held = Vec::new();
+        for _ in 0..2_000 {
+            let cell = [0; 2].map(|_| random.between(0, 65535));
+            commands.push(Command::Insert(cell));
+            held.push(cell);
+            if held.len() > 20 {
+                let removed = random.between(0, 20) as usize;
+                commands.push(Command::Remove(held.swap_remove(removed)));
+            }
         }
+        commands.extend(held.into_iter().map(Command::Remove));
     }
     Stream {
         index: vec![0; length_of(n)],
