@@ -26,7 +26,7 @@ use Rattle.index.specs.Walks.{hasTest}
 use Rattle.step2.specs.declared.least.Least.{Least}
 use Rattle.step2.specs.Branches.{polygonsIn, Branches, firstPlace}
 use Rattle.step2.specs.Choose.{ChosenBranch, ChosenAt, NoneChosen}
-use Rattle.step2.specs.Least.{noneYet, leastFrom}
+use Rattle.step2.specs.Least.{leastAll}
 use Rattle.step2.specs.Pieces.{grownAt}
 use Rattle.step2.proofs.ChildParts.{next-polygon, child-polygon, polygon-there}
 use Rattle.step2.proofs.ReadBranches.{polygons-read}
@@ -72,7 +72,7 @@ module _ (m : List ℕ) (k : ℕ) (p : List Rect) (c : Cell) (v : Branches m k) 
           (chosen-branch n b p c place (take place ps) (drop (suc place) ps) (getD ps place []) (getD ps place []) s
           (choose-has p c (b .child) place (take place ps) (drop (suc place) ps) (getD ps place []) s none-has has))
 
-  module _ (x : Least) (e : x ≡ leastFrom c 0 noneYet (polygonsIn m k)) where
+  module _ (x : Least) (e : x ≡ leastAll c (polygonsIn m k)) where
     found : FoundLeast c (polygonsIn m k) x
     found =
         let s = v .some in

@@ -9,11 +9,11 @@ use lib.Dec.{ltb}
 use lib.ListN.{length}
 use Rattle.geometry.specs.declared.rect.Cell.{Cell}
 use Rattle.geometry.specs.declared.rect.Rect.{Rect}
-use Rattle.area.proofs.LackLaws.{extra-bound}
 use Rattle.tree.specs.Lists.{All}
 use Rattle.tree.proofs.Lists.{all-append, all-map}
 use Rattle.step2.specs.declared.least.Least.{Least}
-use Rattle.step2.specs.Least.{noneYet, extraIn, lesser, leastIn, leastFrom}
+use Rattle.step2.specs.Least.{extraIn, lesser, leastIn, leastFrom, aloneFrom, allCells, startAt, leastAll}
+use Rattle.step2.proofs.AloneLaws.{alone-reached}
 
 -- every rectangle has at least, or more than, this extra area
 abbrev pub AtLeast : (Rect → ℕ) → ℕ → List Rect → Type 0
@@ -156,30 +156,22 @@ module _ (c : Cell) where
           let z : 0 + length (g .left) ≡ length (g .left) = omega arith in
           all-took i best q ps g (rw (e, z)) (f _)
 
--- an extra area is smaller than what stands for none
-impossible : (r : Rect) (l : List Rect) (ps : List (List Rect)) (c : Cell)
-    → All (λ q. AtLeast (extraIn q c) (noneYet .extra) q) ((r ∷ l) ∷ ps) → ⊥
-unfolding All
-impossible r l ps c a =
-    let s = extra-bound (r ∷ l) r c in
-    let t = a .0 .0 in
-    omega arith
-
 -- The rectangle that was found.
 pub record FoundLeast (c : Cell) (ps : List (List Rect)) (x : Least) : Type 0 where
-  pub first : FirstOf c 18446744073709551615 ps
+  pub limit : ℕ
+  pub first : FirstOf c limit ps
   pub branch : x .branch ≡ length (first .before)
   pub rect : x .rect ≡ length (first .inside .left)
 
 -- the scan finds one, where the first polygon has a rectangle
 pub least-first : (c : Cell) (q : List Rect) (ps : List (List Rect)) (x : Least) → 1 ≤ length q
-    → x ≡ leastFrom c 0 noneYet (q ∷ ps) → FoundLeast c (q ∷ ps) x
+    → x ≡ leastAll c (q ∷ ps) → FoundLeast c (q ∷ ps) x
 least-first c [] ps x h e = absurd (omega arith)
-least-first c (r ∷ l) ps x h e = go (scan-all c 0 noneYet ((r ∷ l) ∷ ps))
+least-first c (r ∷ l) ps x h e = go (scan-all c 0 (startAt (aloneFrom c allCells ((r ∷ l) ∷ ps))) ((r ∷ l) ∷ ps))
   where
-    go : ScannedAll c 0 noneYet ((r ∷ l) ∷ ps) → FoundLeast c ((r ∷ l) ∷ ps) x
-    go (kept a z) = absurd (impossible r l ps c a)
+    go : ScannedAll c 0 (startAt (aloneFrom c allCells ((r ∷ l) ∷ ps))) ((r ∷ l) ∷ ps) → FoundLeast c ((r ∷ l) ∷ ps) x
+    go (kept a z) = absurd (alone-reached c r l ps a)
     go (took f z) =
         let y : x ≡ record { branch = 0 + length (f .before); rect = length (f .inside .left); extra = extraIn (f .polygon) c (f .inside .at) } = e ∙ z in
         let w : 0 + length (f .before) ≡ length (f .before) = omega arith in
-        record { first = f; branch = ap (λ n. n .branch) y ∙ w; rect = ap (λ n. n .rect) y }
+        record { limit = _; first = f; branch = ap (λ n. n .branch) y ∙ w; rect = ap (λ n. n .rect) y }

@@ -19,7 +19,8 @@ use Rattle.layout.specs.Nodes.{countAt, childAt}
 use Rattle.layout.proofs.NodeLaws.{lent-polygon, polygon-few}
 use Rattle.step2.specs.declared.least.Least.{Least}
 use Rattle.step2.specs.Branches.{polygonsIn, GoodPart, Branches}
-use Rattle.step2.specs.Least.{noneYet, extraIn, lesser, leastIn, leastOf, leastFrom}
+use Rattle.step2.specs.Least.{extraIn, lesser, leastIn, leastOf, leastFrom, aloneFrom, allCells, startAt, leastAll}
+use Rattle.step2.proofs.AloneLaws.{from-most}
 use Rattle.step2.proofs.ChildParts.{next-polygon, no-polygon}
 
 -- a cell on the grid
@@ -100,11 +101,21 @@ pub record ComparingAll (c : Cell) (m : List ℕ) (k n : ℕ) (best : Least) (i 
   pub branches : Branches m k
   pub count : n ≡ countAt m k
   pub i-le : i ≤ n
-  pub rest : leastFrom c 0 noneYet (polygonsIn m k) ≡ leastFrom c i best (drop i (polygonsIn m k))
+  pub rest : leastAll c (polygonsIn m k) ≡ leastFrom c i best (drop i (polygonsIn m k))
 
 module _ (c : Cell) (m : List ℕ) (k n : ℕ) where
-  pub all-start : Branches m k → n ≡ countAt m k → ComparingAll c m k n noneYet 0
-  all-start v q = record { branches = v; count = q; i-le = omega arith; rest = refl }
+  pub all-start : (top : ℕ) (start : Least) → Branches m k → n ≡ countAt m k → top ≡ aloneFrom c allCells (polygonsIn m k)
+      → start ≡ startAt top → ComparingAll c m k n start 0
+  all-start top start v q e f = record {
+    branches = v;
+    count = q;
+    i-le = omega arith;
+    rest = ap (λ y. leastFrom c 0 y (polygonsIn m k)) (sym (f ∙ ap startAt e));
+  }
+
+  -- the number that the scan starts from has 64 bits
+  pub top-fits : (top : ℕ) → top ≡ aloneFrom c allCells (polygonsIn m k) → top + 1 < 18446744073709551616
+  top-fits top e = let h = from-most c allCells (polygonsIn m k) in omega arith
 
   module _ (best : Least) (i : ℕ) (v : ComparingAll c m k n best i) where
     module _ (j : ℕ) (h : i < n) (q : j ≡ childAt m k i) where
@@ -121,6 +132,6 @@ module _ (c : Cell) (m : List ℕ) (k n : ℕ) where
             ∙ ap (λ y. leastFrom c (i + 1) y (drop (i + 1) (polygonsIn m k))) (sym (rw q at e));
       }
 
-    pub all-end : n ≤ i → best ≡ leastFrom c 0 noneYet (polygonsIn m k)
+    pub all-end : n ≤ i → best ≡ leastAll c (polygonsIn m k)
     unfolding leastFrom
     all-end h = sym (v .rest ∙ rw (no-polygon m k (v .branches) i (rw (v .count) at h)))

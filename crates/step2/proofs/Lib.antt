@@ -2,6 +2,8 @@ pub mod ChoiceCases
 pub mod ChildParts
 pub mod ReadBranches
 pub mod FirstLoop
+pub mod AloneLaws
+pub mod AloneLoops
 pub mod LeastLoops
 pub mod LeastLaws
 pub mod PutLoop

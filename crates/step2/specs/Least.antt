@@ -1,6 +1,6 @@
 -- Document 01, 'Insertion', step 2: 'choose the rectangle of least extra area, first branch then first rectangle on ties', as a scan finds it.
 -- docs/RULES.md 4.4
-use Prim.Native.Nat.{ℕ, _+_}
+use Prim.Native.Nat.{ℕ, _+_, min}
 use mathlib.Core.Bool.{cond}
 use mathlib.Core.List.{List, [], _∷_}
 use lib.Dec.{ltb}
@@ -8,10 +8,6 @@ use Rattle.geometry.specs.declared.rect.Cell.{Cell}
 use Rattle.geometry.specs.declared.rect.Rect.{Rect}
 use Rattle.area.specs.Lacked.{extraArea}
 use Rattle.step2.specs.declared.least.Least.{Least}
-
--- before any rectangle: an extra area that is larger than any
-abbrev pub noneYet : Least
-noneYet = record { branch = 0; rect = 0; extra = 18446744073709551615 }
 
 -- the i-th rectangle of a branch against the least so far: it is taken only if its extra area is smaller
 unfoldable pub lesser : (Rect → ℕ) → ℕ → ℕ → Least → Rect → Least
@@ -34,3 +30,25 @@ leastOf c branch best q = leastIn (extraIn q c) branch 0 best q
 unfoldable pub leastFrom : Cell → ℕ → Least → List (List Rect) → Least
 leastFrom c i best [] = best
 leastFrom c i best (q ∷ ps) = leastFrom c (i + 1) (leastOf c i best q) ps
+
+-- The scan starts from a number that the least extra area does not exceed: t, or the least extra area of the rectangles where each is taken as a
+-- polygon of one (law extra-alone: in its polygon none has more).
+unfoldable pub aloneIn : Cell → ℕ → List Rect → ℕ
+aloneIn c t [] = t
+aloneIn c t (r ∷ l) = aloneIn c (min t (extraArea (r ∷ []) r c)) l
+
+unfoldable pub aloneFrom : Cell → ℕ → List (List Rect) → ℕ
+aloneFrom c t [] = t
+aloneFrom c t (q ∷ ps) = aloneFrom c (aloneIn c t q) ps
+
+-- the cells of the grid: no extra area is more
+abbrev pub allCells : ℕ
+allCells = 4294967296
+
+-- before any rectangle is looked at: one more than that number
+abbrev pub startAt : ℕ → Least
+startAt t = record { branch = 0; rect = 0; extra = t + 1 }
+
+-- the scan of all branches
+abbrev pub leastAll : Cell → List (List Rect) → Least
+leastAll c ps = leastFrom c 0 (startAt (aloneFrom c allCells ps)) ps

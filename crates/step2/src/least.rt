@@ -7,7 +7,8 @@ ghost use Rattle.geometry.specs.Cells.{onGrid, allValid};
 ghost use Rattle.geometry.specs.Numbers.{rectsIn};
 ghost use Rattle.memory.specs.Layout.{part, polygonIn};
 ghost use Rattle.step2.specs.Branches.{polygonsIn, GoodPart, Branches};
-ghost use Rattle.step2.specs.Least.{noneYet, leastOf, leastFrom};
+ghost use Rattle.step2.specs.Least.{leastOf, leastAll};
+use crate::alone::least_alone;
 use area::bounds_of;
 use area::extra_area;
 use geometry::Cell;
@@ -65,14 +66,16 @@ fn least_at(m: &[u32], j: u32, branch: usize, c: Cell, known: Least) -> Least
 pub fn find_least(m: &[u32], k: u32, c: Cell) -> Least
     requires { ⌜ Branches (now m) k ⌝ }
     requires { ⌜ onGrid c ≡ true ⌝ }
-    ensures { λ r. ⌜ r ≡ leastFrom c 0 noneYet (polygonsIn (now (m .entry)) k) ⌝ }
+    ensures { λ r. ⌜ r ≡ leastAll c (polygonsIn (now (m .entry)) k) ⌝ }
 {
+    let top = least_alone(m, k, c);
+    let extra = top + 1;
     let node = node_at(m, k);
     let n = node.count as usize;
     let mut best = Least {
         branch: 0,
         rect: 0,
-        extra: 18446744073709551615,
+        extra,
     };
     let mut i = 0;
     while i < n {

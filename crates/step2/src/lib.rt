@@ -1,4 +1,5 @@
 // Step 2 of an insertion on memory: the branch of a routing node that it goes to, and that branch's polygon.
+mod alone;
 mod branch;
 mod choosing;
 mod least;

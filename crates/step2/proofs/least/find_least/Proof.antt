@@ -1,16 +1,22 @@
 -- `least::find_least` meets its contract; its loop is in LeastLoops.
 use Prim.Native.Nat.{_-_}
 use borrow.Author.Needs.{needs}
-use Rattle.step2.proofs.LeastLoops.{ComparingAll, all-start, all-child, all-again, all-end}
+use Rattle.step2.proofs.LeastLoops.{ComparingAll, all-start, top-fits, all-child, all-again, all-end}
 use Rattle.step2.proofs.ChildParts.{loaded-branches, each-nine, each-child}
 use Rattle.step2.proofs.least.find_least.Statement.{statement}
 use Rattle.step2.proofs.least.find_least.Tie as tie
 
 abbrev Inv-loop : tie.InvT-loop
-Inv-loop m k c node n best₀ i₀ best i = ComparingAll c m k n best i
+Inv-loop m k c top extra node n best₀ i₀ best i = ComparingAll c m k n best i
 
 abbrev μ-loop : tie.MeasureT-loop
-μ-loop m k c node n best₀ i₀ best i = n - i
+μ-loop m k c top extra node n best₀ i₀ best i = n - i
+
+least-alone-requires : tie.Need-least-alone-requires Inv-loop μ-loop
+least-alone-requires c κs = search needs
+
+add-extra : tie.Need-add-extra Inv-loop μ-loop
+add-extra c = search top-fits
 
 node-at-requires : tie.Need-node-at-requires Inv-loop μ-loop
 node-at-requires c κs = search needs
@@ -45,6 +51,8 @@ find-least-spec =
     (tie.spec
     Inv-loop
     μ-loop
+    least-alone-requires
+    add-extra
     node-at-requires
     cast-n
     loop-holds
