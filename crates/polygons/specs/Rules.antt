@@ -16,8 +16,8 @@ unionHas has l c = any (λ r. has r c) l
 abbrev pub lackedBy : {A C : Type 0} → ((C → Bool) → ℕ) → (A → C → Bool) → List A → A → ℕ
 lackedBy count has p r = count (λ c. has r c && not (unionHas has p c))
 
--- A.2: 'extra area is the number of cells of the grown rectangle that the whole polygon lacks': of a polygon, one of its rectangles,
--- and the cell that the rectangle grows to
+-- A.2: 'extra area is the number of cells of the grown rectangle that the whole polygon lacks': of a polygon, one of
+-- its rectangles, and the cell that the rectangle grows to
 abbrev pub extraAreaBy : {A C : Type 0} → ((C → Bool) → ℕ) → (A → C → Bool) → (A → C → A) → List A → A → C → ℕ
 extraAreaBy count has grow p r c = lackedBy count has p (grow r c)
 

@@ -1,4 +1,5 @@
--- Document 01, 'Insertion', step 2: 'choose the rectangle of least extra area, first branch then first rectangle on ties', as a scan finds it.
+-- Document 01, 'Insertion', step 2: 'choose the rectangle of least extra area, first branch then first rectangle on
+-- ties', as a scan finds it.
 -- docs/RULES.md 4.4
 use Prim.Native.Nat.{ℕ, _+_, min}
 use mathlib.Core.Bool.{cond}
@@ -11,7 +12,8 @@ use Rattle.step2.specs.declared.least.Least.{Least}
 
 -- the i-th rectangle of a branch against the least so far: it is taken only if its extra area is smaller
 unfoldable pub lesser : (Rect → ℕ) → ℕ → ℕ → Least → Rect → Least
-lesser extra branch i best r = cond (ltb (extra r) (best .extra)) (record { branch = branch; rect = i; extra = extra r }) best
+lesser extra branch i best r =
+    cond (ltb (extra r) (best .extra)) (record { branch = branch; rect = i; extra = extra r }) best
 
 -- the least so far and the rectangles of a branch from the i-th on, by their extra areas
 unfoldable pub leastIn : (Rect → ℕ) → ℕ → ℕ → Least → List Rect → Least
@@ -31,8 +33,8 @@ unfoldable pub leastFrom : Cell → ℕ → Least → List (List Rect) → Least
 leastFrom c i best [] = best
 leastFrom c i best (q ∷ ps) = leastFrom c (i + 1) (leastOf c i best q) ps
 
--- The scan starts from a number that the least extra area does not exceed: t, or the least extra area of the rectangles where each is taken as a
--- polygon of one (law extra-alone: in its polygon none has more).
+-- The scan starts from a number that the least extra area does not exceed: t, or the least extra area of the
+-- rectangles where each is taken as a polygon of one (law extra-alone: in its polygon none has more).
 unfoldable pub aloneIn : Cell → ℕ → List Rect → ℕ
 aloneIn c t [] = t
 aloneIn c t (r ∷ l) = aloneIn c (min t (extraArea (r ∷ []) r c)) l

@@ -63,8 +63,8 @@ module _ (B : Boxes) where
     pub upper : length p ≤ mostOfPolygon
     pub valid : All (λ r. B .valid r ≡ true) p
 
-  -- "extra area is the number of cells of the grown rectangle that the whole polygon lacks": of a polygon, one of its rectangles, and the
-  -- cell that the rectangle grows to
+  -- "extra area is the number of cells of the grown rectangle that the whole polygon lacks": of a polygon, one of its
+  -- rectangles, and the cell that the rectangle grows to
   unfoldable pub extra : Poly → B .Box → B .Cell → ℕ
   extra p r c = extraAreaBy (B .count) (B .has) (B .grow) p r c
 
