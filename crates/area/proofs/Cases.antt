@@ -6,21 +6,13 @@ use Prim.Native.Nat.{ℕ}
 use Rattle.polygons.specs.Lists.{any}
 use Rattle.geometry.specs.declared.rect.Cell.{Cell}
 use Rattle.geometry.specs.declared.rect.Rect.{Rect}
-use Rattle.geometry.specs.Cells.{onGrid, nonEmpty, valid, area}
+use Rattle.geometry.specs.Cells.{onGrid, nonEmpty, valid, area, cellOf, rectOf}
 use Rattle.geometry.specs.Common.{overlap, unlessEmpty}
 use Rattle.geometry.specs.Grow.{grown}
 use Rattle.geometry.specs.Cut.{xCeiling, xFloor, yCeiling, yFloor, pieces, cut}
 use Rattle.geometry.specs.Refine.{firstFrom, within, strictlyWithin, contained, firstContained, stacked, abreast, joinable, union, joins, partner, hasPartner, firstJoin, refineStep, refineSteps, refine}
 use Rattle.area.specs.Lacked.{extraArea}
 use Rattle.area.proofs.LackLaws.{extra-single}
-
--- (a,b)-(c,d)
-abbrev pub rect : ℕ → ℕ → ℕ → ℕ → Rect
-rect a b c d = record { llx = a; lly = b; urx = c; ury = d }
-
--- (a,b)
-abbrev pub cell : ℕ → ℕ → Cell
-cell a b = record { x = a; y = b }
 
 -- a row: what is given, and the result
 pub data Row : Type 0 where
@@ -43,33 +35,33 @@ AllHold (r ∷ l) = Holds r × AllHold l
 abbrev pub table : List Row
 table =
     -- G1
-    cuts (rect 0 0 10 10) (rect 4 4 6 12) (rect 6 0 10 10 ∷ rect 0 0 4 10 ∷ rect 4 0 6 4 ∷ [])
+    cuts (rectOf 0 0 10 10) (rectOf 4 4 6 12) (rectOf 6 0 10 10 ∷ rectOf 0 0 4 10 ∷ rectOf 4 0 6 4 ∷ [])
     -- G2
-    ∷ cuts (rect 0 0 10 10) (rect 3 3 5 5) (rect 5 0 10 10 ∷ rect 0 0 3 10 ∷ rect 3 5 5 10 ∷ rect 3 0 5 3 ∷ [])
+    ∷ cuts (rectOf 0 0 10 10) (rectOf 3 3 5 5) (rectOf 5 0 10 10 ∷ rectOf 0 0 3 10 ∷ rectOf 3 5 5 10 ∷ rectOf 3 0 5 3 ∷ [])
     -- G3
-    ∷ cuts (rect 0 0 4 4) (rect 4 0 8 4) (rect 0 0 4 4 ∷ [])
+    ∷ cuts (rectOf 0 0 4 4) (rectOf 4 0 8 4) (rectOf 0 0 4 4 ∷ [])
     -- G4
-    ∷ cuts (rect 0 0 4 4) (rect 0 0 4 4) []
+    ∷ cuts (rectOf 0 0 4 4) (rectOf 0 0 4 4) []
     -- G5
-    ∷ takes (rect 2 2 4 4) (cell 4 3) (rect 2 2 5 4) 2
+    ∷ takes (rectOf 2 2 4 4) (cellOf 4 3) (rectOf 2 2 5 4) 2
     -- G6
-    ∷ takes (rect 2 2 4 4) (cell 3 3) (rect 2 2 4 4) 0
+    ∷ takes (rectOf 2 2 4 4) (cellOf 3 3) (rectOf 2 2 4 4) 0
     -- G7
-    ∷ refines (rect 0 0 2 4 ∷ rect 2 0 5 4 ∷ rect 1 1 2 2 ∷ []) (rect 0 0 5 4 ∷ [])
+    ∷ refines (rectOf 0 0 2 4 ∷ rectOf 2 0 5 4 ∷ rectOf 1 1 2 2 ∷ []) (rectOf 0 0 5 4 ∷ [])
     -- G8
-    ∷ refines (rect 0 0 2 2 ∷ rect 0 0 2 2 ∷ []) (rect 0 0 2 2 ∷ [])
+    ∷ refines (rectOf 0 0 2 2 ∷ rectOf 0 0 2 2 ∷ []) (rectOf 0 0 2 2 ∷ [])
     -- G9
-    ∷ refines (rect 0 0 2 2 ∷ rect 2 2 4 4 ∷ []) (rect 0 0 2 2 ∷ rect 2 2 4 4 ∷ [])
+    ∷ refines (rectOf 0 0 2 2 ∷ rectOf 2 2 4 4 ∷ []) (rectOf 0 0 2 2 ∷ rectOf 2 2 4 4 ∷ [])
     ∷ []
 
 -- the extra areas of G5 and G6
-extra-5 : extraArea (rect 2 2 4 4 ∷ []) (rect 2 2 4 4) (cell 4 3) ≡ 2
+extra-5 : extraArea (rectOf 2 2 4 4 ∷ []) (rectOf 2 2 4 4) (cellOf 4 3) ≡ 2
 unfolding valid onGrid area grown
-extra-5 = extra-single (rect 2 2 4 4) (cell 4 3) refl refl
+extra-5 = extra-single (rectOf 2 2 4 4) (cellOf 4 3) refl refl
 
-extra-6 : extraArea (rect 2 2 4 4 ∷ []) (rect 2 2 4 4) (cell 3 3) ≡ 0
+extra-6 : extraArea (rectOf 2 2 4 4 ∷ []) (rectOf 2 2 4 4) (cellOf 3 3) ≡ 0
 unfolding valid onGrid area grown
-extra-6 = extra-single (rect 2 2 4 4) (cell 3 3) refl refl
+extra-6 = extra-single (rectOf 2 2 4 4) (cellOf 3 3) refl refl
 
 -- all rows hold
 pub cases-hold : AllHold table

@@ -5,13 +5,12 @@ use mathlib.Core.List.{List, [], _∷_, map, flatMap}
 use Prim.Native.Nat.{ℕ}
 use Rattle.geometry.specs.declared.rect.Cell.{Cell}
 use Rattle.geometry.specs.declared.rect.Rect.{Rect}
-use Rattle.geometry.specs.Cells.{onGrid, nonEmpty, valid, allValid, area}
+use Rattle.geometry.specs.Cells.{onGrid, nonEmpty, valid, allValid, area, cellOf, rectOf}
 use Rattle.geometry.specs.Common.{overlap, unlessEmpty}
 use Rattle.geometry.specs.Cut.{xCeiling, xFloor, yCeiling, yFloor, pieces, cut, cutList, cutAll}
 use Rattle.geometry.specs.Grow.{grown}
 use Rattle.geometry.proofs.Booleans.{split-and}
 use Rattle.area.specs.Lacked.{extraArea}
-use Rattle.area.proofs.Cases.{rect, cell}
 use Rattle.area.proofs.CutAreas.{totalArea, extra-pieces}
 
 -- a row: a polygon, a cell, and the extra area of each of its rectangles grown to the cell
@@ -32,12 +31,12 @@ AllHold (w ∷ l) = Holds w × AllHold l
 -- two that cross at a corner; a U; one rectangle twice; a tie; the two polygons of a worked insertion
 abbrev pub table : List Row
 table =
-    record { polygon = rect 0 0 10 1 ∷ rect 0 0 1 10 ∷ []; cell = cell 9 9; extras = 81 ∷ 81 ∷ [] }
-    ∷ record { polygon = rect 0 0 2 10 ∷ rect 4 0 6 10 ∷ rect 2 0 4 2 ∷ []; cell = cell 3 9; extras = 16 ∷ 8 ∷ 16 ∷ [] }
-    ∷ record { polygon = rect 2 2 4 4 ∷ rect 2 2 4 4 ∷ []; cell = cell 4 3; extras = 2 ∷ 2 ∷ [] }
-    ∷ record { polygon = rect 0 0 4 4 ∷ rect 4 0 6 2 ∷ []; cell = cell 5 3; extras = 4 ∷ 4 ∷ [] }
-    ∷ record { polygon = rect 1 1 4 7 ∷ rect 4 1 5 3 ∷ []; cell = cell 0 3; extras = 6 ∷ 4 ∷ [] }
-    ∷ record { polygon = rect 4 3 7 7 ∷ []; cell = cell 0 3; extras = 16 ∷ [] }
+    record { polygon = rectOf 0 0 10 1 ∷ rectOf 0 0 1 10 ∷ []; cell = cellOf 9 9; extras = 81 ∷ 81 ∷ [] }
+    ∷ record { polygon = rectOf 0 0 2 10 ∷ rectOf 4 0 6 10 ∷ rectOf 2 0 4 2 ∷ []; cell = cellOf 3 9; extras = 16 ∷ 8 ∷ 16 ∷ [] }
+    ∷ record { polygon = rectOf 2 2 4 4 ∷ rectOf 2 2 4 4 ∷ []; cell = cellOf 4 3; extras = 2 ∷ 2 ∷ [] }
+    ∷ record { polygon = rectOf 0 0 4 4 ∷ rectOf 4 0 6 2 ∷ []; cell = cellOf 5 3; extras = 4 ∷ 4 ∷ [] }
+    ∷ record { polygon = rectOf 1 1 4 7 ∷ rectOf 4 1 5 3 ∷ []; cell = cellOf 0 3; extras = 6 ∷ 4 ∷ [] }
+    ∷ record { polygon = rectOf 4 3 7 7 ∷ []; cell = cellOf 0 3; extras = 16 ∷ [] }
     ∷ []
 
 -- the extra areas of some rectangles by their pieces

@@ -2,4 +2,3 @@ pub mod PassLoops
 pub mod CoverCells
 pub mod SkipLaws
 pub mod CoverLaws
-pub mod HasLaws

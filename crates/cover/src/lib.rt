@@ -4,5 +4,4 @@ mod scans;
 
 pub use covering::first_shared;
 pub use covering::inside;
-pub use scans::any_has;
 pub use scans::are_apart;

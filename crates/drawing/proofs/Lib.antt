@@ -1,3 +1,4 @@
 pub mod Ways
 pub mod GrowLoop
+pub mod ContainsWays
 pub mod ExportWays

@@ -1,16 +1,19 @@
 -- What the calls of the drawing exercise answer, and what they leave in the result list.
 -- docs/RULES.md 2.21 to 2.25, 5.11, 8.10
 use Prim.Native.Nat.{ℕ, _*_, _≤_}
-use mathlib.Core.Bool.{Bool, true, false}
+use mathlib.Core.Bool.{Bool, true, false, cond}
 use mathlib.Core.List.{List, _++_}
 use mathlib.Core.Option.{Option, none, some}
 use mathlib.Core.Path.{_≡_}
 use lib.ListN.{length, drop}
 use Rattle.geometry.specs.declared.rect.Rect.{Rect}
+use Rattle.geometry.specs.declared.containment.Containment.{Containment}
 use Rattle.geometry.specs.Numbers.{numbersOf, rectsIn}
 use Rattle.geometry.specs.Refine.{refine}
 use Rattle.drawing.specs.declared.answer.Answer.{Answer}
 use Rattle.drawing.specs.declared.answer.Answer.the-variants.{Wrote, Invalid, TooMany}
+use Rattle.drawing.specs.declared.answer.Contains.{Contains}
+use Rattle.drawing.specs.declared.answer.Contains.the-variants.{Tested, Refused}
 use Rattle.drawing.specs.declared.answer.Extra.{Extra}
 use Rattle.drawing.specs.declared.answer.Extra.the-variants.{Area, Unfit}
 
@@ -63,6 +66,26 @@ pub record Exported (valid : Bool) (limited : Option (List Rect)) (out : List �
   pub refusal : n ≡ number (answerOf valid limited)
   pub result : out' ≡ resultOf valid limited out
   pub count : told' ≡ reported (answerOf valid limited) told
+
+-- The answer of the containment test, from whether its arguments are valid and what the test reports.
+unfoldable pub containsOf : Bool → Containment → Contains
+containsOf false t = Refused
+containsOf true t = Tested t
+
+-- Document 01's number for it: an invalid list, count or cell is refused with 3.
+abbrev pub containsNumber : Contains → ℕ
+containsNumber (Tested t) = 0
+containsNumber Refused = 3
+
+-- its two values at exit, from those at entry: 1 where a rectangle has the cell and 0 where none has it; how many were compared. A
+-- refusal leaves both as they were.
+abbrev pub hasReported : Contains → ℕ → ℕ
+hasReported (Tested t) before = cond (t .has) 1 0
+hasReported Refused before = before
+
+abbrev pub comparedReported : Contains → ℕ → ℕ
+comparedReported (Tested t) before = t .compared
+comparedReported Refused before = before
 
 -- The answer of the extra area.
 unfoldable pub extraOf : Bool → ℕ → Extra

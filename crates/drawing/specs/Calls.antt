@@ -7,20 +7,15 @@ use mathlib.Core.Option.{Option, some}
 use Rattle.polygons.specs.Limits.{atMost, mostOfPolygon, mostPieces}
 use Rattle.geometry.specs.declared.rect.Cell.{Cell}
 use Rattle.geometry.specs.declared.rect.Rect.{Rect}
+use Rattle.geometry.specs.declared.containment.Containment.{Containment}
 use Rattle.geometry.specs.Cells.{onGrid, valid}
 use Rattle.geometry.specs.Common.{commonParts}
+use Rattle.geometry.specs.Containment.{containment}
 use Rattle.geometry.specs.Cut.{cutList, cutLimited}
 use Rattle.geometry.specs.Grow.{grown}
 use Rattle.geometry.specs.Refine.{refine}
 use Rattle.area.specs.Lacked.{extraArea}
 use Rattle.drawing.specs.Arguments.{given, isList, isResult}
-
--- a rectangle and a cell by their numbers
-abbrev pub rectOf : ℕ → ℕ → ℕ → ℕ → Rect
-rectOf a b c d = record { llx = a; lly = b; urx = c; ury = d }
-
-abbrev pub cellOf : ℕ → ℕ → Cell
-cellOf a b = record { x = a; y = b }
 
 -- a list and a rectangle
 unfoldable pub validWithRect : List ℕ → Rect → List ℕ → Bool
@@ -61,6 +56,13 @@ cutPolygonDrawn list p = cutLimited (given list) (given p)
 -- a list refined
 unfoldable pub refineDrawn : List ℕ → Option (List Rect)
 refineDrawn list = some (refine (given list))
+
+-- a polygon and a cell, and what the containment test reports of them
+unfoldable pub validContains : List ℕ → Cell → Bool
+validContains p c = isList mostOfPolygon p && onGrid c
+
+unfoldable pub containsDrawn : List ℕ → Cell → Containment
+containsDrawn p c = containment (given p) c
 
 -- a rectangle and a cell, and the rectangle's extra area as that of a polygon of one rectangle
 unfoldable pub validExtra : Rect → Cell → Bool

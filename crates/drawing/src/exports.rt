@@ -1,9 +1,11 @@
 // The calls for C and Rust: 0 or the number of the refusal is returned, and the count is stored through a pointer.
 ghost use mathlib.Core.Path.{_≡_};
 ghost use Rattle.geometry.specs.declared.rect.Rect.{Rect};
-ghost use Rattle.drawing.specs.Answers.{number, reported, few, Exported, extraOf, extraNumber, extraReported};
-ghost use Rattle.drawing.specs.Calls.{rectOf, cellOf, validWithRect, validWithCell, validWithPolygon, validAlone, validExtra, commonDrawn, growDrawn, cutDrawn, cutPolygonDrawn, refineDrawn, extraDrawn};
+ghost use Rattle.geometry.specs.Cells.{cellOf, rectOf};
+ghost use Rattle.drawing.specs.Answers.{number, reported, few, Exported, containsOf, containsNumber, hasReported, comparedReported, extraOf, extraNumber, extraReported};
+ghost use Rattle.drawing.specs.Calls.{validWithRect, validWithCell, validWithPolygon, validAlone, validContains, validExtra, commonDrawn, growDrawn, cutDrawn, cutPolygonDrawn, refineDrawn, containsDrawn, extraDrawn};
 use crate::answer::Answer;
+use crate::answer::Contains;
 use crate::answer::Extra;
 use crate::calls::common;
 use crate::calls::cut;
@@ -11,6 +13,7 @@ use crate::calls::cut_by_polygon;
 use crate::calls::extra_area;
 use crate::calls::grow;
 use crate::calls::refine;
+use crate::containing::contains;
 use geometry::Cell;
 use geometry::Rect;
 
@@ -94,6 +97,28 @@ pub extern "C" fn lintzoger_grow(
 {
     let a = grow(list, Cell { x, y }, result);
     report(a, written)
+}
+
+#[no_mangle]
+pub extern "C" fn lintzoger_contains(
+    polygon: &[u32],
+    x: u32,
+    y: u32,
+    has: &mut u32,
+    compared: &mut u32,
+) -> u32
+    ensures { λ r. ⌜ r ≡ containsNumber (containsOf (validContains (now (polygon .entry)) (cellOf x y)) (containsDrawn (now (polygon .entry)) (cellOf x y))) ⌝ }
+    ensures { λ _. ⌜ now (has .exit) ≡ hasReported (containsOf (validContains (now (polygon .entry)) (cellOf x y)) (containsDrawn (now (polygon .entry)) (cellOf x y))) (now (has .entry)) ⌝ }
+    ensures { λ _. ⌜ now (compared .exit) ≡ comparedReported (containsOf (validContains (now (polygon .entry)) (cellOf x y)) (containsDrawn (now (polygon .entry)) (cellOf x y))) (now (compared .entry)) ⌝ }
+{
+    match contains(polygon, Cell { x, y }) {
+        Contains::Tested(t) => {
+            *has = t.has as u32;
+            *compared = t.compared as u32;
+            0
+        }
+        Contains::Refused => 3,
+    }
 }
 
 #[no_mangle]

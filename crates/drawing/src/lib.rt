@@ -4,9 +4,11 @@
 mod answer;
 mod arguments;
 mod calls;
+mod containing;
 mod exports;
 
 pub use answer::Answer;
+pub use answer::Contains;
 pub use answer::Extra;
 pub use calls::common;
 pub use calls::cut;
@@ -14,3 +16,4 @@ pub use calls::cut_by_polygon;
 pub use calls::extra_area;
 pub use calls::grow;
 pub use calls::refine;
+pub use containing::contains;

@@ -9,12 +9,14 @@ pub mod DropLaws
 pub mod PairLaws
 pub mod SearchLaws
 pub mod ClipLaws
-pub mod PlaceLaws
+pub mod ContainmentLaws
+pub mod ContainmentCases
 pub mod Tests
 pub mod RectWays
 pub mod AppendLaws
 pub mod ArrayLaws
 pub mod CopyLoop
+pub mod ContainmentLoop
 pub mod CutLoops
 pub mod FillLoops
 pub mod NumberLaws

@@ -1,4 +1,4 @@
--- The loops over a polygon's rectangles, and the extra area of one.
+-- The loops over a polygon's rectangles: loading, storing, clipping.
 use mathlib.Core.Path.{_≡_, refl, sym, _∙_, ap}
 use mathlib.Core.Bool.{Bool, true, false}
 use mathlib.Core.List.{List, [], _∷_, _++_, append-nil, append-assoc, flatMap}
@@ -17,10 +17,8 @@ use Rattle.geometry.specs.Cells.{hasCell, anyHas, nonEmpty}
 use Rattle.geometry.specs.Clip.{sidePart, clipRect, clip}
 use Rattle.geometry.specs.Common.{unlessEmpty}
 use Rattle.geometry.specs.Numbers.{rectAt, rectsIn, rectsOf, putAt, Appended, PolygonOf}
-use Rattle.geometry.specs.Place.{place}
 use Rattle.geometry.proofs.ArrayLaws.{array-next, array-end}
 use Rattle.geometry.proofs.NumberLaws.{rects-suc, put-behind, length-put}
-use Rattle.geometry.proofs.PlaceLaws.{place-any}
 
 -- The first i of n rectangles are read from the numbers.
 pub record Loading (m : List ℕ) (n : ℕ) (p : Polygon) (i : ℕ) : Type 0 where
@@ -92,48 +90,6 @@ module _ (m₀ : List ℕ) (p : Polygon) where
     store-end h =
         let e : i ≡ p .count = omega arith in
         record { list = rw e at (v .list); few = omega arith; same-length = v .same-length }
-
--- The first i of a polygon's n rectangles do not have the cell.
-pub record Placing (p : Polygon) (c : Cell) (n i : ℕ) : Type 0 where
-  pub i-le : i ≤ n
-  pub n-is : n ≡ p .count
-  pub few : n ≤ 16
-  pub long : length (p .rects) ≡ 16
-  pub list : place (rectsOf p) c ≡ i + place (drop i (rectsOf p)) c
-
-module _ (p : Polygon) (c : Cell) where
-  pub place-start : p .count ≤ 16 → length (p .rects) ≡ 16 → Placing p c (p .count) 0
-  place-start g h = record { i-le = omega arith; n-is = refl; few = g; long = h; list = omega arith }
-
-  module _ (n i : ℕ) (v : Placing p c n i) where
-    next : (d : Rect) → i < n → drop i (rectsOf p) ≡ getD (p .rects) i d ∷ drop (i + 1) (rectsOf p)
-    next d h = array-next (p .count) i (p .rects) d (omega arith) (omega arith)
-
-    pub place-hit : (d : Rect) (b : Bool) → i < n → b ≡ hasCell (getD (p .rects) i d) c → b ≡ true → i ≡ place (rectsOf p) c
-    unfolding place
-    place-hit d b h e t = rw (v .list, next d h, ← e, t) (omega arith)
-
-    pub place-again : (d : Rect) (b : Bool) → i < n → b ≡ hasCell (getD (p .rects) i d) c → b ≡ false → Placing p c n (i + 1)
-    unfolding place
-    place-again d b h e f = record {
-      i-le = omega arith;
-      n-is = v .n-is;
-      few = v .few;
-      long = v .long;
-      list = rw (v .list, next d h, ← e, f) (omega arith);
-    }
-
-    pub place-end : n ≤ i → i ≡ place (rectsOf p) c
-    unfolding place
-    place-end h =
-        let k : p .count ≤ length (p .rects) = omega arith in
-        rw (v .list, array-end (p .count) i (p .rects) (omega arith) k) (omega arith)
-
-  -- the place is before the end exactly if some rectangle has the cell
-  pub place-found : (k : ℕ) → p .count ≤ 16 → length (p .rects) ≡ 16 → k ≡ place (rectsOf p) c → ltb k (p .count) ≡ anyHas (rectsOf p) c
-  place-found k g h e =
-      let l : length (rectsOf p) ≡ p .count = length-take-le (p .count) (p .rects) (omega arith) in
-      rw e (rw l at (place-any (rectsOf p) c))
 
 -- The parts of the first i of a polygon's n rectangles on a side are the first m rectangles of out.
 pub record Clipping (s : Side) (p : Polygon) (n : ℕ) (out : Polygon) (m i : ℕ) : Type 0 where

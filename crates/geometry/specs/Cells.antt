@@ -37,6 +37,13 @@ anyHas l c = unionHas hasCell l c
 unfoldable pub area : Rect → ℕ
 area r = (r .urx - r .llx) * (r .ury - r .lly)
 
+-- a cell and a rectangle by their numbers
+abbrev pub cellOf : ℕ → ℕ → Cell
+cellOf a b = record { x = a; y = b }
+
+abbrev pub rectOf : ℕ → ℕ → ℕ → ℕ → Rect
+rectOf a b c d = record { llx = a; lly = b; urx = c; ury = d }
+
 -- what `getD` gives past the end of a list; no rule looks there
 abbrev pub noRect : Rect
 noRect = record { llx = 0; lly = 0; urx = 0; ury = 0 }

@@ -4,7 +4,7 @@ pub mod Grow
 pub mod Cut
 pub mod Refine
 pub mod Clip
-pub mod Place
+pub mod Containment
 pub mod Numbers
 pub mod Pairs
 pub mod Search

@@ -1,6 +1,7 @@
 // The rectangle rules of document 01, 'Grid, rectangles, polygons': rectangles and polygons by
 // value, and lists of rectangles as numbers, four a rectangle.
 mod common;
+mod containment;
 mod cut;
 mod limits;
 mod numbers;
@@ -12,6 +13,8 @@ mod refine;
 mod scan;
 
 pub use common::common_parts;
+pub use containment::Containment;
+pub use containment::contains;
 pub use cut::Count;
 pub use cut::any_shares;
 pub use cut::cut_list;

@@ -3,10 +3,10 @@ ghost use mathlib.Core.Path.{_≡_};
 ghost use mathlib.Core.List.{[], _∷_};
 ghost use Prim.Native.Nat.{_*_, _≤_};
 ghost use lib.ListN.{length};
-ghost use Rattle.geometry.specs.Cells.{anyHas};
 ghost use Rattle.geometry.specs.Clip.{clip};
+ghost use Rattle.geometry.specs.Containment.{containment};
 ghost use Rattle.geometry.specs.Numbers.{rectsIn, rectsOf, Appended, PolygonOf};
-ghost use Rattle.geometry.specs.Place.{place};
+use crate::containment::Containment;
 use crate::limits::MOST_OF_POLYGON;
 use crate::numbers::put_rect;
 use crate::numbers::rect_at;
@@ -68,28 +68,28 @@ impl Polygon {
         }
     }
 
-    // The place of the first rectangle that has the cell; the count where none has it.
-    pub fn place(self, c: Cell) -> usize
+    // Compares its rectangles with the cell, one after another, and ends at the first that has it.
+    pub fn contains(self, c: Cell) -> Containment
         requires { ⌜ self .count ≤ 16 ⌝ }
-        ensures { λ r. ⌜ r ≡ place (rectsOf self) c ⌝ }
+        ensures { λ r. ⌜ r ≡ containment (rectsOf self) c ⌝ }
     {
         let n = self.count;
         let mut i = 0;
         while i < n {
             let r = self.rects[i];
             if r.has_cell(c) {
-                return i;
+                let compared = i + 1;
+                return Containment {
+                    has: true,
+                    compared,
+                };
             }
             i += 1;
         }
-        i
-    }
-
-    pub fn has_cell(self, c: Cell) -> bool
-        requires { ⌜ self .count ≤ 16 ⌝ }
-        ensures { λ r. ⌜ r ≡ anyHas (rectsOf self) c ⌝ }
-    {
-        self.place(c) < self.count
+        Containment {
+            has: false,
+            compared: n,
+        }
     }
 
     // Its rectangles clipped to a side of a line, in order, empty ones left out.

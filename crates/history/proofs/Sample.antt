@@ -4,7 +4,7 @@ use mathlib.Core.List.{List, [], _∷_, flatMap}
 use mathlib.Core.Option.{none, bind}
 use mathlib.Core.Path.{_≡_, refl}
 use Rattle.polygons.specs.Lists.{any}
-use Rattle.geometry.specs.Cells.{onGrid, valid, hasCell, nonEmpty}
+use Rattle.geometry.specs.Cells.{onGrid, valid, hasCell, nonEmpty, cellOf, rectOf}
 use Rattle.geometry.specs.Common.{overlap, sharesWith}
 use Rattle.geometry.specs.Grow.{grown}
 use Rattle.distance.specs.Distance.{gap, squared}
@@ -23,7 +23,7 @@ use Rattle.tree.specs.Calls.{insertCall, removeCall, clearCall, pointCall, wind
 use Rattle.index.specs.Answers.{PlaneIndex}
 use Rattle.index.specs.Changes.{entryOf}
 use Rattle.index.specs.Numbers.{Told, refusal, accepts}
-use Rattle.history.specs.Calls.{IndexCall, cellOf, rectOf}
+use Rattle.history.specs.Calls.{IndexCall}
 use Rattle.history.specs.Defined.{early, toldOf, toldOn, indexAfter}
 
 -- the answers to a list of calls on an index of 64 parts, each lent a list as long as the index

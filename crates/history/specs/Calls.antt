@@ -21,13 +21,6 @@ use Rattle.index.specs.Numbers.{Told}
 abbrev pub IndexCall : Type 0
 IndexCall = Call (planeSpace fanout) (planeWindow fanout)
 
--- a cell and a rectangle by their numbers
-abbrev pub cellOf : ℕ → ℕ → Cell
-cellOf a b = record { x = a; y = b }
-
-abbrev pub rectOf : ℕ → ℕ → ℕ → ℕ → Rect
-rectOf a b c d = record { llx = a; lly = b; urx = c; ury = d }
-
 -- A call that was made: what it was handed, and what came of it.
 pub record Made : Type 0 where
   pub call : IndexCall

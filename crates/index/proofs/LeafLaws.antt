@@ -1,16 +1,17 @@
 -- A leaf's entries: what the code's scans say of the tests.
 use mathlib.Core.Path.{_≡_, refl, sym, ap, _∙_}
-use mathlib.Core.Bool.{Bool, true, false}
+use mathlib.Core.Bool.{Bool, true, false, not}
 use mathlib.Core.List.{List, [], _∷_, _++_}
 use Prim.Native.Nat.{ℕ, zero, suc, _+_, _<_, _≤_}
 use native.Mathlib.Omega.{arith}
 use native.Mathlib.Decide.{decLt}
 use native.Mathlib.Numerals.{add-one}
-use borrow.Author.Tests.{eq-eqb, ne-eqb}
+use borrow.Author.Tests.{eq-eqb, ne-eqb, not-true, not-false}
 use lib.ListN.{length, drop, getD, drop-of-length-le, List·getD-append}
 use lib.Seq.{drop-cons, getD-at}
 use Rattle.geometry.specs.declared.rect.Cell.{Cell}
-use Rattle.geometry.specs.Cells.{anyHas}
+use Rattle.geometry.specs.declared.containment.Containment.{Containment}
+use Rattle.geometry.specs.Containment.{containment}
 use Rattle.geometry.specs.Numbers.{rectsIn}
 use Rattle.cover.specs.Tests.{allPass, pairsPass}
 use Rattle.cover.proofs.PassLoops.{Passing, passing-start, passing-end, passing-stop, passing-on, Pairing, pairing-start, pairing-end, pairing-stop, pairing-on}
@@ -64,20 +65,20 @@ module _ (p : List ℕ) (n i : ℕ) (w : Bool) (v : Holding p n i w) where
   hold-end h = passing-end (itemTest fanout 0 (polygonIn p)) (entriesIn p n) i w (v .passing) (entries-end p n i h)
 
   module _ (h : i < n) (l : List ℕ) (l-is : l ≡ rectNumbers p) (r : ℕ) (r-is : r ≡ rectCount p) (c : Cell) (c-is : c ≡ entryIn p i .cell)
-      (b : Bool) (f : b ≡ anyHas (rectsIn l r) c) where
-    hold-is : itemTest fanout 0 (polygonIn p) (entryIn p i) ≡ b
-    unfolding itemTest
-    hold-is = sym (f ∙ rw (l-is, r-is, c-is))
+      (t : Containment) (f : t ≡ containment (rectsIn l r) c) where
+    hold-is : itemTest fanout 0 (polygonIn p) (entryIn p i) ≡ t .has
+    unfolding itemTest containment
+    hold-is = sym (ap (λ x. x .has) f ∙ rw (l-is, r-is, c-is))
 
-    pub hold-stop : b ≡ false → false ≡ w
-    hold-stop g = passing-stop (itemTest fanout 0 (polygonIn p)) (entriesIn p n) i w (v .passing) (entryIn p i) (entries-next p n i h) (hold-is ∙ g)
+    pub hold-stop : not (t .has) ≡ true → false ≡ w
+    hold-stop g = passing-stop (itemTest fanout 0 (polygonIn p)) (entriesIn p n) i w (v .passing) (entryIn p i) (entries-next p n i h) (hold-is ∙ not-true (t .has) g)
 
-    pub hold-on : b ≡ true → Holding p n (i + 1) w
+    pub hold-on : not (t .has) ≡ false → Holding p n (i + 1) w
     hold-on g = record {
       count = v .count;
       i-le = omega arith;
       fits = v .fits;
-      passing = passing-on (itemTest fanout 0 (polygonIn p)) (entriesIn p n) i w (v .passing) (entryIn p i) (entries-next p n i h) (hold-is ∙ g);
+      passing = passing-on (itemTest fanout 0 (polygonIn p)) (entriesIn p n) i w (v .passing) (entryIn p i) (entries-next p n i h) (hold-is ∙ not-false (t .has) g);
     }
 
 -- whether the entries from the j-th on have other cells than the i-th; j may have passed the last one

@@ -7,6 +7,9 @@ pub mod ClearWays
 pub mod WalkParts
 pub mod WalkNode
 pub mod WalkRows
+pub mod ChildLaws
+pub mod ChildLoop
+pub mod PathWalk
 pub mod WalkLoop
 pub mod WalkLeaf
 pub mod PointWalk

@@ -3,13 +3,14 @@ use Prim.Native.Nat.{ℕ}
 use mathlib.Core.Path.{_≡_, sym, ap, _∙_}
 use mathlib.Core.Bool.{Bool, cond}
 use mathlib.Core.List.{List, [], head?}
-use mathlib.Core.Option.{some}
+use mathlib.Core.Option.{some, Option·some-injective}
 use native.Mathlib.Omega.{arith}
 use Rattle.geometry.specs.declared.rect.Cell.{Cell}
 use Rattle.geometry.specs.declared.rect.Rect.{Rect}
 use Rattle.tree.specs.Tree.{top}
 use Rattle.tree.specs.Query.{entryAt, visits, windowVisits}
 use Rattle.tree.specs.Walk.{walkVisits, walkEntries}
+use Rattle.tree.proofs.Depth.{top-sound}
 use Rattle.tree.proofs.Walk.{point-visits, point-found, window-visits, window-entries}
 use Rattle.plane.specs.Lines.{CellEntry}
 use Rattle.plane.specs.Plane.{planeSpace, planeRoot}
@@ -22,16 +23,31 @@ use Rattle.memory.specs.Fanout.{fanout}
 use Rattle.layout.specs.Nodes.{PolygonPart}
 use Rattle.index.specs.Answers.{matchesIn}
 use Rattle.index.specs.Open.{TreeIn}
-use Rattle.index.specs.Walks.{hasTest, cellTest, meetsTest, insideTest, visitsFrom, visitsBelow, entriesFrom, entriesBelow, Walkable, heldBelow, matchesBelow}
+use Rattle.index.specs.Walks.{hasTest, cellTest, meetsTest, insideTest, visitsFrom, visitsBelow, entriesFrom, entriesBelow, Walkable, SoundWalk, heldBelow, matchesBelow}
 use Rattle.index.proofs.CheckLaws.{node-polygon}
 use Rattle.index.proofs.WalkRows.{walkable, walk-polygon}
 
 module _ (m : List ℕ) (level root : ℕ) (v : TreeIn m level root) where
+  root-walkable : Walkable (v .tree .level) m 0 (rootIn m)
+  root-walkable =
+      let r = read-as fanout m (v .tree) (v .reads) in
+      walkable (v .tree .level) m 0 (rootIn m) (top (planeSpace fanout) (v .tree)) (r .right) (omega arith) (r .root-node)
+
   pub tree-walkable : Walkable level m 0 root
-  tree-walkable =
-      let t = v .tree in
-      let r = read-as fanout m t (v .reads) in
-      rw (← (v .level-is), ← (v .root-is)) (walkable (t .level) m 0 (rootIn m) (top (planeSpace fanout) t) (r .right) (omega arith) (r .root-node))
+  tree-walkable = rw (← (v .level-is), ← (v .root-is)) root-walkable
+
+  -- the root is sound, too
+  pub root-sound-walk : SoundWalk (v .tree .level) m 0 (rootIn m)
+  root-sound-walk =
+      let n : root-walkable .node ≡ top (planeSpace fanout) (v .tree) = Option·some-injective _ _ (sym (root-walkable .reads) ∙ read-as fanout m (v .tree) (v .reads) .root-node) in
+      record {
+        walk = root-walkable;
+        around = v .tree .root;
+        sound = rw n (top-sound (planeSpace fanout) (planeRoot fanout) (v .tree) (read-sound fanout m (v .tree) (v .reads) .sound));
+      }
+
+  pub tree-sound-walk : SoundWalk level m 0 root
+  tree-sound-walk = rw (← (v .level-is), ← (v .root-is)) root-sound-walk
 
   pub tree-polygon : PolygonPart m root
   tree-polygon = walk-polygon level m 0 root tree-walkable

@@ -3,6 +3,7 @@ pub mod Answers
 pub mod Check
 pub mod Open
 pub mod Walks
+pub mod Children
 pub mod Count
 pub mod Changes
 pub mod Held

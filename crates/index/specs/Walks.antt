@@ -1,7 +1,7 @@
 -- The walks that the queries make in a memory, below the node at a part: what they enter and what they find there.
 -- docs/RULES.md 5.11
 use Prim.Native.Nat.{ℕ, suc, _+_, _*_, _-_, _≤_, _<_}
-use mathlib.Core.Bool.{Bool, true, false, _||_, cond}
+use mathlib.Core.Bool.{Bool, true, false}
 use mathlib.Core.List.{List, [], _∷_, head?}
 use mathlib.Core.Option.{Option, none, some}
 use mathlib.Core.Path.{_≡_}
@@ -10,6 +10,7 @@ use Rattle.geometry.specs.declared.rect.Cell.{Cell}
 use Rattle.geometry.specs.declared.rect.Rect.{Rect}
 use Rattle.tree.specs.Lists.{keep}
 use Rattle.tree.specs.Nodes.{Item}
+use Rattle.tree.specs.Sound.{SoundItem}
 use Rattle.tree.specs.Query.{ofCell, matching}
 use Rattle.tree.specs.Walk.{nodeWalkVisits, nodeWalkEntries}
 use Rattle.plane.specs.Lines.{CellEntry}
@@ -87,6 +88,12 @@ pub record Walkable (n : ℕ) (m : List ℕ) (lo k : ℕ) : Type 0 where
   pub node : Item (planeSpace fanout) (suc n)
   pub reads : readNode fanout n m lo k ≡ some node
 
+-- The node at part k can be walked, and is sound among the cells of `around`.
+pub record SoundWalk (n : ℕ) (m : List ℕ) (lo k : ℕ) : Type 0 where
+  pub walk : Walkable n m lo k
+  pub around : List Rect
+  pub sound : SoundItem (planeSpace fanout) (suc n) around (walk .node)
+
 -- what a walk for a cell found: the first entry, and the visits
 unfoldable pub foundOf : Option CellEntry → ℕ → Found
 foundOf none v = record { held = false; tag = 0; visits = v }
@@ -94,10 +101,6 @@ foundOf (some e) v = record { held = true; tag = e .tag; visits = v }
 
 unfoldable pub found : List CellEntry → ℕ → Found
 found es v = foundOf (head? es) v
-
--- what two walks found, one after the other: the first entry of the two, and the visits of both
-unfoldable pub joined : Found → Found → Found
-joined a b = record { held = a .held || b .held; tag = cond (a .held) (a .tag) (b .tag); visits = a .visits + b .visits }
 
 -- what a walk for a window found: how many entries match, and the visits
 unfoldable pub matched : List CellEntry → ℕ → Matched

@@ -7,7 +7,7 @@ ghost use Rattle.memory.specs.Layout.{itemCount, polygonIn, entryIn, entriesIn}
 ghost use Rattle.memory.specs.SoundTest.{apartTest, itemTest};
 ghost use Rattle.memory.specs.Fanout.{fanout};
 ghost use Rattle.layout.specs.Nodes.{IsPart, NodePart};
-use cover::any_has;
+use geometry::contains;
 use layout::entry_cell;
 use layout::item_count;
 use layout::rect_count;
@@ -23,7 +23,7 @@ pub fn entries_inside(p: &[u32]) -> bool
     let list = rects(p);
     let mut i = 0;
     while i < count {
-        if !any_has(list, n, entry_cell(p, i)) {
+        if !contains(list, n, entry_cell(p, i)).has {
             return false;
         }
         i += 1;

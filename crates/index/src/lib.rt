@@ -1,6 +1,7 @@
 // The index in lent memory: its calls and what they answer.
 mod answer;
 mod check;
+mod child;
 mod clearing;
 mod count;
 mod holding;
@@ -16,6 +17,8 @@ pub use answer::NearestFound;
 pub use answer::PointFound;
 pub use answer::Removed;
 pub use answer::WindowFound;
+pub use child::ChildFound;
+pub use child::child_with;
 pub use clearing::clear;
 pub use count::entries_below;
 pub use holding::is_held;

@@ -7,8 +7,10 @@ ghost use Rattle.layout.specs.Loaded.{entryAmong};
 ghost use Rattle.layout.specs.Nodes.{NodePart};
 ghost use Rattle.index.specs.Answers.{pointRead, pointAnswer};
 ghost use Rattle.index.specs.Open.{TreeIn, OpenedAs};
-ghost use Rattle.index.specs.Walks.{hasTest, cellTest, visitsBelow, heldBelow, leafEntries, Walkable, found};
+ghost use Rattle.index.specs.Walks.{hasTest, cellTest, visitsBelow, heldBelow, leafEntries, SoundWalk, found};
 use crate::answer::PointFound;
+use crate::child::ChildFound;
+use crate::child::child_with;
 use crate::opening::Opened;
 use crate::opening::open;
 use crate::walk::Found;
@@ -17,8 +19,6 @@ use geometry::Cell;
 use layout::Items;
 use layout::Node;
 use layout::cell;
-use layout::child;
-use layout::node_at;
 use layout::part_at;
 use layout::right_length;
 use layout::tag;
@@ -35,10 +35,10 @@ pub fn is_of_cell(items: &Items, i: usize, c: Cell) -> bool
     held.y == c.y
 }
 
-// The entry of the cell in a leaf's part.
-fn point_in_leaf(p: &[u32], c: Cell) -> Found
+// The entry of the cell in a leaf's part, the last node of a walk with so many visits.
+fn point_in_leaf(p: &[u32], c: Cell, visits: u32) -> Found
     requires { ⌜ NodePart (now p) ⌝ }
-    ensures { λ r. ⌜ r ≡ found (leafEntries (cellTest c) (now (p .entry))) 1 ⌝ }
+    ensures { λ r. ⌜ r ≡ found (leafEntries (cellTest c) (now (p .entry))) visits ⌝ }
 {
     let leaf = Node::load(p);
     let n = leaf.count as usize;
@@ -48,7 +48,7 @@ fn point_in_leaf(p: &[u32], c: Cell) -> Found
             return Found {
                 held: true,
                 tag: tag(&leaf.items, i),
-                visits: 1,
+                visits,
             };
         }
         i += 1;
@@ -56,38 +56,35 @@ fn point_in_leaf(p: &[u32], c: Cell) -> Found
     Found {
         held: false,
         tag: 0,
-        visits: 1,
+        visits,
     }
 }
 
-// The walk below the node at part k, whose subtree has the parts from lo on: it enters only children
-// whose polygon has the cell.
+// The walk below the node at part k, whose subtree has the parts from lo on: one path, down to a leaf or to a node without
+// a child that has the cell.
 pub fn point_below(m: &[u32], level: u32, lo: u32, k: u32, c: Cell) -> Found
-    requires { ⌜ Walkable level (now m) lo k ⌝ }
+    requires { ⌜ SoundWalk level (now m) lo k ⌝ }
     ensures { λ r. ⌜ r ≡ found (heldBelow c level (now (m .entry)) lo k) (visitsBelow (hasTest c) level (now (m .entry)) lo k) ⌝ }
 {
-    if level == 0 {
-        return point_in_leaf(part_at(m, k), c);
+    let mut left = level;
+    let mut from = lo;
+    let mut at = k;
+    let mut visits: u32 = 1;
+    while 0 < left {
+        let next = child_with(m, from, at, c);
+        let ChildFound::Child { at: _, low, part } = next else {
+            return Found {
+                held: false,
+                tag: 0,
+                visits,
+            };
+        };
+        left -= 1;
+        from = low;
+        at = part;
+        visits += 1;
     }
-    let node = node_at(m, k);
-    let n = node.count as usize;
-    let mut so_far = Found {
-        held: false,
-        tag: 0,
-        visits: 1,
-    };
-    let mut low = lo;
-    let mut i = 0;
-    while i < n {
-        let j = child(&node.items, i);
-        if polygon_has(m, j, c) {
-            let below = point_below(m, level - 1, low, j, c);
-            so_far = so_far.then(below);
-        }
-        low = j + 1;
-        i += 1;
-    }
-    so_far
+    point_in_leaf(part_at(m, at), c, visits)
 }
 
 // The point query of the tree in a memory: its root is visited too, if its polygon has the cell.

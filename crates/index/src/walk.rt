@@ -1,13 +1,12 @@
 // What the walks of the queries ask of a node's polygon, and what the walk for a cell found.
 ghost use mathlib.Core.Path.{_≡_};
-ghost use Prim.Native.Nat.{_+_, _≤_};
 ghost use Rattle.memory.specs.Layout.{part, polygonIn};
 ghost use Rattle.layout.specs.Nodes.{PolygonPart};
-ghost use Rattle.index.specs.Walks.{hasTest, meetsTest, joined};
-use cover::any_has;
+ghost use Rattle.index.specs.Walks.{hasTest, meetsTest};
 use geometry::Cell;
 use geometry::Rect;
 use geometry::any_shares;
+use geometry::contains;
 use layout::part_at;
 use layout::rect_count;
 use layout::rects;
@@ -20,35 +19,13 @@ pub struct Found {
     pub visits: u32,
 }
 
-impl Found {
-    // What two walks found, one after the other.
-    pub fn then(self, later: Found) -> Found
-        requires { ⌜ self .visits + later .visits ≤ 4294967295 ⌝ }
-        ensures { λ r. ⌜ r ≡ joined self later ⌝ }
-    {
-        let visits = self.visits + later.visits;
-        if self.held {
-            return Found {
-                held: true,
-                tag: self.tag,
-                visits,
-            };
-        }
-        Found {
-            held: later.held,
-            tag: later.tag,
-            visits,
-        }
-    }
-}
-
 // Whether the polygon of the node at part k has the cell.
 pub fn polygon_has(m: &[u32], k: u32, c: Cell) -> bool
     requires { ⌜ PolygonPart (now m) k ⌝ }
     ensures { λ b. ⌜ b ≡ hasTest c (polygonIn (part (now (m .entry)) k)) ⌝ }
 {
     let p = part_at(m, k);
-    any_has(rects(p), rect_count(p) as usize, c)
+    contains(rects(p), rect_count(p) as usize, c).has
 }
 
 // Whether the polygon of the node at part k shares a cell with w.

@@ -9,6 +9,7 @@ use denote.Ref.{now}
 use borrow.Fn.Kinds.{endedOf}
 use denote.Triple.Clauses.{AtExit}
 use borrow.Fn.World.{ArgsD, ResD}
+use Rattle.geometry.specs.Cells.{cellOf, rectOf}
 use Rattle.tree.specs.Lists.{All}
 use Rattle.tree.specs.Calls.{insertCall, removeCall, clearCall, pointCall, windowCall, nearestCall}
 use Rattle.index.specs.Answers.{insertAnswer, removeAnswer, clearAnswer, pointAnswer, windowAnswer, nearestAnswer}
@@ -26,7 +27,7 @@ use Rattle.index.specs.declared.answer.WindowFound.{WindowFound}
 use Rattle.index.specs.declared.answer.WindowFound.the-variants as W
 use Rattle.index.specs.declared.answer.NearestFound.{NearestFound}
 use Rattle.index.specs.declared.answer.NearestFound.the-variants as Near
-use Rattle.history.specs.Calls.{Made, freshMemory, Linked, cellOf, rectOf}
+use Rattle.history.specs.Calls.{Made, freshMemory, Linked}
 use Rattle.history.specs.Contract.{Kept}
 use Rattle.history.specs.Claim.{HistoryClaim}
 use Rattle.history.proofs.History.{kept-history}

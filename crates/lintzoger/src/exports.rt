@@ -1,6 +1,6 @@
 // The calls for C and Rust: 0 or the number of the refusal is returned, and the values are stored through pointers.
 ghost use Rattle.index.specs.Changes.{entryOf};
-ghost use Rattle.history.specs.Calls.{cellOf, rectOf};
+ghost use Rattle.geometry.specs.Cells.{cellOf, rectOf};
 ghost use Rattle.lintzoger.specs.Exports.{InsertExported, RemoveExported, ClearExported, PointExported, WindowExported, NearestExported};
 use geometry::Cell;
 use geometry::Rect;

@@ -6,7 +6,8 @@ use mathlib.Core.Option.{Option, none}
 use Rattle.geometry.specs.declared.rect.Cell.{Cell}
 use Rattle.geometry.specs.declared.rect.Line.{Line}
 use Rattle.geometry.specs.declared.rect.Line.the-variants.{AtX}
-use Rattle.area.proofs.Cases.{cell, Row as RectRow, Holds as RectHolds, AllHold as AllRectHold, table as rectTable, cases-hold as rect-cases-hold}
+use Rattle.geometry.specs.Cells.{cellOf}
+use Rattle.area.proofs.Cases.{Row as RectRow, Holds as RectHolds, AllHold as AllRectHold, table as rectTable, cases-hold as rect-cases-hold}
 use Rattle.tree.specs.Lists.{keep, total}
 use Rattle.tree.specs.Tree.{Index}
 use Rattle.tree.specs.Query.{entryAt, visits}
@@ -34,9 +35,9 @@ AllHold (r ∷ l) = Holds r × AllHold l
 abbrev pub others : List Row
 others =
     -- G10
-    leaf (cell 0 5 ∷ cell 1 5 ∷ cell 2 5 ∷ cell 3 5 ∷ cell 4 5 ∷ cell 5 5 ∷ cell 6 5 ∷ cell 7 5 ∷ cell 8 5 ∷ []) (AtX 5)
+    leaf (cellOf 0 5 ∷ cellOf 1 5 ∷ cellOf 2 5 ∷ cellOf 3 5 ∷ cellOf 4 5 ∷ cellOf 5 5 ∷ cellOf 6 5 ∷ cellOf 7 5 ∷ cellOf 8 5 ∷ []) (AtX 5)
     -- G11
-    ∷ leaf (cell 0 0 ∷ cell 0 1 ∷ cell 0 2 ∷ cell 1 0 ∷ cell 1 1 ∷ cell 1 2 ∷ cell 2 0 ∷ cell 2 1 ∷ cell 2 2 ∷ []) (AtX 2)
+    ∷ leaf (cellOf 0 0 ∷ cellOf 0 1 ∷ cellOf 0 2 ∷ cellOf 1 0 ∷ cellOf 1 1 ∷ cellOf 1 2 ∷ cellOf 2 0 ∷ cellOf 2 1 ∷ cellOf 2 2 ∷ []) (AtX 2)
     -- G12
     ∷ query none none 0
     ∷ []

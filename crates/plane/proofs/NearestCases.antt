@@ -6,7 +6,7 @@ use mathlib.Core.Option.{none, some}
 use Rattle.polygons.specs.Lists.{least}
 use Rattle.geometry.specs.declared.rect.Cell.{Cell}
 use Rattle.geometry.specs.declared.rect.Rect.{Rect}
-use Rattle.area.proofs.Cases.{cell, rect}
+use Rattle.geometry.specs.Cells.{cellOf, rectOf}
 use Rattle.distance.specs.Distance.{gap, squared, clamped, rectDistance}
 use Rattle.tree.specs.Space.{Branch}
 use Rattle.tree.specs.Nodes.{held}
@@ -19,7 +19,7 @@ use Rattle.plane.specs.Plane.{planeSpace}
 
 -- an entry whose tag is 10 + x, as in the tables of the requests
 abbrev entry : ℕ → ℕ → CellEntry
-entry x y = record { cell = cell x y; tag = 10 + x }
+entry x y = record { cell = cellOf x y; tag = 10 + x }
 
 -- a tree of one leaf, and one of a root with two leaves
 abbrev oneLeaf : Rect → List CellEntry → Tree (planeSpace 8)
@@ -47,14 +47,14 @@ AllHold (r ∷ l) = Holds r × AllHold l
 
 -- the leaf (0,5)-(5,6) of G10 with some of its entries, and the leaf (5,5)-(9,6)
 abbrev leftLeaf : List CellEntry → Branch (planeSpace 8 .Poly) CellEntry
-leftLeaf es = record { poly = rect 0 5 5 6 ∷ []; child = es }
+leftLeaf es = record { poly = rectOf 0 5 5 6 ∷ []; child = es }
 
 abbrev rightLeaf : Branch (planeSpace 8 .Poly) CellEntry
-rightLeaf = record { poly = rect 5 5 9 6 ∷ []; child = entry 5 5 ∷ entry 6 5 ∷ entry 7 5 ∷ entry 8 5 ∷ [] }
+rightLeaf = record { poly = rectOf 5 5 9 6 ∷ []; child = entry 5 5 ∷ entry 6 5 ∷ entry 7 5 ∷ entry 8 5 ∷ [] }
 
 -- G10's tree, with these entries in the left leaf: a removal leaves the polygons
 abbrev g10With : List CellEntry → Tree (planeSpace 8)
-g10With es = twoLeaves (rect 0 5 9 6) (leftLeaf es) rightLeaf
+g10With es = twoLeaves (rectOf 0 5 9 6) (leftLeaf es) rightLeaf
 
 abbrev g10 : Tree (planeSpace 8)
 g10 = g10With (entry 0 5 ∷ entry 1 5 ∷ entry 2 5 ∷ entry 3 5 ∷ entry 4 5 ∷ [])
@@ -65,20 +65,20 @@ row t c e d v = record { index = some t; asks = c; answers = nearestAnswer e d v
 
 abbrev pub table : List Row
 table =
-    record { index = none; asks = cell 5 5; answers = refusal 10 }
-    ∷ row (oneLeaf (rect 0 0 1 1) (entry 0 0 ∷ [])) (cell 65535 65535) (entry 0 0) 8589672450 1
-    ∷ row (oneLeaf (rect 0 0 11 11) (entry 5 10 ∷ entry 10 5 ∷ entry 5 0 ∷ entry 0 5 ∷ [])) (cell 5 5) (entry 0 5) 25 1
-    ∷ row (oneLeaf (rect 0 0 11 11) (entry 5 10 ∷ entry 10 5 ∷ entry 5 0 ∷ [])) (cell 5 5) (entry 5 0) 25 1
-    ∷ row g10 (cell 0 5) (entry 0 5) 0 2
-    ∷ row g10 (cell 4 9) (entry 4 5) 16 2
-    ∷ row g10 (cell 5 5) (entry 5 5) 0 3
-    ∷ row g10 (cell 100 5) (entry 8 5) 8464 3
-    ∷ row (g10With (entry 0 5 ∷ entry 1 5 ∷ entry 2 5 ∷ entry 3 5 ∷ [])) (cell 4 5) (entry 3 5) 1 3
-    ∷ row (g10With (entry 0 5 ∷ entry 1 5 ∷ entry 2 5 ∷ [])) (cell 4 5) (entry 5 5) 1 3
-    ∷ row (g10With (entry 0 5 ∷ entry 1 5 ∷ entry 2 5 ∷ [])) (cell 3 5) (entry 2 5) 1 2
+    record { index = none; asks = cellOf 5 5; answers = refusal 10 }
+    ∷ row (oneLeaf (rectOf 0 0 1 1) (entry 0 0 ∷ [])) (cellOf 65535 65535) (entry 0 0) 8589672450 1
+    ∷ row (oneLeaf (rectOf 0 0 11 11) (entry 5 10 ∷ entry 10 5 ∷ entry 5 0 ∷ entry 0 5 ∷ [])) (cellOf 5 5) (entry 0 5) 25 1
+    ∷ row (oneLeaf (rectOf 0 0 11 11) (entry 5 10 ∷ entry 10 5 ∷ entry 5 0 ∷ [])) (cellOf 5 5) (entry 5 0) 25 1
+    ∷ row g10 (cellOf 0 5) (entry 0 5) 0 2
+    ∷ row g10 (cellOf 4 9) (entry 4 5) 16 2
+    ∷ row g10 (cellOf 5 5) (entry 5 5) 0 3
+    ∷ row g10 (cellOf 100 5) (entry 8 5) 8464 3
+    ∷ row (g10With (entry 0 5 ∷ entry 1 5 ∷ entry 2 5 ∷ entry 3 5 ∷ [])) (cellOf 4 5) (entry 3 5) 1 3
+    ∷ row (g10With (entry 0 5 ∷ entry 1 5 ∷ entry 2 5 ∷ [])) (cellOf 4 5) (entry 5 5) 1 3
+    ∷ row (g10With (entry 0 5 ∷ entry 1 5 ∷ entry 2 5 ∷ [])) (cellOf 3 5) (entry 2 5) 1 2
     ∷ row
-    (twoLeaves (rect 4 0 6 6) (record { poly = rect 5 0 6 1 ∷ []; child = entry 5 0 ∷ [] }) (record { poly = rect 4 3 5 6 ∷ []; child = entry 4 5 ∷ entry 4 3 ∷ [] }))
-    (cell 0 0)
+    (twoLeaves (rectOf 4 0 6 6) (record { poly = rectOf 5 0 6 1 ∷ []; child = entry 5 0 ∷ [] }) (record { poly = rectOf 4 3 5 6 ∷ []; child = entry 4 5 ∷ entry 4 3 ∷ [] }))
+    (cellOf 0 0)
     (entry 4 3)
     25
     3

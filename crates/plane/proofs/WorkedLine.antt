@@ -4,9 +4,8 @@ use mathlib.Core.Path.{_≡_, refl, sym, _∙_}
 use mathlib.Core.List.{List, [], _∷_, map, flatMap}
 use native.Mathlib.Omega.{arith}
 use Rattle.geometry.specs.declared.rect.Line.the-variants.{AtY}
-use Rattle.geometry.specs.Cells.{onGrid}
+use Rattle.geometry.specs.Cells.{onGrid, cellOf}
 use Rattle.geometry.specs.Clip.{below}
-use Rattle.area.proofs.Cases.{cell}
 use Rattle.tree.specs.Lists.{keep, All}
 use Rattle.polygons.specs.Lists.{least}
 use Rattle.plane.specs.Best.{greatest, scan}
@@ -18,7 +17,7 @@ use Rattle.plane.proofs.Candidates.{candidate-line}
 
 -- nine branches, each with two entries in one row of cells: every line in x has all of them on one side or on both
 abbrev row : ℕ → List CellEntry
-row y = record { cell = cell 3 y; tag = 0 } ∷ record { cell = cell 20 y; tag = 1 } ∷ []
+row y = record { cell = cellOf 3 y; tag = 0 } ∷ record { cell = cellOf 20 y; tag = 1 } ∷ []
 
 abbrev rows : List (List CellEntry)
 rows = map row (0 ∷ 1 ∷ 2 ∷ 3 ∷ 4 ∷ 5 ∷ 6 ∷ 7 ∷ 8 ∷ [])

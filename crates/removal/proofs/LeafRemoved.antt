@@ -10,6 +10,7 @@ use Rattle.tree.specs.Lists.{total}
 use Rattle.tree.specs.Nodes.{Item, held, itemHas, nodes}
 use Rattle.tree.specs.Sound.{SoundItem}
 use Rattle.tree.specs.Remove.{prune, without}
+use Rattle.tree.proofs.Lists.{all-at}
 use Rattle.plane.specs.Lines.{CellEntry}
 use Rattle.plane.specs.Plane.{planeSpace}
 use Rattle.plane.proofs.Rects.{plane-space-laws}
@@ -26,7 +27,7 @@ use Rattle.layout.proofs.BesideLaws.{beside-wider, set-beside, set-unused, free
 use Rattle.index.specs.Walks.{cellTest}
 use Rattle.removal.specs.Place.{EntryPlace, HoldsCell}
 use Rattle.removal.specs.Below.{TakesItem, LeafShorter, NodeFreed, EntryTaken, Removable, RemovedBelow}
-use Rattle.removal.proofs.TreeLaws.{no-items, without-at, holder, holder-has, all-at}
+use Rattle.removal.proofs.TreeLaws.{no-items, without-at, holder, holder-has}
 use Rattle.removal.proofs.BelowLaws.{removed-left, removed-gone, fits-dropped}
 
 -- entries are no nodes
@@ -36,23 +37,23 @@ entries-nodes [] = refl
 entries-nodes (e ∷ l) = let ih = entries-nodes l in omega arith
 
 module _ (m : List ℕ) (lo k : ℕ) (c : Cell) (v : Removable 0 m lo k c) where
-  parts : LeafParts fanout m lo k (v .walk .node)
-  parts = leaf-parts fanout m lo k (v .walk .node) (v .walk .reads)
+  parts : LeafParts fanout m lo k (v .path .walk .node)
+  parts = leaf-parts fanout m lo k (v .path .walk .node) (v .path .walk .reads)
 
   fits : FitsAs fanout 3 m k
   fits = fits-as fanout 3 m k (parts .fits)
 
   used : UsedPart m k
-  used = record { below = v .walk .below; ends = v .walk .ends; used = fits .used }
+  used = record { below = v .path .walk .below; ends = v .path .walk .ends; used = fits .used }
 
   few-parts : partsOf m ≤ 256
-  few-parts = length-right m (v .walk .right) .few-parts
+  few-parts = length-right m (v .path .walk .right) .few-parts
 
-  count-is : length (v .walk .node .child) ≡ itemCount (part m k)
+  count-is : length (v .path .walk .node .child) ≡ itemCount (part m k)
   count-is = ap length (parts .entries) ∙ entries-length (part m k) (itemCount (part m k))
 
   -- the i-th entry of the leaf
-  entry-is : (i : ℕ) (d : CellEntry) → i < itemCount (part m k) → getD (v .walk .node .child) i d ≡ entryIn (part m k) i
+  entry-is : (i : ℕ) (d : CellEntry) → i < itemCount (part m k) → getD (v .path .walk .node .child) i d ≡ entryIn (part m k) i
   entry-is i d h = ap (λ (l : List CellEntry). getD l i d) (parts .entries) ∙ entry-at (part m k) (itemCount (part m k)) i d h
 
   node-part : NodePart (part m k)
@@ -63,11 +64,11 @@ module _ (m : List ℕ) (lo k : ℕ) (c : Cell) (v : Removable 0 m lo k c) where
   unfolding held SoundItem itemHas cellTest
   leaf-holds =
       let d = entryIn (part m k) 0 in
-      let s = v .sound in
+      let s = v .path .sound in
       let n = count-is in
-      let h = holder (planeSpace fanout) (plane-space-laws fanout) 0 c (v .walk .node .child) d (v .holds) in
+      let h = holder (planeSpace fanout) (plane-space-laws fanout) 0 c (v .path .walk .node .child) d (v .holds) in
       let i = h .inside in
-      let e = holder-has (planeSpace fanout) (plane-space-laws fanout) 0 c (v .walk .node .poly) _ (all-at (SoundItem (planeSpace fanout) 0 (v .walk .node .poly)) (v .walk .node .child) (h .at) d i (s .each)) (h .holds) in
+      let e = holder-has (planeSpace fanout) (plane-space-laws fanout) 0 c (v .path .walk .node .poly) _ (all-at (SoundItem (planeSpace fanout) 0 (v .path .walk .node .poly)) (v .path .walk .node .child) (h .at) d i (s .each)) (h .holds) in
       record {
         leaf = node-part;
         at = h .at;
@@ -79,23 +80,23 @@ module _ (m : List ℕ) (lo k : ℕ) (c : Cell) (v : Removable 0 m lo k c) where
     leaf-takes = record { used = used; item = record { node = node-part; inside = place .inside } }
 
     -- what is left of the entries
-    leaf-without : without (planeSpace fanout) 0 c (v .walk .node .child) ≡ withoutAt i (v .walk .node .child)
+    leaf-without : without (planeSpace fanout) 0 c (v .path .walk .node .child) ≡ withoutAt i (v .path .walk .node .child)
     unfolding SoundItem itemHas cellTest prune
     leaf-without =
         let d = entryIn (part m k) 0 in
-        let s = v .sound in
+        let s = v .path .sound in
         let n = count-is in
         let i-in = place .inside in
         let e = entry-is i d (place .inside) in
-        let t : itemHas (planeSpace fanout) 0 (getD (v .walk .node .child) i d) c ≡ true = rw e (place .is) in
-        without-at (planeSpace fanout) (plane-space-laws fanout) 0 c (v .walk .node .poly) (v .walk .node .child) i d (s .each) (s .apart) (omega arith) t
+        let t : itemHas (planeSpace fanout) 0 (getD (v .path .walk .node .child) i d) c ≡ true = rw e (place .is) in
+        without-at (planeSpace fanout) (plane-space-laws fanout) 0 c (v .path .walk .node .poly) (v .path .walk .node .child) i d (s .each) (s .apart) (omega arith) t
         ∙ rw t
 
-    left-length : length (withoutAt i (v .walk .node .child)) ≡ itemCount (part m k) - 1
+    left-length : length (withoutAt i (v .path .walk .node .child)) ≡ itemCount (part m k) - 1
     left-length =
         let n = count-is in
         let h = place .inside in
-        length-without i (v .walk .node .child) (omega arith) ∙ ap (λ (x : ℕ). x - 1) n
+        length-without i (v .path .walk .node .child) (omega arith) ∙ ap (λ (x : ℕ). x - 1) n
 
     -- the leaf lost one of several entries
     leaf-left : (m′ : List ℕ) → LeafShorter m k i m′ → RemovedBelow 0 m lo k c m′ true
@@ -103,20 +104,20 @@ module _ (m : List ℕ) (lo k : ℕ) (c : Cell) (v : Removable 0 m lo k c) where
         let p = z .dropped .new in
         let d = z .dropped .entry .item in
         let size : length p ≡ 128 = d .same-length ∙ node-part .length-is in
-        let e = v .walk .ends in
+        let e = v .path .walk .ends in
         let same = set-part m k p e size in
         let f = z .several in
         let n = left-length in
         let g = d .count in
-        let a = entries-nodes (v .walk .node .child) in
-        let b = entries-nodes (withoutAt i (v .walk .node .child)) in
+        let a = entries-nodes (v .path .walk .node .child) in
+        let b = entries-nodes (withoutAt i (v .path .walk .node .child)) in
         let o = set-bits m k p e size in
         rw (z .dropped .memory)
-        (removed-left 0 m lo k c (setPart m k p) (v .walk .node) (v .walk .reads) (set-unused m k used few-parts (v .unused) p size)
-        (beside-wider m lo k k k _ (v .walk .from) (omega arith) (set-beside m k used few-parts (v .unused) p size))
-        (withoutAt i (v .walk .node .child)) leaf-without (omega arith)
+        (removed-left 0 m lo k c (setPart m k p) (v .path .walk .node) (v .path .walk .reads) (set-unused m k used few-parts (v .unused) p size)
+        (beside-wider m lo k k k _ (v .path .walk .from) (omega arith) (set-beside m k used few-parts (v .unused) p size))
+        (withoutAt i (v .path .walk .node .child)) leaf-without (omega arith)
         (make-leaf fanout (setPart m k p) lo k _ (record {
-          fits = fits-dropped 3 m k m (setPart m k p) p (parts .fits) (set-length m k p e size) refl (set-in-use m k p e size k (v .walk .below) ∙ fits .used) same d f;
+          fits = fits-dropped 3 m k m (setPart m k p) p (parts .fits) (set-length m k p e size) refl (set-in-use m k p e size k (v .path .walk .below) ∙ fits .used) same d f;
           polygon = parts .polygon ∙ sym (d .polygon) ∙ ap polygonIn (sym same);
           entries = rw (same, parts .entries) (sym (z .dropped .entry .entries));
         }))
@@ -127,12 +128,12 @@ module _ (m : List ℕ) (lo k : ℕ) (c : Cell) (v : Removable 0 m lo k c) where
     leaf-gone m′ z =
         let f = z .last in
         let n = left-length in
-        let a = entries-nodes (v .walk .node .child) in
+        let a = entries-nodes (v .path .walk .node .child) in
         let o = freed-bits m k used few-parts (v .unused) in
         rw (z .memory)
-        (removed-gone 0 m lo k c (freed m k) (v .walk .node) (v .walk .reads) (freed-unused m k used few-parts (v .unused))
-        (beside-wider m lo k k k _ (v .walk .from) (omega arith) (freed-beside m k used few-parts (v .unused)))
-        (leaf-without ∙ no-items (withoutAt i (v .walk .node .child)) (omega arith)) (omega arith))
+        (removed-gone 0 m lo k c (freed m k) (v .path .walk .node) (v .path .walk .reads) (freed-unused m k used few-parts (v .unused))
+        (beside-wider m lo k k k _ (v .path .walk .from) (omega arith) (freed-beside m k used few-parts (v .unused)))
+        (leaf-without ∙ no-items (withoutAt i (v .path .walk .node .child)) (omega arith)) (omega arith))
 
     pub leaf-removed : (m′ : List ℕ) (r : Bool) → EntryTaken m k i m′ r → RemovedBelow 0 m lo k c m′ r
     leaf-removed m′ true z = leaf-left m′ z

@@ -14,6 +14,7 @@ use Rattle.tree.specs.Lists.{total, notEmpty}
 use Rattle.tree.specs.Nodes.{Item, held, itemHas, nodes}
 use Rattle.tree.specs.Sound.{SoundItem}
 use Rattle.tree.specs.Remove.{other, without}
+use Rattle.tree.proofs.Booleans.{contrary}
 use Rattle.tree.proofs.Counts.{total-append}
 use Rattle.tree.proofs.Prune.{prune-one}
 use Rattle.plane.specs.Plane.{planeSpace}
@@ -29,13 +30,11 @@ use Rattle.layout.specs.PartSet.{setPart, freed, UsedPart}
 use Rattle.layout.proofs.GapLists.{length-without}
 use Rattle.layout.proofs.PartSetLaws.{set-part, set-in-use, set-bits}
 use Rattle.layout.proofs.BesideLaws.{beside-wider, beside-then, set-beside, set-unused, freed-beside, freed-unused, freed-bits}
-use Rattle.index.specs.Walks.{hasTest, Walkable}
-use Rattle.index.proofs.CheckLaws.{node-polygon}
-use Rattle.index.proofs.WalkRows.{walkable, walk-polygon}
-use Rattle.removal.specs.Place.{ChildHas, ChildrenHave}
+use Rattle.index.specs.Walks.{hasTest}
+use Rattle.index.specs.Children.{NoneBefore, ChildHas}
+use Rattle.index.proofs.ChildLaws.{blank, branch-count, in-row, in-branches, child-reads, child-from, child-below, child-polygon, child-sound, child-sound-walk, child-node}
 use Rattle.removal.specs.Below.{nodeLeft, TakesItem, NodeShorter, NodeFreed, BranchTaken, Removable, RemovedBelow}
-use Rattle.removal.proofs.PlaceLoops.{ChildNumbers, child-numbers}
-use Rattle.removal.proofs.TreeLaws.{no-items, all-at, total-at, without-at, holder, holder-has, has-holds}
+use Rattle.removal.proofs.TreeLaws.{no-items, total-at, without-at, holder, holder-has, has-holds}
 use Rattle.removal.proofs.BelowLaws.{removed-left, removed-gone, fits-dropped, fits-kept}
 
 -- the one element of a list
@@ -53,164 +52,109 @@ not-left [] e = refl
 not-left (a ∷ l) e = let z : _≡_ {A = ℕ} 0 1 = cc in absurd (omega arith)
 
 module _ (n : ℕ) (m : List ℕ) (lo k : ℕ) (c : Cell) (v : Removable (suc n) m lo k c) where
-  parts : NodeParts fanout n m lo k (v .walk .node)
-  parts = node-parts fanout n m lo k (v .walk .node) (v .walk .reads)
+  parts : NodeParts fanout n m lo k (v .path .walk .node)
+  parts = node-parts fanout n m lo k (v .path .walk .node) (v .path .walk .reads)
 
   fits : FitsAs fanout 1 m k
   fits = fits-as fanout 1 m k (parts .fits)
 
   few-parts : partsOf m ≤ 256
-  few-parts = length-right m (v .walk .right) .few-parts
-
-  numbers : ChildNumbers m k
-  numbers = child-numbers m k (v .walk .ends) (v .walk .few)
-
-  branch-count : length (v .walk .node .child) ≡ countAt m k
-  branch-count = row-length (readNode fanout n m) lo k (childrenIn (part m k)) (v .walk .node .child) (parts .row) ∙ numbers .count
-
-  -- stands for a child where there is none
-  blank : Item (planeSpace fanout) (suc n)
-  blank = record { poly = []; child = [] }
-
-  -- the i-th child
-  module _ (i : ℕ) (h : i < countAt m k) where
-    in-row : i < length (childrenIn (part m k))
-    in-row = let e = numbers .count in omega arith
-
-    pub child-is : getD (childrenIn (part m k)) i 0 ≡ childAt m k i
-    child-is = numbers .at i h
-
-    child-reads : readNode fanout n m (lowAt lo (childrenIn (part m k)) i) (getD (childrenIn (part m k)) i 0) ≡ some (getD (v .walk .node .child) i blank)
-    child-reads = row-at (readNode fanout n m) lo k (childrenIn (part m k)) i (v .walk .node .child) blank (parts .row) in-row
-
-    child-low : lowAt lo (childrenIn (part m k)) i ≤ getD (childrenIn (part m k)) i 0
-    child-low = low-to (readNode fanout n m) lo k (childrenIn (part m k)) i (v .walk .node .child) (parts .row) in-row
-
-    child-from : lo ≤ lowAt lo (childrenIn (part m k)) i
-    child-from = low-from (readNode fanout n m) lo k (childrenIn (part m k)) i (v .walk .node .child) (parts .row)
-
-    child-below : getD (childrenIn (part m k)) i 0 < k
-    child-below = part-below (readNode fanout n m) lo k (childrenIn (part m k)) i (v .walk .node .child) (parts .row) in-row
-
-    child-walk : Walkable n m (lowAt lo (childrenIn (part m k)) i) (getD (childrenIn (part m k)) i 0)
-    child-walk = walkable n m _ _ (getD (v .walk .node .child) i blank) (v .walk .right) child-low child-reads
-
-    child-node : child-walk .node ≡ getD (v .walk .node .child) i blank
-    child-node = Option·some-injective _ _ (sym (child-walk .reads) ∙ child-reads)
-
-    child-polygon : getD (v .walk .node .child) i blank .poly ≡ polygonIn (part m (childAt m k i))
-    child-polygon = rw (← child-is) (node-polygon n m _ _ (getD (v .walk .node .child) i blank) child-reads)
-
-    child-sound : SoundItem (planeSpace fanout) (suc n) (v .walk .node .poly) (getD (v .walk .node .child) i blank)
-    unfolding SoundItem
-    child-sound =
-        let e = branch-count in
-        all-at (SoundItem (planeSpace fanout) (suc n) (v .walk .node .poly)) (v .walk .node .child) i blank (omega arith) (v .sound .each)
+  few-parts = length-right m (v .path .walk .right) .few-parts
 
   -- a child has the cell
-  pub children-have : ChildrenHave m k c
+  pub some-has : NoneBefore m k c (countAt m k) → ⊥
   unfolding held itemHas hasTest
-  children-have =
-      let r = holder (planeSpace fanout) (plane-space-laws fanout) (suc n) c (v .walk .node .child) blank (v .holds) in
-      let s : r .at < countAt m k = (let e = branch-count in let f = r .inside in omega arith) in
-      let t = holder-has (planeSpace fanout) (plane-space-laws fanout) (suc n) c (v .walk .node .poly) _ (child-sound (r .at) s) (r .holds) in
-      record {
-        below = v .walk .below;
-        ends = v .walk .ends;
-        few = v .walk .few;
-        lower = λ i h. rw (← (child-is i h)) (child-below i h);
-        each = λ i h. rw (← (child-is i h)) (walk-polygon n m _ _ (child-walk i h));
-        at = r .at;
-        place = record { inside = s; has = rw (← (child-polygon (r .at) s)) t };
-      }
+  some-has q =
+      let r = holder (planeSpace fanout) (plane-space-laws fanout) (suc n) c (v .path .walk .node .child) (blank n m lo k (v .path)) (v .holds) in
+      let s : r .at < countAt m k = (let e = branch-count n m lo k (v .path) in let f = r .inside in omega arith) in
+      let t = holder-has (planeSpace fanout) (plane-space-laws fanout) (suc n) c (v .path .walk .node .poly) _ (child-sound n m lo k (v .path) (r .at) s) (r .holds) in
+      contrary _ t (rw (child-polygon n m lo k (v .path) (r .at) s) (q (r .at) s))
 
   module _ (i : ℕ) (q : ChildHas m k c i) where
-    in-branches : i < length (v .walk .node .child)
-    in-branches = let e = branch-count in let f = q .inside in omega arith
+    here : i < length (v .path .walk .node .child)
+    here = in-branches n m lo k (v .path) i (q .inside)
 
-    child-has : itemHas (planeSpace fanout) (suc n) (getD (v .walk .node .child) i blank) c ≡ true
+    child-has : itemHas (planeSpace fanout) (suc n) (getD (v .path .walk .node .child) i (blank n m lo k (v .path))) c ≡ true
     unfolding itemHas hasTest
-    child-has = rw (child-polygon i (q .inside)) (q .has)
+    child-has = rw (child-polygon n m lo k (v .path) i (q .inside)) (q .has)
 
     -- the cell can be removed below the child
     pub child-removable : Removable n m (lowAt lo (childrenIn (part m k)) i) (getD (childrenIn (part m k)) i 0) c
     unfolding SoundItem held
     child-removable = record {
-      walk = child-walk i (q .inside);
+      path = child-sound-walk n m lo k (v .path) i (q .inside);
       unused = v .unused;
-      around = v .walk .node .poly;
-      sound = rw (child-node i (q .inside)) (child-sound i (q .inside));
-      holds = rw (child-node i (q .inside))
-          (has-holds (planeSpace fanout) (plane-space-laws fanout) (suc n) c (v .walk .node .poly) (v .walk .node .child) i blank (v .sound .each) (v .sound .apart) in-branches child-has (v .holds));
+      holds = rw (child-node n m lo k (v .path) i (q .inside))
+          (has-holds (planeSpace fanout) (plane-space-laws fanout) (suc n) c (v .path .walk .node .poly) (v .path .walk .node .child) i (blank n m lo k (v .path)) (v .path .sound .each) (v .path .sound .apart) here child-has (v .holds));
     }
 
     -- what is left of the branches
-    branches-left : without (planeSpace fanout) (suc n) c (v .walk .node .child)
-        ≡ take i (v .walk .node .child) ++ (nodeLeft n c (getD (v .walk .node .child) i blank) ++ drop (i + 1) (v .walk .node .child))
+    branches-left : without (planeSpace fanout) (suc n) c (v .path .walk .node .child)
+        ≡ take i (v .path .walk .node .child) ++ (nodeLeft n c (getD (v .path .walk .node .child) i (blank n m lo k (v .path))) ++ drop (i + 1) (v .path .walk .node .child))
     unfolding SoundItem
     branches-left =
-        without-at (planeSpace fanout) (plane-space-laws fanout) (suc n) c (v .walk .node .poly) (v .walk .node .child) i blank (v .sound .each) (v .sound .apart) in-branches child-has
+        without-at (planeSpace fanout) (plane-space-laws fanout) (suc n) c (v .path .walk .node .poly) (v .path .walk .node .child) i (blank n m lo k (v .path)) (v .path .sound .each) (v .path .sound .apart) here child-has
 
     module _ (m₁ : List ℕ) (t : Bool) (r : RemovedBelow n m (lowAt lo (childrenIn (part m k)) i) (getD (childrenIn (part m k)) i 0) c m₁ t) where
-      child-was : r .node ≡ getD (v .walk .node .child) i blank
-      child-was = Option·some-injective _ _ (sym (r .before) ∙ child-reads i (q .inside))
+      child-was : r .node ≡ getD (v .path .walk .node .child) i (blank n m lo k (v .path))
+      child-was = Option·some-injective _ _ (sym (r .before) ∙ child-reads n m lo k (v .path) i (q .inside))
 
       -- the node's own part is as it was
       part-kept : part m₁ k ≡ part m k
-      part-kept = r .beside .parts k (inr (child-below i (q .inside)))
+      part-kept = r .beside .parts k (inr (child-below n m lo k (v .path) i (q .inside)))
 
       use-kept : inUse m₁ k ≡ inUse m k
-      use-kept = r .beside .in-use k (v .walk .below) (inr (child-below i (q .inside)))
+      use-kept = r .beside .in-use k (v .path .walk .below) (inr (child-below n m lo k (v .path) i (q .inside)))
 
       beside₁ : Beside m lo k m₁
       beside₁ =
-          let b = child-below i (q .inside) in
-          beside-wider m lo _ _ k m₁ (child-from i (q .inside)) (omega arith) (r .beside)
+          let b = child-below n m lo k (v .path) i (q .inside) in
+          beside-wider m lo _ _ k m₁ (child-from n m lo k (v .path) i (q .inside)) (omega arith) (r .beside)
 
       -- the bits fall with the nodes
-      bits₁ : bitsSet m₁ + total (nodes (planeSpace fanout) (suc n)) (v .walk .node .child)
-          ≡ bitsSet m + total (nodes (planeSpace fanout) (suc n)) (without (planeSpace fanout) (suc n) c (v .walk .node .child))
+      bits₁ : bitsSet m₁ + total (nodes (planeSpace fanout) (suc n)) (v .path .walk .node .child)
+          ≡ bitsSet m + total (nodes (planeSpace fanout) (suc n)) (without (planeSpace fanout) (suc n) c (v .path .walk .node .child))
       bits₁ =
           let f = nodes (planeSpace fanout) (suc n) in
-          let bs = v .walk .node .child in
-          let l = nodeLeft n c (getD bs i blank) in
-          let a = total-at f bs i blank in-branches in
+          let bs = v .path .walk .node .child in
+          let l = nodeLeft n c (getD bs i (blank n m lo k (v .path))) in
+          let a = total-at f bs i (blank n m lo k (v .path)) here in
           let b : total f (without (planeSpace fanout) (suc n) c bs) ≡ total f (take i bs) + (total f l + total f (drop (i + 1) bs)) =
           ap (total f) branches-left ∙ total-append f (take i bs) (l ++ drop (i + 1) bs) ∙ ap (λ (x : ℕ). total f (take i bs) + x) (total-append f l (drop (i + 1) bs)) in
-          let e : bitsSet m₁ + f (getD bs i blank) ≡ bitsSet m + total f l = rw child-was at (r .bits) in
+          let e : bitsSet m₁ + f (getD bs i (blank n m lo k (v .path))) ≡ bitsSet m + total f l = rw child-was at (r .bits) in
           omega arith
 
       parts₁ : (j : ℕ) → lo ≤ j → j < k → (j < lowAt lo (childrenIn (part m k)) i) ⊎ (getD (childrenIn (part m k)) i 0 < j) → part m₁ j ≡ part m j
       parts₁ j a b o = r .beside .parts j o
 
       uses₁ : (j : ℕ) → lo ≤ j → j < k → (j < lowAt lo (childrenIn (part m k)) i) ⊎ (getD (childrenIn (part m k)) i 0 < j) → inUse m₁ j ≡ inUse m j
-      uses₁ j a b o = r .beside .in-use j (let h = v .walk .below in omega arith) o
+      uses₁ j a b o = r .beside .in-use j (let h = v .path .walk .below in omega arith) o
 
       parts-are : partsOf m₁ ≡ partsOf m
       parts-are = ap (λ (x : ℕ). (x - 64) / 128) (r .beside .same-length)
 
       -- the child is left as y
-      child-left : (y : Item (planeSpace fanout) (suc n)) → nodeLeft n c (getD (v .walk .node .child) i blank) ≡ y ∷ [] → RemovedBelow (suc n) m lo k c m₁ true
+      child-left : (y : Item (planeSpace fanout) (suc n)) → nodeLeft n c (getD (v .path .walk .node .child) i (blank n m lo k (v .path))) ≡ y ∷ [] → RemovedBelow (suc n) m lo k c m₁ true
       child-left y e =
-          let bs = v .walk .node .child in
-          let w : without (planeSpace fanout) (suc n) c bs ≡ set bs i y = branches-left ∙ rw (e, add-one) (sym (set-split bs i y in-branches)) in
+          let bs = v .path .walk .node .child in
+          let w : without (planeSpace fanout) (suc n) c bs ≡ set bs i y = branches-left ∙ rw (e, add-one) (sym (set-split bs i y here)) in
           let s = length-set bs i y in
-          let z = in-branches in
+          let z = here in
           let b = bits₁ in
           let u = ap (total (nodes (planeSpace fanout) (suc n))) w in
-          removed-left (suc n) m lo k c m₁ (v .walk .node) (v .walk .reads) (r .unused) beside₁ (set bs i y) w (omega arith)
-          (change-node fanout m m₁ parts-are n lo k i (v .walk .node) (v .walk .reads) (in-row i (q .inside)) parts₁ uses₁
-          (fits-kept 1 m k m₁ (parts .fits) (r .beside .same-length) part-kept use-kept) (v .walk .node .poly) (parts .polygon ∙ ap polygonIn (sym part-kept)) y (ap childrenIn part-kept) (r .after y (rw child-was e)))
+          removed-left (suc n) m lo k c m₁ (v .path .walk .node) (v .path .walk .reads) (r .unused) beside₁ (set bs i y) w (omega arith)
+          (change-node fanout m m₁ parts-are n lo k i (v .path .walk .node) (v .path .walk .reads) (in-row n m lo k (v .path) i (q .inside)) parts₁ uses₁
+          (fits-kept 1 m k m₁ (parts .fits) (r .beside .same-length) part-kept use-kept) (v .path .walk .node .poly) (parts .polygon ∙ ap polygonIn (sym part-kept)) y (ap childrenIn part-kept) (r .after y (rw child-was e)))
           (omega arith)
 
       pub child-stays : t ≡ true → RemovedBelow (suc n) m lo k c m₁ true
       child-stays e =
-          let bs = v .walk .node .child in
-          let x = only (nodeLeft n c (getD bs i blank)) (rw (e, child-was) at (r .left-is)) (prune-one (planeSpace fanout) (other (planeSpace fanout) c) (λ p. p) (suc n) (getD bs i blank)) in
+          let bs = v .path .walk .node .child in
+          let x = only (nodeLeft n c (getD bs i (blank n m lo k (v .path)))) (rw (e, child-was) at (r .left-is)) (prune-one (planeSpace fanout) (other (planeSpace fanout) c) (λ p. p) (suc n) (getD bs i (blank n m lo k (v .path)))) in
           child-left (x .item) (x .is)
 
       used₁ : UsedPart m₁ k
-      used₁ = record { below = v .walk .below; ends = rw (r .beside .same-length) (v .walk .ends); used = use-kept ∙ fits .used }
+      used₁ = record { below = v .path .walk .below; ends = rw (r .beside .same-length) (v .path .walk .ends); used = use-kept ∙ fits .used }
 
       -- the child's branch can be taken out
       pub branch-takes : TakesItem m₁ k i
@@ -226,11 +170,11 @@ module _ (n : ℕ) (m : List ℕ) (lo k : ℕ) (c : Cell) (v : Removable (suc n)
       few-parts₁ = rw parts-are few-parts
 
       module _ (e : t ≡ false) where
-        branches-without : without (planeSpace fanout) (suc n) c (v .walk .node .child) ≡ withoutAt i (v .walk .node .child)
-        branches-without = branches-left ∙ rw (not-left (nodeLeft n c (getD (v .walk .node .child) i blank)) (rw (e, child-was) at (r .left-is)))
+        branches-without : without (planeSpace fanout) (suc n) c (v .path .walk .node .child) ≡ withoutAt i (v .path .walk .node .child)
+        branches-without = branches-left ∙ rw (not-left (nodeLeft n c (getD (v .path .walk .node .child) i (blank n m lo k (v .path)))) (rw (e, child-was) at (r .left-is)))
 
-        left-length : length (withoutAt i (v .walk .node .child)) ≡ countAt m k - 1
-        left-length = length-without i (v .walk .node .child) in-branches ∙ ap (λ (x : ℕ). x - 1) branch-count
+        left-length : length (withoutAt i (v .path .walk .node .child)) ≡ countAt m k - 1
+        left-length = length-without i (v .path .walk .node .child) here ∙ ap (λ (x : ℕ). x - 1) (branch-count n m lo k (v .path))
 
         count₁ : itemCount (part m₁ k) ≡ countAt m k
         count₁ = ap itemCount part-kept
@@ -253,14 +197,14 @@ module _ (n : ℕ) (m : List ℕ) (lo k : ℕ) (c : Cell) (v : Removable (suc n)
             let u = ap (total (nodes (planeSpace fanout) (suc n))) branches-without in
             let kids : childrenIn (part (setPart m₁ k p) k) ≡ withoutAt i (childrenIn (part m k)) = ap childrenIn same ∙ z .dropped .branch .children ∙ ap (λ (l : List ℕ). withoutAt i (childrenIn l)) part-kept in
             rw (z .dropped .memory)
-            (removed-left (suc n) m lo k c (setPart m₁ k p) (v .walk .node) (v .walk .reads) (set-unused m₁ k used₁ few-parts₁ (r .unused) p size)
-            (beside-then m lo k m₁ _ beside₁ (beside-wider m₁ lo k k k _ (v .walk .from) (omega arith) b₂))
-            (withoutAt i (v .walk .node .child)) branches-without (omega arith)
-            (remove-node fanout m (setPart m₁ k p) (ap (λ (x : ℕ). (x - 64) / 128) long) n lo k i (v .walk .node) (v .walk .reads) (in-row i (q .inside))
+            (removed-left (suc n) m lo k c (setPart m₁ k p) (v .path .walk .node) (v .path .walk .reads) (set-unused m₁ k used₁ few-parts₁ (r .unused) p size)
+            (beside-then m lo k m₁ _ beside₁ (beside-wider m₁ lo k k k _ (v .path .walk .from) (omega arith) b₂))
+            (withoutAt i (v .path .walk .node .child)) branches-without (omega arith)
+            (remove-node fanout m (setPart m₁ k p) (ap (λ (x : ℕ). (x - 64) / 128) long) n lo k i (v .path .walk .node) (v .path .walk .reads) (in-row n m lo k (v .path) i (q .inside))
             (λ j x y w. b₂ .parts j (inl y) ∙ parts₁ j x y w)
-            (λ j x y w. b₂ .in-use j (let l = v .walk .below in omega arith) (inl y) ∙ uses₁ j x y w)
-            (fits-dropped 1 m k m₁ (setPart m₁ k p) p (parts .fits) long part-kept (set-in-use m₁ k p ends size k (v .walk .below) ∙ used₁ .used) same d f)
-            (v .walk .node .poly) (parts .polygon ∙ sym (ap polygonIn same ∙ d .polygon ∙ ap polygonIn part-kept)) kids)
+            (λ j x y w. b₂ .in-use j (let l = v .path .walk .below in omega arith) (inl y) ∙ uses₁ j x y w)
+            (fits-dropped 1 m k m₁ (setPart m₁ k p) p (parts .fits) long part-kept (set-in-use m₁ k p ends size k (v .path .walk .below) ∙ used₁ .used) same d f)
+            (v .path .walk .node .poly) (parts .polygon ∙ sym (ap polygonIn same ∙ d .polygon ∙ ap polygonIn part-kept)) kids)
             (omega arith))
 
         -- the node lost its only branch
@@ -273,11 +217,11 @@ module _ (n : ℕ) (m : List ℕ) (lo k : ℕ) (c : Cell) (v : Removable (suc n)
             let h = count₁ in
             let o = freed-bits m₁ k used₁ few-parts₁ (r .unused) in
             let b = bits₁ in
-            let w : without (planeSpace fanout) (suc n) c (v .walk .node .child) ≡ [] = branches-without ∙ no-items (withoutAt i (v .walk .node .child)) (omega arith) in
-            let u : total (nodes (planeSpace fanout) (suc n)) (without (planeSpace fanout) (suc n) c (v .walk .node .child)) ≡ 0 = ap (total (nodes (planeSpace fanout) (suc n))) w in
+            let w : without (planeSpace fanout) (suc n) c (v .path .walk .node .child) ≡ [] = branches-without ∙ no-items (withoutAt i (v .path .walk .node .child)) (omega arith) in
+            let u : total (nodes (planeSpace fanout) (suc n)) (without (planeSpace fanout) (suc n) c (v .path .walk .node .child)) ≡ 0 = ap (total (nodes (planeSpace fanout) (suc n))) w in
             rw (z .memory)
-            (removed-gone (suc n) m lo k c (freed m₁ k) (v .walk .node) (v .walk .reads) (freed-unused m₁ k used₁ few-parts₁ (r .unused))
-            (beside-then m lo k m₁ _ beside₁ (beside-wider m₁ lo k k k _ (v .walk .from) (omega arith) b₂))
+            (removed-gone (suc n) m lo k c (freed m₁ k) (v .path .walk .node) (v .path .walk .reads) (freed-unused m₁ k used₁ few-parts₁ (r .unused))
+            (beside-then m lo k m₁ _ beside₁ (beside-wider m₁ lo k k k _ (v .path .walk .from) (omega arith) b₂))
             w (omega arith))
 
         pub node-removed : (m₂ : List ℕ) (s : Bool) → BranchTaken m₁ k i m₂ s → RemovedBelow (suc n) m lo k c m₂ s

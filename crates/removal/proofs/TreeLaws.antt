@@ -14,7 +14,7 @@ use Rattle.tree.specs.Nodes.{Item, held, itemHas}
 use Rattle.tree.specs.Sound.{SoundItem, Apart}
 use Rattle.tree.specs.Query.{ofCell}
 use Rattle.tree.specs.Remove.{prune, other, without}
-use Rattle.tree.proofs.Lists.{all-map, all-both-map, pairs-map}
+use Rattle.tree.proofs.Lists.{all-map, all-both-map, all-at, pairs-map}
 use Rattle.tree.proofs.Laws.{Laws}
 use Rattle.tree.proofs.Any.{any-append, any-from}
 use Rattle.tree.proofs.Booleans.{not-true, contrary}
@@ -26,13 +26,6 @@ module _ {A : Type 0} where
   pub no-items : (l : List A) → length l ≡ 0 → l ≡ []
   no-items [] h = refl
   no-items (a ∷ l) h = absurd (omega arith)
-
-  -- what holds of all holds of each
-  pub all-at : (P : A → Type 0) (l : List A) (i : ℕ) (d : A) → i < length l → All P l → P (getD l i d)
-  unfolding All
-  all-at P [] i d h k = absurd (omega arith)
-  all-at P (a ∷ l) zero d h k = k .0
-  all-at P (a ∷ l) (suc i) d h k = all-at P l i d (omega arith) (k .1)
 
   all-stay : (f : A → List A) (l : List A) → All (λ a. f a ≡ a ∷ []) l → flatMap f l ≡ l
   unfolding All flatMap

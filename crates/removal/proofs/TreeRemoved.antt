@@ -16,7 +16,6 @@ use Rattle.tree.specs.Query.{ofCell, holds}
 use Rattle.tree.specs.Remove.{prune, without, treeIf, remove}
 use Rattle.tree.proofs.Counts.{countOf-both}
 use Rattle.tree.proofs.Leaves.{cell-once}
-use Rattle.tree.proofs.Depth.{top-sound}
 use Rattle.tree.proofs.RemoveIndex.{remove-entries, remove-sound}
 use Rattle.plane.specs.Plane.{planeSpace, planeRoot}
 use Rattle.plane.proofs.Rects.{plane-space-laws}
@@ -32,7 +31,7 @@ use Rattle.index.specs.Answers.{removeEnd, removeRead}
 use Rattle.index.specs.Changes.{removedIndex}
 use Rattle.index.specs.Count.{entriesAt}
 use Rattle.index.specs.Open.{TreeIn}
-use Rattle.index.proofs.WalkRows.{walkable}
+use Rattle.index.proofs.TreeWalk.{root-sound-walk}
 use Rattle.index.proofs.CountWalk.{tree-held}
 use Rattle.removal.specs.Below.{nodeLeft, Removable, RemovedBelow}
 use Rattle.index.specs.Held.{heldRead}
@@ -78,15 +77,9 @@ module _ (m : List ℕ) (level root : ℕ) (c : Cell) (b : Bool) (v : TreeIn m l
   unfolding held
   root-removable =
       let t = v .tree in
-      let w = walkable (t .level) m 0 (rootIn m) (top (planeSpace fanout) t) (read .right) (omega arith) (read .root-node) in
-      let n : w .node ≡ top (planeSpace fanout) t = Option·some-injective _ _ (sym (w .reads) ∙ read .root-node) in
-      record {
-        walk = w;
-        unused = read .others-zero;
-        around = t .root;
-        sound = rw n (top-sound (planeSpace fanout) (planeRoot fanout) t sound);
-        holds = rw n is-held;
-      }
+      let w = root-sound-walk m level root v in
+      let n : w .walk .node ≡ top (planeSpace fanout) t = Option·some-injective _ _ (sym (w .walk .reads) ∙ read .root-node) in
+      record { path = w; unused = read .others-zero; holds = rw n is-held }
 
   pub tree-removable : Removable level m 0 root c
   tree-removable = rw (← (v .level-is), ← (v .root-is)) root-removable

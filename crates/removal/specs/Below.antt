@@ -6,10 +6,8 @@ use mathlib.Core.Option.{some}
 use mathlib.Core.Path.{_≡_}
 use Rattle.polygons.specs.Lists.{any}
 use Rattle.geometry.specs.declared.rect.Cell.{Cell}
-use Rattle.geometry.specs.declared.rect.Rect.{Rect}
 use Rattle.tree.specs.Lists.{total, notEmpty}
 use Rattle.tree.specs.Nodes.{Item, held, nodes}
-use Rattle.tree.specs.Sound.{SoundItem}
 use Rattle.tree.specs.Query.{ofCell}
 use Rattle.tree.specs.Remove.{prune, other}
 use Rattle.plane.specs.Plane.{planeSpace}
@@ -19,7 +17,7 @@ use Rattle.memory.specs.Fanout.{fanout}
 use Rattle.layout.specs.Beside.{Beside}
 use Rattle.layout.specs.Gap.{ItemIn}
 use Rattle.layout.specs.PartSet.{freed, UsedPart, EntryDroppedAt, BranchDroppedAt}
-use Rattle.index.specs.Walks.{Walkable}
+use Rattle.index.specs.Walks.{SoundWalk}
 
 -- The node at part k has an i-th item.
 pub record TakesItem (m : List ℕ) (k i : ℕ) : Type 0 where
@@ -55,14 +53,11 @@ BranchTaken m k i m′ false = NodeFreed m k m′
 abbrev pub nodeLeft : (n : ℕ) → Cell → Item (planeSpace fanout) (suc n) → List (Item (planeSpace fanout) (suc n))
 nodeLeft n c b = prune (planeSpace fanout) (suc n) (other (planeSpace fanout) c) (λ p. p) b
 
--- The node at part k reads, with its subtree in the parts from lo on; it is sound among the cells of `around`, and it holds the cell.
--- Parts not in use are zero.
+-- The node at part k reads and is sound, with its subtree in the parts from lo on, and it holds the cell. Parts not in use are zero.
 pub record Removable (n : ℕ) (m : List ℕ) (lo k : ℕ) (c : Cell) : Type 0 where
-  pub walk : Walkable n m lo k
+  pub path : SoundWalk n m lo k
   pub unused : othersZero m (partsOf m) ≡ true
-  pub around : List Rect
-  pub sound : SoundItem (planeSpace fanout) (suc n) around (walk .node)
-  pub holds : any (ofCell (planeSpace fanout) c) (held (planeSpace fanout) (suc n) (walk .node)) ≡ true
+  pub holds : any (ofCell (planeSpace fanout) c) (held (planeSpace fanout) (suc n) (path .walk .node)) ≡ true
 
 -- The cell's entry was removed below the node at part k, which gave m′; left says whether the node is left. It reads as what the
 -- definition leaves of it. The bits set fall with the nodes, parts not in use are zero, and all else is as it was.

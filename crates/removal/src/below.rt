@@ -1,8 +1,9 @@
 // Removal below a node: down to the leaf that holds the entry, and back up while nodes are emptied.
 ghost use Rattle.removal.specs.Below.{TakesItem, EntryTaken, BranchTaken, Removable, RemovedBelow};
-use crate::place::child_place;
 use crate::place::entry_place;
 use geometry::Cell;
+use index::ChildFound;
+use index::child_with;
 use layout::Node;
 use layout::node_at;
 use layout::part_at;
@@ -48,9 +49,13 @@ pub fn remove_below(m: &mut [u32], level: u32, lo: u32, k: u32, c: Cell) -> bool
         let i = entry_place(part_at(m, k), c);
         return take_entry(m, k, i);
     }
-    let child = child_place(m, lo, k, c);
-    if remove_below(m, level - 1, child.low, child.part, c) {
+    let child = child_with(m, lo, k, c);
+    let ChildFound::Child { at, low, part } = child else {
+        // not reached: an entry of the cell is held below the node
+        return true;
+    };
+    if remove_below(m, level - 1, low, part, c) {
         return true;
     }
-    take_branch(m, k, child.at)
+    take_branch(m, k, at)
 }

@@ -5,6 +5,7 @@ use mathlib.Core.Path.{_≡_, refl, sym, ap, _∙_, subst}
 use borrow.Author.Tests.{eq-eqb, ne-eqb}
 use borrow.Rule.Slice.PartMut.{same-len-mid}
 use lib.ListN.{length}
+use Rattle.geometry.specs.Cells.{cellOf, rectOf}
 use Rattle.tree.specs.Calls.{insertCall, removeCall, clearCall, pointCall, windowCall, nearestCall}
 use Rattle.index.specs.Answers.{clearAnswer, cleared, pointAnswer, nearestAnswer}
 use Rattle.index.specs.Changes.{entryOf, InsertCall, RemoveCall}
@@ -18,7 +19,7 @@ use Rattle.index.specs.declared.answer.WindowFound.{WindowFound}
 use Rattle.index.specs.declared.answer.NearestFound.{NearestFound}
 use Rattle.replay.specs.declared.coded.CodedCall.{CodedCall}
 use Rattle.replay.specs.declared.replies.Reply.{Reply}
-use Rattle.history.specs.Calls.{IndexCall, cellOf, rectOf}
+use Rattle.history.specs.Calls.{IndexCall}
 use Rattle.replay.specs.Coded.{codedAt, fromAt, toAt, callOf, partFor, partBack}
 use Rattle.replay.specs.Replies.{replyOf, putReply, Replied}
 use Rattle.replay.specs.Replay.{MadeOne}

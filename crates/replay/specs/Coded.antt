@@ -4,10 +4,11 @@ use mathlib.Core.Bool.{Bool, _&&_, cond}
 use mathlib.Core.List.{List, [], _∷_, _++_}
 use lib.Dec.{leb, ltb, eqb}
 use lib.ListN.{getD, take, drop, length}
+use Rattle.geometry.specs.Cells.{cellOf, rectOf}
 use Rattle.tree.specs.Calls.{insertCall, removeCall, clearCall, pointCall, windowCall, nearestCall}
 use Rattle.index.specs.Changes.{entryOf}
 use Rattle.replay.specs.declared.coded.CodedCall.{CodedCall}
-use Rattle.history.specs.Calls.{IndexCall, cellOf, rectOf}
+use Rattle.history.specs.Calls.{IndexCall}
 
 -- the kind and the arguments of the i-th call
 unfoldable pub codedAt : List ℕ → ℕ → CodedCall

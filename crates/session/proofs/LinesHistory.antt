@@ -2,6 +2,7 @@
 use Prim.Native.Nat.{ℕ, _≤_}
 use mathlib.Core.Path.{_≡_, refl, ap, subst}
 use mathlib.Core.List.{List, [], _∷_, _++_}
+use Rattle.geometry.specs.Cells.{cellOf, rectOf}
 use Rattle.tree.specs.Lists.{All}
 use Rattle.tree.specs.Calls.{insertCall, removeCall, clearCall, pointCall, windowCall}
 use Rattle.index.specs.declared.answer.WindowFound.{WindowFound}
@@ -9,7 +10,7 @@ use Rattle.index.specs.declared.answer.WindowFound.the-variants as W
 use Rattle.index.specs.Answers.{clearAnswer, pointAnswer}
 use Rattle.index.specs.Changes.{entryOf}
 use Rattle.index.specs.Numbers.{insertTold, removeTold, clearTold, pointTold, windowTold}
-use Rattle.history.specs.Calls.{Made, Linked, freshMemory, cellOf, rectOf}
+use Rattle.history.specs.Calls.{Made, Linked, freshMemory}
 use Rattle.history.specs.Contract.{Kept}
 use Rattle.history.proofs.History.{kept-history}
 use Rattle.commands.specs.declared.parsing.Command.{Command}

@@ -9,7 +9,7 @@ use borrow.Author.Tests.{leb-true}
 use lib.Dec.{leb}
 use lib.ListN.{length}
 use Rattle.geometry.specs.declared.rect.Rect.{Rect}
-use Rattle.geometry.specs.Cells.{valid}
+use Rattle.geometry.specs.Cells.{valid, cellOf, rectOf}
 use Rattle.memory.specs.Layout.{rightLength}
 use Rattle.memory.specs.Reading.{reading}
 use Rattle.memory.specs.Fanout.{fanout}
@@ -28,7 +28,6 @@ use Rattle.commands.specs.Commands.{commandOf}
 use Rattle.commands.specs.Text.{Appended}
 use Rattle.commands.specs.AnswerText.{insertText, removeText, clearText, pointText, windowText, otherText, listed}
 use Rattle.commands.proofs.TextLaws.{append-wider}
-use Rattle.history.specs.Calls.{cellOf, rectOf}
 use Rattle.session.specs.Response.{lent, CarriedOut, longest, Responded}
 
 -- a window query lists no more entries than its list has places for

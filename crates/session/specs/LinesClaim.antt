@@ -7,10 +7,11 @@ use mathlib.Core.List.{List, [], _∷_, _++_}
 use mathlib.Core.Path.{_≡_}
 use lib.Dec.{eqb}
 use lib.ListN.{getD}
+use Rattle.geometry.specs.Cells.{cellOf, rectOf}
 use Rattle.tree.specs.Calls.{insertCall, removeCall, clearCall, pointCall, windowCall, nearestCall}
 use Rattle.index.specs.Changes.{entryOf}
 use Rattle.index.specs.Numbers.{Told}
-use Rattle.history.specs.Calls.{IndexCall, Made, cellOf, rectOf}
+use Rattle.history.specs.Calls.{IndexCall, Made}
 use Rattle.history.specs.Claim.{HistoryClaim}
 use Rattle.commands.specs.declared.parsing.Command.{Command}
 use Rattle.commands.specs.declared.parsing.Command.the-variants.{Insert, Remove, Point, Window, Clear, Other}

@@ -6,13 +6,13 @@ use mathlib.Core.Path.{_≡_}
 use lib.ListN.{length}
 use Rattle.geometry.specs.declared.rect.Cell.{Cell}
 use Rattle.geometry.specs.declared.rect.Rect.{Rect}
+use Rattle.geometry.specs.Cells.{cellOf, rectOf}
 use Rattle.index.specs.declared.answer.Inserted.{Inserted}
 use Rattle.index.specs.declared.answer.Removed.{Removed}
 use Rattle.index.specs.declared.answer.WindowFound.{WindowFound}
 use Rattle.index.specs.Answers.{pointAnswer, clearAnswer, cleared}
 use Rattle.index.specs.Changes.{entryOf, InsertCall, RemoveCall}
 use Rattle.index.specs.Walks.{WindowCall}
-use Rattle.history.specs.Calls.{cellOf, rectOf}
 use Rattle.commands.specs.declared.parsing.Command.{Command}
 use Rattle.commands.specs.declared.parsing.Command.the-variants.{Insert, Remove, Point, Window, Clear, Other}
 use Rattle.commands.specs.Commands.{commandOf}

@@ -8,6 +8,8 @@ use native.Mathlib.Omega.{arith}
 use native.Mathlib.Numerals.{add-one}
 use lib.ListN.{length, take, drop, getD}
 use lib.Seq.{split-at, length-take-le, take-all}
+use Rattle.polygons.specs.Lists.{firstPlace}
+use Rattle.polygons.proofs.PlaceLaws.{place-passes}
 use Rattle.geometry.specs.declared.rect.Cell.{Cell}
 use Rattle.geometry.specs.declared.rect.Rect.{Rect}
 use Rattle.geometry.specs.declared.polygon.Polygon.{Polygon}
@@ -24,13 +26,13 @@ use Rattle.memory.specs.Fanout.{fanout}
 use Rattle.layout.specs.Nodes.{countAt, childAt, PolygonPart}
 use Rattle.index.specs.Walks.{hasTest}
 use Rattle.step2.specs.declared.least.Least.{Least}
-use Rattle.step2.specs.Branches.{polygonsIn, Branches, firstPlace}
+use Rattle.step2.specs.Branches.{polygonsIn, Branches}
 use Rattle.step2.specs.Choose.{ChosenBranch, ChosenAt, NoneChosen}
 use Rattle.step2.specs.Least.{leastAll}
 use Rattle.step2.specs.Pieces.{grownAt}
 use Rattle.step2.proofs.ChildParts.{next-polygon, child-polygon, polygon-there}
 use Rattle.step2.proofs.ReadBranches.{polygons-read}
-use Rattle.step2.proofs.FirstLoop.{none-before, passes-at}
+use Rattle.step2.proofs.FirstLoop.{none-before}
 use Rattle.step2.proofs.LeastLaws.{FoundLeast, least-first}
 use Rattle.step2.proofs.PieceLaws.{grown-few}
 use Rattle.step2.proofs.ChooseLaws.{BranchAt, branch-at, choose-has, choose-grown, place-below, polygon-at, rect-below}
@@ -64,7 +66,7 @@ module _ (m : List ℕ) (k : ℕ) (p : List Rect) (c : Cell) (v : Branches m k) 
           let at : getD ps place [] ≡ rectsOf q = polygon-there m k v place j (rw y at h) o ∙ sym (w .list) in
           let len : length (take place ps) ≡ place = length-take-le place ps (omega arith) in
           let none-has : All (λ x. hasTest c x ≡ false) (take place ps) = rw e (none-before (hasTest c) ps) in
-          let has : hasTest c (getD ps place []) ≡ true = rw e (passes-at (hasTest c) ps [] (rw (← e) l)) in
+          let has : hasTest c (getD ps place []) ≡ true = rw e (place-passes (hasTest c) ps [] (rw (← e) l)) in
           let s : BranchAt (b .child) place (take place ps) (getD ps place []) (drop (suc place) ps) =
           subst (λ (i : ℕ). BranchAt (b .child) i (take place ps) (getD ps place []) (drop (suc place) ps)) len
           (branch-at (b .child) (take place ps) (getD ps place []) (drop (suc place) ps) (r ∙ split-at ps place [] l)) in

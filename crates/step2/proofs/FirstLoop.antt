@@ -4,13 +4,15 @@ use mathlib.Core.Path.{_≡_, refl}
 use mathlib.Core.Bool.{Bool, true, false, cond}
 use mathlib.Core.List.{List, [], _∷_}
 use native.Mathlib.Omega.{arith}
-use lib.ListN.{length, take, drop, getD}
+use lib.ListN.{take, drop}
+use Rattle.polygons.specs.Lists.{firstPlace}
+use Rattle.polygons.proofs.PlaceLaws.{place-le}
 use Rattle.geometry.specs.declared.rect.Cell.{Cell}
 use Rattle.tree.specs.Lists.{All}
 use Rattle.memory.specs.Layout.{part, polygonIn}
 use Rattle.layout.specs.Nodes.{countAt, childAt, PolygonPart}
 use Rattle.index.specs.Walks.{hasTest}
-use Rattle.step2.specs.Branches.{polygonsIn, Branches, firstPlace}
+use Rattle.step2.specs.Branches.{polygonsIn, Branches}
 use Rattle.step2.proofs.ChildParts.{next-polygon, no-polygon}
 
 -- The first i of the n children do not have the cell.
@@ -52,15 +54,6 @@ module _ (m : List ℕ) (k : ℕ) (c : Cell) (n : ℕ) where
 
 -- What the first place says of a list.
 module _ {A : Type 0} (t : A → Bool) where
-  place-le : (l : List A) → firstPlace t l ≤ length l
-  unfolding firstPlace
-  place-le [] = omega arith
-  place-le (a ∷ l) = go (t a) (place-le l)
-    where
-      go : (b : Bool) → firstPlace t l ≤ length l → cond b zero (suc (firstPlace t l)) ≤ suc (length l)
-      go true h = omega arith
-      go false h = omega arith
-
   -- none before it passes
   pub none-before : (l : List A) → All (λ a. t a ≡ false) (take (firstPlace t l) l)
   unfolding firstPlace All
@@ -70,17 +63,6 @@ module _ {A : Type 0} (t : A → Bool) where
       go : (b : Bool) → t a ≡ b → All (λ x. t x ≡ false) (take (firstPlace t l) l) → All (λ x. t x ≡ false) (take (cond b zero (suc (firstPlace t l))) (a ∷ l))
       go true e h = tt
       go false e h = (e, h)
-
-  -- the one at it passes
-  pub passes-at : (l : List A) (d : A) → firstPlace t l < length l → t (getD l (firstPlace t l) d) ≡ true
-  unfolding firstPlace
-  passes-at [] d h = absurd (omega arith)
-  passes-at (a ∷ l) d h = go (t a) refl (passes-at l d) h
-    where
-      go : (b : Bool) → t a ≡ b → (firstPlace t l < length l → t (getD l (firstPlace t l) d) ≡ true)
-          → cond b zero (suc (firstPlace t l)) < suc (length l) → t (getD (a ∷ l) (cond b zero (suc (firstPlace t l))) d) ≡ true
-      go true e f h = e
-      go false e f h = f (omega arith)
 
 -- none of the n children has the cell
 pub none-first : (m : List ℕ) (k : ℕ) (c : Cell) (n place : ℕ) → Branches m k → n ≡ countAt m k → place ≡ firstPlace (hasTest c) (polygonsIn m k) → n ≤ place

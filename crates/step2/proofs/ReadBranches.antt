@@ -10,6 +10,7 @@ use Rattle.geometry.specs.declared.rect.Rect.{Rect}
 use Rattle.geometry.proofs.NumberLaws.{length-rects}
 use Rattle.tree.specs.Lists.{All}
 use Rattle.tree.specs.Nodes.{Item}
+use Rattle.tree.proofs.Lists.{all-at}
 use Rattle.plane.specs.Plane.{planeSpace}
 use Rattle.memory.specs.Layout.{rightLength, part, rectCount, polygonIn, childrenIn}
 use Rattle.memory.specs.Reading.{readRow, readNode}
@@ -56,12 +57,6 @@ pub polygons-read : (n : ℕ) (m : List ℕ) (lo k : ℕ) (b : Item (planeSpace 
 unfolding polygonsIn
 polygons-read n m lo k b e = row-polygons n m lo k (childrenIn (part m k)) (b .child) (node-parts fanout n m lo k b e .row)
 
-all-at : {A : Type 0} (P : A → Type 0) (l : List A) (i : ℕ) (d : A) → All P l → i < length l → P (getD l i d)
-unfolding All
-all-at P [] i d h g = absurd (omega arith)
-all-at P (a ∷ l) zero d h g = h .0
-all-at P (a ∷ l) (suc i) d h g = all-at P l i d (h .1) (omega arith)
-
 pub branches-of : (m : List ℕ) (k : ℕ) → Routing m k → Branches m k
 unfolding polygonsIn
 branches-of m k v =
@@ -79,5 +74,5 @@ branches-of m k v =
       some = omega arith;
       few = few;
       count = length-map (childrenIn (part m k)) (λ j. polygonIn (part m j)) ∙ c;
-      good = λ i h. rw (child-in (part m k) i h) at (all-at (GoodPart m) (childrenIn (part m k)) i 0 g (omega arith));
+      good = λ i h. rw (child-in (part m k) i h) at (all-at (GoodPart m) (childrenIn (part m k)) i 0 (omega arith) g);
     }

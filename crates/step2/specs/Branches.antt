@@ -1,7 +1,7 @@
 -- What step 2 reads of a routing node's part and of its children's parts.
-use Prim.Native.Nat.{ℕ, zero, suc, _≤_, _<_}
-use mathlib.Core.Bool.{Bool, true, cond}
-use mathlib.Core.List.{List, [], _∷_, map}
+use Prim.Native.Nat.{ℕ, _≤_, _<_}
+use mathlib.Core.Bool.{true}
+use mathlib.Core.List.{List, map}
 use mathlib.Core.Path.{_≡_}
 use lib.ListN.{length}
 use Rattle.geometry.specs.declared.rect.Rect.{Rect}
@@ -26,8 +26,3 @@ pub record Branches (m : List ℕ) (k : ℕ) : Type 0 where
   pub few : countAt m k ≤ 8
   pub count : length (polygonsIn m k) ≡ countAt m k
   pub good : (i : ℕ) → i < countAt m k → GoodPart m (childAt m k i)
-
--- the place of the first element that passes the test; the length where none does
-unfoldable pub firstPlace : {A : Type 0} → (A → Bool) → List A → ℕ
-firstPlace t [] = zero
-firstPlace t (a ∷ l) = let later = firstPlace t l in cond (t a) zero (suc later)

@@ -1,10 +1,11 @@
 // The children of a routing node in memory: the first whose polygon has a cell, and a child's polygon by value.
 ghost use mathlib.Core.Path.{_≡_};
+ghost use Rattle.polygons.specs.Lists.{firstPlace};
 ghost use Rattle.geometry.specs.Numbers.{PolygonOf};
 ghost use Rattle.memory.specs.Layout.{part, polygonIn};
 ghost use Rattle.layout.specs.Nodes.{PolygonPart};
 ghost use Rattle.index.specs.Walks.{hasTest};
-ghost use Rattle.step2.specs.Branches.{polygonsIn, Branches, firstPlace};
+ghost use Rattle.step2.specs.Branches.{polygonsIn, Branches};
 use geometry::Cell;
 use geometry::Polygon;
 use index::polygon_has;

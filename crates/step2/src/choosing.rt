@@ -2,11 +2,12 @@
 ghost use mathlib.Core.Path.{_≡_};
 ghost use mathlib.Core.Bool.{true};
 ghost use Prim.Native.Nat.{_≤_};
+ghost use Rattle.polygons.specs.Lists.{firstPlace};
 ghost use Rattle.geometry.specs.Cells.{onGrid};
 ghost use Rattle.geometry.specs.Numbers.{rectsOf};
 ghost use Rattle.layout.specs.Nodes.{countAt};
 ghost use Rattle.index.specs.Walks.{hasTest};
-ghost use Rattle.step2.specs.Branches.{polygonsIn, Branches, firstPlace};
+ghost use Rattle.step2.specs.Branches.{polygonsIn, Branches};
 ghost use Rattle.step2.specs.Choose.{Routing, ChoiceIs};
 use crate::branch::first_with;
 use crate::branch::polygon_at;

@@ -1,13 +1,14 @@
 -- Lemmas on countOf, total and any: how many elements of a list pass a test.
-use Prim.Native.Nat.{ℕ, suc, _+_, _≤_}
+use Prim.Native.Nat.{ℕ, zero, suc, _+_, _≤_, _<_}
 use mathlib.Core.Bool.{not, Bool, true, false, cond, _&&_, _||_, false≢true}
 use mathlib.Core.Path.{_≡_, refl, ap, _∙_}
-use mathlib.Core.List.{List, [], _∷_, _++_, flatMap}
-use lib.ListN.{length, length-append}
+use mathlib.Core.List.{List, [], _∷_, _++_, append-nil, flatMap}
+use lib.ListN.{length, getD, length-append}
 use native.Mathlib.Omega.{arith}
 use Rattle.polygons.specs.Lists.{any}
 use Rattle.tree.specs.Lists.{keep, total, All, Pairs, countOf}
-use Rattle.tree.proofs.Lists.{keep-append, all-map, all-both-map}
+use Rattle.tree.proofs.Lists.{keep-append, all-map, all-both-map, all-at}
+use Rattle.tree.proofs.Booleans.{not-true, contrary}
 
 pub flatMap-none : {A B : Type 0} (f : A → List B) (l : List A) → All (λ a. f a ≡ []) l → flatMap f l ≡ []
 unfolding flatMap All
@@ -118,3 +119,28 @@ total-exact t (a ∷ l) r = go (t a) refl (total-exact t l (r .1))
     go : (b : Bool) → t a ≡ b → total (λ x. cond (t x) 1 0) l ≡ cond (any t l) 1 0 → cond b 1 0 + total (λ x. cond (t x) 1 0) l ≡ cond (b || any t l) 1 0
     go true e i = let z = total-none (λ x. cond (t x) 1 0) l (all-map (λ x. t a ≡ true → t x ≡ false) (λ x. cond (t x) 1 0 ≡ 0) l (λ x g. rw (g e)) (r .0)) in omega arith
     go false e i = omega arith
+
+-- Of every two elements at most one passes the test, and the i-th passes: only it counts.
+module _ {A : Type 0} (t : A → Bool) where
+  pub total-only : (f : A → ℕ) (l : List A) (i : ℕ) (d : A) → Pairs (λ a b. t a ≡ true → t b ≡ false) l → i < length l → t (getD l i d) ≡ true
+      → total (λ a. cond (t a) (f a) 0) l ≡ f (getD l i d)
+  unfolding Pairs total
+  total-only f [] i d p h e = absurd (omega arith)
+  total-only f (a ∷ l) zero d p h e =
+      let z = total-none (λ b. cond (t b) (f b) 0) l (all-map (λ b. t a ≡ true → t b ≡ false) (λ b. cond (t b) (f b) 0 ≡ 0) l (λ b g. rw (g e)) (p .0)) in
+      rw e (omega arith)
+  total-only f (a ∷ l) (suc i) d p h e =
+      let k : t a ≡ false = not-true (t a) (λ g. contrary (t (getD l i d)) e (all-at (λ b. t a ≡ true → t b ≡ false) l i d (omega arith) (p .0) g)) in
+      let z = total-only f l i d (p .1) (omega arith) e in
+      rw k (omega arith)
+
+  pub flatMap-only : {B : Type 0} (f : A → List B) (l : List A) (i : ℕ) (d : A) → Pairs (λ a b. t a ≡ true → t b ≡ false) l → i < length l
+      → t (getD l i d) ≡ true → flatMap (λ a. cond (t a) (f a) []) l ≡ f (getD l i d)
+  unfolding Pairs flatMap
+  flatMap-only f [] i d p h e = absurd (omega arith)
+  flatMap-only f (a ∷ l) zero d p h e =
+      let z = flatMap-none (λ b. cond (t b) (f b) []) l (all-map (λ b. t a ≡ true → t b ≡ false) (λ b. cond (t b) (f b) [] ≡ []) l (λ b g. rw (g e)) (p .0)) in
+      rw (e, z) (append-nil (f a))
+  flatMap-only f (a ∷ l) (suc i) d p h e =
+      let k : t a ≡ false = not-true (t a) (λ g. contrary (t (getD l i d)) e (all-at (λ b. t a ≡ true → t b ≡ false) l i d (omega arith) (p .0) g)) in
+      rw k (flatMap-only f l i d (p .1) (omega arith) e)

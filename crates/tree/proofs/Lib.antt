@@ -19,6 +19,7 @@ pub mod Once
 pub mod Depth
 pub mod Visits
 pub mod Walk
+pub mod OneBranch
 pub mod Leaves
 pub mod Order
 pub mod NearestLeast

@@ -1,9 +1,9 @@
 -- Lemmas on flatMap, keep, All and Pairs.
-use Prim.Native.Nat.{_≤_}
+use Prim.Native.Nat.{ℕ, zero, suc, _≤_, _<_}
 use mathlib.Core.Bool.{Bool, true, false, cond}
 use mathlib.Core.Path.{_≡_, refl, ap, _∙_}
 use mathlib.Core.List.{map, List, [], _∷_, _++_, append-assoc, append-nil, flatMap}
-use lib.ListN.{length, length-append}
+use lib.ListN.{length, getD, length-append}
 use native.Mathlib.Omega.{arith}
 use Rattle.tree.specs.Lists.{keep, All, Pairs}
 
@@ -182,3 +182,16 @@ unfolding Pairs All
 pairs-one R [] h = tt
 pairs-one R (a ∷ []) h = (tt, tt)
 pairs-one R (a ∷ b ∷ l) h = absurd (omega arith)
+
+-- what holds of all elements holds of the i-th
+pub all-at : {A : Type 0} (P : A → Type 0) (l : List A) (i : ℕ) (d : A) → i < length l → All P l → P (getD l i d)
+unfolding All
+all-at P [] i d h k = absurd (omega arith)
+all-at P (a ∷ l) zero d h k = k .0
+all-at P (a ∷ l) (suc i) d h k = all-at P l i d (omega arith) (k .1)
+
+-- what holds of each place holds of all elements
+pub all-of : {A : Type 0} (P : A → Type 0) (l : List A) (d : A) → ((i : ℕ) → i < length l → P (getD l i d)) → All P l
+unfolding All
+all-of P [] d f = tt
+all-of P (a ∷ l) d f = (f zero (omega arith), all-of P l d (λ i h. f (suc i) (omega arith)))

@@ -1,5 +1,5 @@
 -- `holding::is_held` meets its contract; its ways out are in HeldWays.
-use Rattle.index.proofs.TreeWalk.{tree-walkable, tree-polygon}
+use Rattle.index.proofs.TreeWalk.{tree-sound-walk, tree-polygon}
 use Rattle.index.proofs.HeldWays.{held-outside, held-found}
 use Rattle.index.proofs.holding.is_held.Statement.{statement}
 use Rattle.index.proofs.holding.is_held.Tie as tie
@@ -11,7 +11,7 @@ returns : tie.Need-returns
 returns c = search held-outside
 
 point-below-requires : tie.Need-point-below-requires
-point-below-requires c κs = search tree-walkable
+point-below-requires c κs = search tree-sound-walk
 
 returns-2 : tie.Need-returns-2
 returns-2 c = search held-found

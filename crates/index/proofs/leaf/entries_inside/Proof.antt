@@ -1,7 +1,6 @@
 -- `leaf::entries_inside` meets its contract; its loop is in LeafLaws.
 use borrow.Author.Needs.{needs}
 use Prim.Native.Nat.{_-_}
-use borrow.Author.Tests.{not-true, not-false}
 use Rattle.memory.specs.Fanout.{fanout}
 use Rattle.memory.specs.Layout.{itemCount, polygonIn, entriesIn}
 use Rattle.cover.specs.Tests.{allPass}
@@ -38,11 +37,11 @@ loop-holds c = search hold-start
 entry-cell-requires : tie.Need-entry-cell-requires Inv-loop μ-loop
 entry-cell-requires c κs = search needs
 
-any-has-requires : tie.Need-any-has-requires Inv-loop μ-loop
-any-has-requires c κs = search rects-long
+contains-requires : tie.Need-contains-requires Inv-loop μ-loop
+contains-requires c κs = search rects-long
 
 returns : tie.Need-returns Inv-loop μ-loop
-returns c = search (hold-stop, not-true)
+returns c = search hold-stop
 
 add-i : tie.Need-add-i Inv-loop μ-loop
 add-i c = search needs
@@ -51,7 +50,7 @@ loop-less : tie.Need-loop-less Inv-loop μ-loop
 loop-less c = search needs
 
 loop-again : tie.Need-loop-again Inv-loop μ-loop
-loop-again c = search (hold-on, not-false)
+loop-again c = search hold-on
 
 returns-2 : tie.Need-returns-2 Inv-loop μ-loop
 returns-2 c = search hold-end
@@ -69,7 +68,7 @@ entries-inside-spec =
     rects-requires
     loop-holds
     entry-cell-requires
-    any-has-requires
+    contains-requires
     returns
     add-i
     loop-less

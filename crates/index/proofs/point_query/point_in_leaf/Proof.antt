@@ -9,10 +9,10 @@ use Rattle.index.proofs.point_query.point_in_leaf.Statement.{statement}
 use Rattle.index.proofs.point_query.point_in_leaf.Tie as tie
 
 abbrev Inv-loop : tie.InvT-loop
-Inv-loop p c leaf n i₀ i = AtEntry (cellTest c) p n i []
+Inv-loop p c visits leaf n i₀ i = AtEntry (cellTest c) p n i []
 
 abbrev μ-loop : tie.MeasureT-loop
-μ-loop p c leaf n i₀ i = n - i
+μ-loop p c visits leaf n i₀ i = n - i
 
 load-requires : tie.Need-load-requires Inv-loop μ-loop
 load-requires c κs = search needs

@@ -1,5 +1,5 @@
 -- `point_query::point_in_tree` meets its contract; its ways out are in PointWays.
-use Rattle.index.proofs.TreeWalk.{tree-walkable, tree-polygon}
+use Rattle.index.proofs.TreeWalk.{tree-sound-walk, tree-polygon}
 use Rattle.index.proofs.PointWays.{point-outside, point-held, point-not-held}
 use Rattle.index.proofs.point_query.point_in_tree.Statement.{statement}
 use Rattle.index.proofs.point_query.point_in_tree.Tie as tie
@@ -11,7 +11,7 @@ returns : tie.Need-returns
 returns c = search point-outside
 
 point-below-requires : tie.Need-point-below-requires
-point-below-requires c κs = search tree-walkable
+point-below-requires c κs = search tree-sound-walk
 
 returns-2 : tie.Need-returns-2
 returns-2 c = search point-held

@@ -14,11 +14,11 @@ rects-requires c κs = search needs
 rect-count-requires : tie.Need-rect-count-requires
 rect-count-requires c κs = search needs
 
-cast-any-has : tie.Need-cast-any-has
-cast-any-has c = search needs
+cast-contains : tie.Need-cast-contains
+cast-contains c = search needs
 
-any-has-requires : tie.Need-any-has-requires
-any-has-requires c κs = search polygon-few
+contains-requires : tie.Need-contains-requires
+contains-requires c κs = search polygon-few
 
 returns : tie.Need-returns
 returns c = search polygon-has
@@ -30,6 +30,6 @@ polygon-has-spec =
     part-at-requires
     rects-requires
     rect-count-requires
-    cast-any-has
-    any-has-requires
+    cast-contains
+    contains-requires
     returns)

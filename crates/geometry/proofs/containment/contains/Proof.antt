@@ -1,21 +1,19 @@
--- `scans::any_has` meets its contract; its loop is in HasLaws.
-use borrow.Author.Needs.{needs}
+-- `containment::contains` meets its contract; its loop is in ContainmentLoop.
 use Prim.Native.Nat.{_-_}
-use Rattle.geometry.specs.Cells.{anyHas}
+use borrow.Author.Needs.{needs}
 use Rattle.geometry.specs.Numbers.{rectsIn}
-use Rattle.geometry.proofs.ScanLoops.{Scan, scan-end}
-use Rattle.cover.proofs.HasLaws.{cellIn, has-start, has-hit, has-miss}
-use Rattle.cover.proofs.scans.any_has.Statement.{statement}
-use Rattle.cover.proofs.scans.any_has.Tie as tie
+use Rattle.geometry.proofs.ContainmentLoop.{Comparing, list-start, list-hit, list-again, list-end}
+use Rattle.geometry.proofs.containment.contains.Statement.{statement}
+use Rattle.geometry.proofs.containment.contains.Tie as tie
 
 abbrev Inv-loop : tie.InvT-loop
-Inv-loop list n c i₀ i = Scan (cellIn c) list n i (anyHas (rectsIn list n) c)
+Inv-loop list n c i₀ i = Comparing (rectsIn list n) c n i
 
 abbrev μ-loop : tie.MeasureT-loop
 μ-loop list n c i₀ i = n - i
 
 loop-holds : tie.Need-loop-holds Inv-loop μ-loop
-loop-holds c = search has-start
+loop-holds c = search list-start
 
 rect-at-requires : tie.Need-rect-at-requires Inv-loop μ-loop
 rect-at-requires c κs = search needs
@@ -23,8 +21,11 @@ rect-at-requires c κs = search needs
 has-cell-requires : tie.Need-has-cell-requires Inv-loop μ-loop
 has-cell-requires c κs = search needs
 
+add-compared : tie.Need-add-compared Inv-loop μ-loop
+add-compared c = search needs
+
 returns : tie.Need-returns Inv-loop μ-loop
-returns c = search has-hit
+returns c = search list-hit
 
 add-i : tie.Need-add-i Inv-loop μ-loop
 add-i c = search needs
@@ -33,13 +34,13 @@ loop-less : tie.Need-loop-less Inv-loop μ-loop
 loop-less c = search needs
 
 loop-again : tie.Need-loop-again Inv-loop μ-loop
-loop-again c = search has-miss
+loop-again c = search list-again
 
 returns-2 : tie.Need-returns-2 Inv-loop μ-loop
-returns-2 c = search scan-end
+returns-2 c = search list-end
 
-pub any-has-spec : {M : Type 1} → statement M
-any-has-spec =
+pub contains-spec : {M : Type 1} → statement M
+contains-spec =
     tie.close
     (tie.spec
     Inv-loop
@@ -47,6 +48,7 @@ any-has-spec =
     loop-holds
     rect-at-requires
     has-cell-requires
+    add-compared
     returns
     add-i
     loop-less
