@@ -19,10 +19,10 @@
  *
  * Where a call accepts, the first 4 * *written numbers of result are the
  * rectangles of the answer; the other numbers of result stay as they were.
- * After a refusal result, *written and *extra are as they were.
+ * After a refusal result, *written, *extra, *has and *compared are as they were.
  *
- * No pointer is null, and result, written and extra share no memory with each
- * other or with the lists read.
+ * No pointer is null, and result, written, extra, has and compared share no
+ * memory with each other or with the lists read.
  */
 #ifndef LINTZOGER_DRAWING_H
 #define LINTZOGER_DRAWING_H
@@ -73,6 +73,13 @@ uint32_t lintzoger_cut_polygon(const uint32_t *list, size_t list_len,
    fitting pairs joined until neither applies. */
 uint32_t lintzoger_refine(const uint32_t *list, size_t list_len,
                           uint32_t *result, size_t result_len, uint32_t *written);
+
+/* Whether a rectangle of the polygon has the cell (*has is 1 or 0), and how many
+   rectangles were compared: up to and with the first that has the cell, or all if
+   none has it. */
+uint32_t lintzoger_contains(const uint32_t *polygon, size_t polygon_len,
+                            uint32_t x, uint32_t y,
+                            uint32_t *has, uint32_t *compared);
 
 #ifdef __cplusplus
 }

@@ -25,6 +25,19 @@ static void print_list(const char *name, uint32_t answer) {
     printf("\n");
 }
 
+/* Prints whether the polygon has the cell, and how many rectangles were compared. */
+static void print_containment(const char *name, const uint32_t *polygon, size_t polygon_len,
+                              uint32_t x, uint32_t y) {
+    uint32_t has, compared;
+    uint32_t answer = lintzoger_contains(polygon, polygon_len, x, y, &has, &compared);
+    printf("%s and the cell (%" PRIu32 ",%" PRIu32 "): ", name, x, y);
+    if (answer == 0) {
+        printf("%s, %" PRIu32 " compared\n", has ? "has it" : "lacks it", compared);
+    } else {
+        printf("refused %" PRIu32 "\n", answer);
+    }
+}
+
 int main(void) {
     const uint32_t square[] = {0, 0, 10, 10};
     const uint32_t small[] = {2, 2, 4, 4};
@@ -60,6 +73,11 @@ int main(void) {
 
     print_list("a rectangle without cells refined",
                lintzoger_refine(empty, LENGTH(empty), result, LENGTH(result), &written));
+
+    print_containment("the cross", cross, LENGTH(cross), 5, 5);
+    print_containment("the cross", cross, LENGTH(cross), 9, 5);
+    print_containment("the cross", cross, LENGTH(cross), 9, 9);
+    print_containment("the cross", cross, LENGTH(cross), 65536, 5);
 
     return 0;
 }

@@ -2,11 +2,11 @@
 //!
 //! A list is four numbers a rectangle: llx, lly, urx, ury. The calls have the parameters of those
 //! in include/drawing.h. All arguments are tested (refusal 3) before anything is cut (refusal 7).
-//! After a refusal the result list and the number written are as they were.
+//! After a refusal the result list and the numbers stored are as they were.
 
 use crate::geometry::{
-    cut_list_by_polygon, is_cell, refine as refine_list, Cell, OverLimit, Rectangle, LIST_LIMIT,
-    POLYGON_LIMIT,
+    contains as test_containment, cut_list_by_polygon, is_cell, refine as refine_list, Cell,
+    OverLimit, Rectangle, LIST_LIMIT, POLYGON_LIMIT,
 };
 
 /// The length of a result list: 256 rectangles.
@@ -113,6 +113,21 @@ pub fn refine(list: &[u32], result: &mut [u32], written: &mut u32) -> Result<(),
     let list = read_list(list, LIST_LIMIT)?;
     test_result_list(result)?;
     write_list(&refine_list(&list), result, written);
+    Ok(())
+}
+
+/// Whether the polygon has the cell, 1 or 0, and how many of its rectangles were compared.
+pub fn contains(
+    polygon: &[u32],
+    cell: Cell,
+    has: &mut u32,
+    compared: &mut u32,
+) -> Result<(), Refusal> {
+    let polygon = read_list(polygon, POLYGON_LIMIT)?;
+    let cell = read_cell(cell)?;
+    let containment = test_containment(&polygon, cell);
+    *has = u32::from(containment.has);
+    *compared = u32::try_from(containment.compared).expect("at most 16 rectangles");
     Ok(())
 }
 

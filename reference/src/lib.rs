@@ -1,4 +1,4 @@
-//! The second implementation of document 01 and of document 02's requests A.1 and A.2, written from
+//! The second implementation of document 01 and of document 02's requests A.1 to A.3, written from
 //! their sentences and as plain as possible, and the declarations of the proved library that the
 //! tests compare it with.
 

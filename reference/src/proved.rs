@@ -60,6 +60,14 @@ extern "C" {
         result_len: usize,
         written: *mut u32,
     ) -> u32;
+    fn lintzoger_contains(
+        polygon: *const u32,
+        polygon_len: usize,
+        x: u32,
+        y: u32,
+        has: *mut u32,
+        compared: *mut u32,
+    ) -> u32;
 }
 
 // In each wrapper the pointers come from slices and references that live through the call, and the
@@ -144,4 +152,9 @@ pub fn refine(list: &[u32], result: &mut [u32], written: &mut u32) -> u32 {
             written,
         )
     }
+}
+
+pub fn contains(polygon: &[u32], cell: [u32; 2], has: &mut u32, compared: &mut u32) -> u32 {
+    let [x, y] = cell;
+    unsafe { lintzoger_contains(polygon.as_ptr(), polygon.len(), x, y, has, compared) }
 }

@@ -46,6 +46,12 @@ fn compare_random_cases(call: Call) {
     if call.takes_list() {
         valid.require(LEAST, &["accepted, list of 1", "accepted, list of 256"]);
     }
+    if call.takes_polygon() {
+        valid.require(
+            LEAST,
+            &["accepted, polygon of 1", "accepted, polygon of 16"],
+        );
+    }
     if matches!(call, Call::Cut | Call::CutPolygon) {
         valid.require(LEAST, &["refused 7"]);
     }
@@ -80,4 +86,9 @@ fn cut_polygon() {
 #[test]
 fn refine() {
     compare_random_cases(Call::Refine);
+}
+
+#[test]
+fn contains() {
+    compare_random_cases(Call::Contains);
 }

@@ -1,9 +1,12 @@
-//! Document 01, 'Grid, rectangles, polygons': the rectangle rules over lists of any length.
+//! Document 01, 'Grid, rectangles, polygons', with document 02's containment test: the rectangle
+//! rules over lists of any length.
 
+mod contains;
 mod cut;
 mod rectangle;
 mod refine;
 
+pub use contains::{contains, Containment};
 pub use cut::{cut, cut_list, cut_list_by_polygon, OverLimit};
 pub use rectangle::{is_cell, Cell, Rectangle};
 pub use refine::refine;

@@ -1,6 +1,6 @@
 //! Document 01, 'Sound means', clause by clause.
 
-use crate::geometry::{is_cell, Rectangle, POLYGON_LIMIT};
+use crate::geometry::{contains, is_cell, Rectangle, POLYGON_LIMIT};
 use crate::tree::{Branch, Entry, Node, Tree, F};
 
 pub fn is_sound(tree: &Tree) -> bool {
@@ -30,7 +30,7 @@ fn is_sound_node(node: &Node, polygon: &[Rectangle]) -> bool {
 
 /// 'A leaf's polygon contains its entries.'
 fn is_inside(entry: &Entry, polygon: &[Rectangle]) -> bool {
-    is_cell(entry.cell) && polygon.iter().any(|r| r.has(entry.cell))
+    is_cell(entry.cell) && contains(polygon, entry.cell).has
 }
 
 /// 'A child's cells lie among its parent's.'

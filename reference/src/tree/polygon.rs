@@ -1,10 +1,10 @@
 //! Polygons: lists of rectangles whose 'cells are their union'.
 
-use crate::geometry::{Cell, Rectangle};
+use crate::geometry::{contains, Cell, Rectangle};
 
 /// A rectangle of the polygon has the cell.
 pub fn has(polygon: &[Rectangle], cell: Cell) -> bool {
-    polygon.iter().any(|r| r.has(cell))
+    contains(polygon, cell).has
 }
 
 /// A rectangle of the polygon has a cell of the window.

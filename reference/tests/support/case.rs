@@ -18,20 +18,22 @@ pub enum Call {
     Cut,
     CutPolygon,
     Refine,
+    Contains,
 }
 
-pub const CALLS: [Call; 6] = [
+pub const CALLS: [Call; 7] = [
     Call::Common,
     Call::Grow,
     Call::ExtraArea,
     Call::Cut,
     Call::CutPolygon,
     Call::Refine,
+    Call::Contains,
 ];
 
 impl Call {
     pub fn takes_list(self) -> bool {
-        self != Call::ExtraArea
+        !matches!(self, Call::ExtraArea | Call::Contains)
     }
 
     pub fn takes_rectangle(self) -> bool {
@@ -39,11 +41,11 @@ impl Call {
     }
 
     pub fn takes_cell(self) -> bool {
-        matches!(self, Call::Grow | Call::ExtraArea)
+        matches!(self, Call::Grow | Call::ExtraArea | Call::Contains)
     }
 
     pub fn takes_polygon(self) -> bool {
-        self == Call::CutPolygon
+        matches!(self, Call::CutPolygon | Call::Contains)
     }
 }
 
@@ -56,7 +58,7 @@ pub struct Case {
     pub polygon: Vec<u32>,
     pub cell: [u32; 2],
     pub result_length: usize,
-    /// Seed of what the result list and `written` or `extra` hold before the call.
+    /// Seed of what the result list and the numbers stored hold before the call.
     pub fill: u64,
 }
 
@@ -67,6 +69,8 @@ pub struct Output {
     pub answer: u32,
     pub written: u32,
     pub extra: u64,
+    pub has: u32,
+    pub compared: u32,
     /// The numbers before the result list, the result list, and those after it.
     pub numbers: Vec<u32>,
 }
@@ -98,6 +102,8 @@ impl Case {
             answer: 0,
             written: random.number() as u32,
             extra: random.number(),
+            has: random.number() as u32,
+            compared: random.number() as u32,
             numbers: (0..GUARD + self.result_length + GUARD)
                 .map(|_| random.number() as u32)
                 .collect(),
@@ -114,6 +120,10 @@ impl Case {
             Call::Cut => drawing::cut(&self.list, self.rectangle, result, written),
             Call::CutPolygon => drawing::cut_polygon(&self.list, &self.polygon, result, written),
             Call::Refine => drawing::refine(&self.list, result, written),
+            Call::Contains => {
+                let (has, compared) = (&mut output.has, &mut output.compared);
+                drawing::contains(&self.polygon, self.cell, has, compared)
+            }
         };
         output.answer = answer.map_or_else(Refusal::number, |()| 0);
         output
@@ -129,12 +139,16 @@ impl Case {
             Call::Cut => proved::cut(&self.list, self.rectangle, result, written),
             Call::CutPolygon => proved::cut_polygon(&self.list, &self.polygon, result, written),
             Call::Refine => proved::refine(&self.list, result, written),
+            Call::Contains => {
+                let (has, compared) = (&mut output.has, &mut output.compared);
+                proved::contains(&self.polygon, self.cell, has, compared)
+            }
         };
         output
     }
 
     /// Makes the call to both implementations and fails the test where they differ: in the answer,
-    /// in what is written, in any number of the result list or next to it, or in the lists read.
+    /// in what is stored, in any number of the result list or next to it, or in the lists read.
     /// `place` says which case of which test this is.
     pub fn compare(&self, place: &str) -> Output {
         let before = self.before();
@@ -155,6 +169,8 @@ impl Case {
             expected.answer = output.answer;
         } else if self.call == Call::ExtraArea {
             expected.extra = output.extra;
+        } else if self.call == Call::Contains {
+            (expected.has, expected.compared) = (output.has, output.compared);
         } else {
             let end = GUARD + 4 * output.written as usize;
             expected.written = output.written;
@@ -188,11 +204,14 @@ impl Case {
                 answer,
                 written,
                 extra,
+                has,
+                compared,
                 ..
             } = output;
             writeln!(
                 text,
-                "{name}: answer {answer}, written {written}, extra {extra}"
+                "{name}: answer {answer}, written {written}, extra {extra}, has {has}, \
+                 compared {compared}"
             )
             .unwrap();
         }

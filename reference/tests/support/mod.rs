@@ -10,6 +10,7 @@ pub mod case;
 pub mod checked;
 pub mod choices;
 pub mod compared;
+pub mod containment;
 pub mod extra;
 pub mod fault;
 pub mod inside;

@@ -8,7 +8,7 @@ use std::collections::BTreeMap;
 pub struct Tally(BTreeMap<&'static str, u64>);
 
 impl Tally {
-    /// Counts the case under its outcome, and under its list size where that is a bound.
+    /// Counts the case under its outcome, and under the sizes of its lists where they are bounds.
     pub fn add(&mut self, case: &Case, output: &Output) {
         self.count("cases");
         self.count(outcome(case, output));
@@ -16,6 +16,13 @@ impl Tally {
             match case.list.len() {
                 4 => self.count("accepted, list of 1"),
                 1024 => self.count("accepted, list of 256"),
+                _ => {}
+            }
+        }
+        if output.answer == 0 && case.call.takes_polygon() {
+            match case.polygon.len() {
+                4 => self.count("accepted, polygon of 1"),
+                64 => self.count("accepted, polygon of 16"),
                 _ => {}
             }
         }
@@ -73,6 +80,12 @@ pub fn accepted_kinds(call: Call) -> &'static [&'static str] {
             "more rectangles",
         ],
         Call::Refine => &["list as before", "only dropped", "joined"],
+        Call::Contains => &[
+            "the first has the cell",
+            "one between has the cell",
+            "the last has the cell",
+            "none has the cell",
+        ],
     }
 }
 
@@ -92,6 +105,7 @@ fn accepted_kind(case: &Case, output: &Output) -> &'static str {
             1..=0x7fff_ffff => "extra area",
             _ => "extra area of 2^31 or more",
         },
+        Call::Contains => containment_kind(case.polygon.len() / 4, output),
         Call::Common => match output.list().len() {
             0 => "nothing written",
             length if length < case.list.len() => "some rectangles left",
@@ -113,6 +127,16 @@ fn cut_kind(before: usize, after: usize) -> &'static str {
         "as many, changed"
     } else {
         "more rectangles"
+    }
+}
+
+/// By the first rectangle that has the cell. The only one counts as the first.
+fn containment_kind(count: usize, output: &Output) -> &'static str {
+    match output.compared as usize {
+        _ if output.has == 0 => "none has the cell",
+        1 => "the first has the cell",
+        compared if compared < count => "one between has the cell",
+        _ => "the last has the cell",
     }
 }
 
