@@ -3,6 +3,7 @@
 //! cleared between calls. The times are illustrations, the ratio is the figure.
 
 use reference::drawing::{self, RESULT_LENGTH};
+use reference::geometry::POLYGON_LIMIT;
 use reference::measure::median;
 use reference::proved;
 use reference::random::Random;
@@ -18,10 +19,11 @@ const ROUNDS: usize = 15;
 /// The least time of a round, in nanoseconds.
 const ROUND_TIME: u128 = 10_000_000;
 
-/// The arguments of one call. The rectangle is the polygon's first.
+/// The arguments of one call, which takes some of them. The rectangle is the polygon's first.
 struct Input {
     list: Vec<u32>,
     polygon: Vec<u32>,
+    cell: [u32; 2],
 }
 
 /// A call on an input, which returns the call's number.
@@ -68,6 +70,26 @@ const JOBS: [(&str, Job, Job); 3] = [
     ),
 ];
 
+/// The containment test stores `has` in the result list's first place, and `compared` as written.
+const CONTAINS: [Job; 2] = [
+    |input, result, written| proved::contains(&input.polygon, input.cell, &mut result[0], written),
+    |input, result, written| {
+        number(drawing::contains(
+            &input.polygon,
+            input.cell,
+            &mut result[0],
+            written,
+        ))
+    },
+];
+
+/// Where the cell is in a polygon of 16: name, `has`, `compared`.
+const CONTAINMENTS: [(&str, u32, u32); 3] = [
+    ("contains, in the first", 1, 1),
+    ("contains, in the last", 1, POLYGON_LIMIT as u32),
+    ("contains, in none", 0, POLYGON_LIMIT as u32),
+];
+
 /// A rectangle of up to `largest` cells a side on a grid of `side` cells a side.
 fn rectangle(random: &mut Random, side: u32, largest: u32) -> [u32; 4] {
     let [width, height] = [0, 1].map(|_| random.between(1, largest));
@@ -87,12 +109,36 @@ fn input(random: &mut Random, count: usize) -> Input {
         let polygon: Vec<u32> = (0..4)
             .flat_map(|_| rectangle(random, side, side * 3 / 4))
             .collect();
-        let input = Input { list, polygon };
+        let cell = [0, 0];
+        let input = Input {
+            list,
+            polygon,
+            cell,
+        };
         let mut result = [0; RESULT_LENGTH];
         if JOBS
             .iter()
             .all(|job| job.2(&input, &mut result, &mut 0) == 0)
         {
+            return input;
+        }
+    }
+}
+
+/// A polygon of 16 rectangles and a cell of which the containment test reports this.
+fn containment_input(random: &mut Random, has: u32, compared: u32) -> Input {
+    let [_, plain] = CONTAINS;
+    let mut result = [0; RESULT_LENGTH];
+    loop {
+        let polygon = (0..POLYGON_LIMIT).flat_map(|_| rectangle(random, 10, 4));
+        let input = Input {
+            list: Vec::new(),
+            polygon: polygon.collect(),
+            cell: [0, 1].map(|_| random.between(0, 9)),
+        };
+        let mut written = 0;
+        plain(&input, &mut result, &mut written);
+        if [result[0], written] == [has, compared] {
             return input;
         }
     }
@@ -137,22 +183,33 @@ fn repeats(inputs: &[Input], job: Job) -> u32 {
     }
 }
 
+/// Times both calls in turns, and prints a row.
+fn compare(name: &str, count: usize, inputs: &[Input], proved: Job, plain: Job) {
+    check(inputs, proved, plain);
+    let (proved_repeats, plain_repeats) = (repeats(inputs, proved), repeats(inputs, plain));
+    let (mut proved_times, mut plain_times) = (Vec::new(), Vec::new());
+    for _ in 0..ROUNDS {
+        proved_times.push(time(inputs, proved, proved_repeats));
+        plain_times.push(time(inputs, plain, plain_repeats));
+    }
+    let (a, b) = (median(proved_times), median(plain_times));
+    println!("{name:<22} {count:>10} {a:>10.0} {b:>10.0} {:>6.2}", a / b);
+}
+
 fn main() {
     let mut random = Random::new(1);
     println!("job                    rectangles  proved ns   plain ns  ratio");
     for (name, proved, plain) in JOBS {
         for count in [4, 16, 64, 256] {
             let inputs: Vec<Input> = (0..INPUTS).map(|_| input(&mut random, count)).collect();
-            check(&inputs, proved, plain);
-            let (proved_repeats, plain_repeats) =
-                (repeats(&inputs, proved), repeats(&inputs, plain));
-            let (mut proved_times, mut plain_times) = (Vec::new(), Vec::new());
-            for _ in 0..ROUNDS {
-                proved_times.push(time(&inputs, proved, proved_repeats));
-                plain_times.push(time(&inputs, plain, plain_repeats));
-            }
-            let (a, b) = (median(proved_times), median(plain_times));
-            println!("{name:<22} {count:>10} {a:>10.0} {b:>10.0} {:>6.2}", a / b);
+            compare(name, count, &inputs, proved, plain);
         }
+    }
+    let [proved, plain] = CONTAINS;
+    for (name, has, compared) in CONTAINMENTS {
+        let inputs: Vec<Input> = (0..INPUTS)
+            .map(|_| containment_input(&mut random, has, compared))
+            .collect();
+        compare(name, POLYGON_LIMIT, &inputs, proved, plain);
     }
 }
