@@ -17,8 +17,9 @@ use Rattle.geometry.specs.declared.cut.Count.the-variants.{Rects, Over}
 use Rattle.geometry.specs.Cells.{valid, allValid}
 use Rattle.geometry.specs.Common.{commonWith, commonParts}
 use Rattle.geometry.specs.Cut.{cutLimited, commonLimited}
-use Rattle.geometry.specs.Numbers.{rectsIn, rectsOf, numbersOf, counted, Written, Refined, PolygonOf}
+use Rattle.geometry.specs.Numbers.{rectsIn, rectsOf, numbersOf, counted, Written, PolygonOf}
 use Rattle.geometry.specs.Refine.{refine}
+use Rattle.refinement.specs.Changes.{Refined}
 use Rattle.geometry.proofs.Booleans.{all4}
 use Rattle.polygons.proofs.LimitLaws.{at-most-some}
 use Rattle.geometry.proofs.CommonLaws.{common-with-length}

@@ -26,7 +26,7 @@ use geometry::cut_list;
 use geometry::cut_polygon;
 use geometry::put_rect;
 use geometry::rect_at;
-use geometry::refine_list;
+use refinement::refine_list;
 
 // The part of each rectangle that it shares with one rectangle, where it shares any.
 pub fn common(list: &[u32], r: Rect, out: &mut [u32]) -> Answer

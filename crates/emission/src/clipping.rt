@@ -6,6 +6,7 @@ ghost use Rattle.plane.specs.Plane.{planeSpace};
 ghost use Rattle.memory.specs.Fanout.{fanout};
 ghost use Rattle.sides.specs.Sides.{sidesOf};
 use geometry::Polygon;
+use refinement::refine_polygon;
 use sides::side_of;
 
 // The polygon clipped to each side, one after another, and refined each time.
@@ -17,7 +18,7 @@ pub fn clipped(p: Polygon, sides: &[u32]) -> Polygon
     let mut i = 0;
     while i < sides.len() {
         let side = side_of(sides[i]);
-        q = q.clip(side).refine();
+        q = refine_polygon(q.clip(side));
         i += 1;
     }
     q

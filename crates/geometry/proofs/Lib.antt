@@ -4,10 +4,6 @@ pub mod CommonLaws
 pub mod GrowLaws
 pub mod CutLaws
 pub mod RefineLaws
-pub mod FirstLaws
-pub mod DropLaws
-pub mod PairLaws
-pub mod SearchLaws
 pub mod ClipLaws
 pub mod ContainmentLaws
 pub mod ContainmentCases
@@ -21,6 +17,4 @@ pub mod CutLoops
 pub mod FillLoops
 pub mod NumberLaws
 pub mod PolygonLoops
-pub mod PairLoops
-pub mod RefineLoops
 pub mod ScanLoops

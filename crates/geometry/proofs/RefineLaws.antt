@@ -1,7 +1,7 @@
 -- Refine: a step keeps the cells and drops one rectangle, or it changes nothing; no step applies to a refined list.
 use mathlib.Core.Path.{_≡_, refl, sym, _∙_, ap}
-use mathlib.Core.Bool.{Bool, true, false, not, _||_, cond, false≢true, or-assoc}
-use mathlib.Core.List.{List, [], _∷_, _++_}
+use mathlib.Core.Bool.{Bool, true, false, not, _||_, cond, false≢true}
+use mathlib.Core.List.{List, [], _∷_}
 use mathlib.Core.Logic.{_⊎_, inl, inr, ⊎-elim}
 use Prim.Native.Nat.{ℕ, zero, suc, _+_, _-_, _≤_, _<_}
 use native.Mathlib.Omega.{arith}
@@ -9,14 +9,14 @@ use native.Mathlib.Numerals.{add-one}
 use native.Mathlib.Decide.{decLe, decLt}
 use borrow.Author.Tests.{leb-true, ltb-true, eqb-true}
 use lib.Dec.{ltb}
-use lib.ListN.{length, take, drop, getD, set, length-append, length-take, length-drop, length-set, List·getD-append}
-use lib.Seq.{split-at, take-set-lt, drop-set-lt, set-split, getD-take, length-take-le, take-append-le, drop-append-le, take-take}
+use lib.ListN.{length, take, drop, getD, set, length-append, length-take, length-drop, length-set}
+use lib.Seq.{take-set-lt, drop-set-lt, set-split, getD-take, length-take-le}
 use Rattle.polygons.specs.Lists.{any}
 use Rattle.geometry.specs.declared.rect.Cell.{Cell}
 use Rattle.geometry.specs.declared.rect.Rect.{Rect}
 use Rattle.geometry.specs.Cells.{hasCell, anyHas, valid, allValid, noRect}
 use Rattle.geometry.specs.Refine.{firstFrom, within, strictlyWithin, contained, firstContained, dropped, stacked, abreast, joinable, union, joins, partner, hasPartner, firstJoin, joined, refineStep, refineSteps, refine}
-use Rattle.geometry.proofs.Booleans.{same, either, neither, or-left, or-right, both, split-and, all4}
+use Rattle.geometry.proofs.Booleans.{same, either, or-left, or-right, both, split-and, all4}
 use Rattle.geometry.proofs.CellLaws.{In, in-of, of-in, valid-of, of-valid, within-cells, has-cons, has-append, has-split, valid-append, valid-take, valid-drop, valid-at}
 
 module _ (p : ℕ → Bool) where
@@ -50,18 +50,6 @@ module _ (p : ℕ → Bool) where
           → p (cond b i (firstFrom p (i + 1) m)) ≡ true
       go true e h k = e
       go false e h k = k (omega arith)
-
-  -- no number before the first that passes does
-  pub first-before : (i m k : ℕ) → i ≤ k → k < firstFrom p i m → p k ≡ false
-  unfolding firstFrom
-  first-before i zero k g h = absurd (omega arith)
-  first-before i (suc m) k g h = let f = first-before (i + 1) m k in go (p i) refl h f (decLt i k)
-    where
-      go : (b : Bool) → p i ≡ b → k < cond b i (firstFrom p (i + 1) m) → (i + 1 ≤ k → k < firstFrom p (i + 1) m → p k ≡ false) → Dec (i < k)
-          → p k ≡ false
-      go true e h f d = absurd (omega arith)
-      go false e h f (yes d) = f (omega arith) h
-      go false e h f (no d) = let q : k ≡ i = omega arith in rw q e
 
 -- dropping one shortens the list by one
 pub length-dropped : (l : List Rect) (i : ℕ) → i < length l → length (dropped l i) + 1 ≡ length l
@@ -127,40 +115,6 @@ pub stays : (n : ℕ) (l : List Rect) → refineStep l ≡ l → refineSteps n l
 unfolding refineSteps
 stays zero l e = refl
 stays (suc n) l e = rw e (stays n l e)
-
-any-append : (p : Rect → Bool) (l m : List Rect) → any p (l ++ m) ≡ any p l || any p m
-unfolding any
-any-append p [] m = refl
-any-append p (r ∷ l) m = rw (any-append p l m, or-assoc)
-
-any-without : (p : Rect → Bool) (l m : List Rect) (r : Rect) → any p (l ++ (r ∷ m)) ≡ false → any p (l ++ m) ≡ false
-unfolding any
-any-without p l m r e =
-    let f = neither (any p l) (p r || any p m) (sym (any-append p l (r ∷ m)) ∙ e) in
-    any-append p l m ∙ rw (f .0, neither (p r) (any p m) (f .1) .1)
-
--- dropping one cannot make an earlier one contained
-pub contained-dropped : (l : List Rect) (i k : ℕ) → k < i → i < length l → contained l k ≡ false → contained (dropped l i) k ≡ false
-unfolding contained
-contained-dropped l i k g h e =
-    let n : length (take i l) ≡ i = length-take-le i l (omega arith) in
-    let a : k < length (take i l) = omega arith in
-    let b : k ≤ length (take i l) = omega arith in
-    let c : k + 1 ≤ length (take i l) = omega arith in
-    let d : k ≤ i = omega arith in
-    let q : drop (k + 1) l ≡ drop (k + 1) (take i l) ++ (getD l i noRect ∷ drop (i + 1) l) =
-    rw (add-one i) (ap (drop (k + 1)) (split-at l i noRect h) ∙ drop-append-le (k + 1) (take i l) _ c) in
-    let f = neither (any (within (getD l k noRect)) (take k l)) (any (strictlyWithin (getD l k noRect)) (drop (k + 1) l)) e in
-    rw (
-      List·getD-append (take i l) (drop (i + 1) l) noRect k a,
-      getD-take i l k noRect g,
-      take-append-le k (take i l) (drop (i + 1) l) b,
-      take-take k i l d,
-      drop-append-le (k + 1) (take i l) (drop (i + 1) l) c,
-      f .0,
-    )
-    (any-without (strictlyWithin (getD l k noRect)) (drop (k + 1) (take i l)) (drop (i + 1) l) (getD l i noRect)
-    (sym (ap (any (strictlyWithin (getD l k noRect))) q) ∙ f .1))
 
 -- whatever passes contains r, and some rectangle of the list passes: the list has r's cells
 any-cells : (p : Rect → Bool) (r : Rect) (l : List Rect) (c : Cell) → ((s : Rect) → p s ≡ true → within r s ≡ true)

@@ -6,5 +6,3 @@ pub mod Refine
 pub mod Clip
 pub mod Containment
 pub mod Numbers
-pub mod Pairs
-pub mod Search

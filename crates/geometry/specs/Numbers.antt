@@ -1,12 +1,11 @@
 -- Lists of rectangles as numbers, four a rectangle: llx, lly, urx, ury.
-use Prim.Native.Nat.{ℕ, zero, suc, _+_, _-_, _*_, _≤_}
+use Prim.Native.Nat.{ℕ, zero, suc, _+_, _*_, _≤_}
 use mathlib.Core.List.{List, [], _∷_, _++_}
 use mathlib.Core.Option.{Option, none, some}
 use mathlib.Core.Path.{_≡_}
 use lib.ListN.{getD, set, length, take}
 use Rattle.geometry.specs.declared.rect.Rect.{Rect}
 use Rattle.geometry.specs.declared.polygon.Polygon.{Polygon}
-use Rattle.geometry.specs.Refine.{dropped, joined, refine}
 use Rattle.geometry.specs.declared.cut.Count.{Count}
 use Rattle.geometry.specs.declared.cut.Count.the-variants.{Rects, Over}
 
@@ -57,22 +56,6 @@ pub record Appended (m : List ℕ) (n : ℕ) (new : List Rect) (k : ℕ) (m' : L
 pub record Written (m : List ℕ) (limited : Option (List Rect)) (count : Count) (m' : List ℕ) : Type 0 where
   pub list : counted count m' ≡ limited
   pub few : atMost256 count
-  pub same-length : length m' ≡ length m
-
--- The i-th of n rectangles was taken out of the numbers.
-pub record Dropped (m : List ℕ) (n i : ℕ) (m' : List ℕ) : Type 0 where
-  pub list : rectsIn m' (n - 1) ≡ dropped (rectsIn m n) i
-  pub same-length : length m' ≡ length m
-
--- The i-th and the j-th of n rectangles were joined.
-pub record Joined (m : List ℕ) (n i j : ℕ) (m' : List ℕ) : Type 0 where
-  pub list : rectsIn m' (n - 1) ≡ joined (rectsIn m n) i j
-  pub same-length : length m' ≡ length m
-
--- The first n rectangles were refined, which leaves the first n'.
-pub record Refined (m : List ℕ) (n : ℕ) (m' : List ℕ) (n' : ℕ) : Type 0 where
-  pub list : rectsIn m' n' ≡ refine (rectsIn m n)
-  pub fewer : n' ≤ n
   pub same-length : length m' ≡ length m
 
 -- A polygon holds the list.

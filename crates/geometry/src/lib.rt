@@ -7,10 +7,8 @@ mod limits;
 mod numbers;
 mod pieces;
 mod polygon;
-mod polygon_refine;
 mod rect;
-mod refine;
-mod scan;
+mod within;
 
 pub use common::common_parts;
 pub use containment::Containment;
@@ -32,5 +30,4 @@ pub use rect::Common;
 pub use rect::Line;
 pub use rect::Rect;
 pub use rect::Side;
-pub use refine::refine_list;
-pub use scan::is_within_any;
+pub use within::is_within_any;

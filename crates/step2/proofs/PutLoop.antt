@@ -7,8 +7,9 @@ use native.Mathlib.Omega.{arith}
 use lib.ListN.{length, drop}
 use Rattle.geometry.specs.declared.rect.Rect.{Rect}
 use Rattle.geometry.specs.declared.cut.Count.the-variants.{Rects, Over}
-use Rattle.geometry.specs.Numbers.{rectAt, rectsIn, putAt, counted, Appended, Written, Refined}
+use Rattle.geometry.specs.Numbers.{rectAt, rectsIn, putAt, counted, Appended, Written}
 use Rattle.geometry.specs.Refine.{refine}
+use Rattle.refinement.specs.Changes.{Refined}
 use Rattle.polygons.proofs.LimitLaws.{at-most-some, at-most-none}
 use Rattle.geometry.proofs.NumberLaws.{length-rects, rects-take, rects-next, rects-end, length-put, put-behind}
 use Rattle.step2.specs.Pieces.{replaced, refinedLimited}

@@ -9,10 +9,10 @@ use geometry::Count;
 use geometry::MOST_OF_POLYGON;
 use geometry::put_rect;
 use geometry::rect_at;
-use geometry::refine_list;
 use layout::part_at;
 use layout::rect_count;
 use layout::rects;
+use refinement::refine_list;
 
 // Writes the rectangles from the given one up to before the e-th of one list behind the first n of another.
 fn put_rects(list: &mut [u32], n: usize, source: &[u32], from: usize, e: usize) -> usize

@@ -28,8 +28,8 @@ side-of-requires c κs = search needs
 clip-requires : tie.Need-clip-requires Inv-loop μ-loop
 clip-requires c κs = search needs
 
-refine-requires : tie.Need-refine-requires Inv-loop μ-loop
-refine-requires c κs = search needs
+refine-polygon-requires : tie.Need-refine-polygon-requires Inv-loop μ-loop
+refine-polygon-requires c κs = search needs
 
 add-i : tie.Need-add-i Inv-loop μ-loop
 add-i c = search needs
@@ -54,7 +54,7 @@ clipped-spec =
     shared-slice-read-side-of
     side-of-requires
     clip-requires
-    refine-requires
+    refine-polygon-requires
     add-i
     loop-less
     loop-again

@@ -1,0 +1,49 @@
+-- `scan::first_contained` meets its contract; its loop is in FindLoops.
+use Prim.Native.Nat.{_-_}
+use borrow.Author.Needs.{needs}
+use Rattle.geometry.specs.Refine.{contained, firstContained}
+use Rattle.geometry.specs.Numbers.{rectsIn}
+use Rattle.refinement.proofs.FindLoops.{Find, contained-start, find-hit, find-miss, find-end}
+use Rattle.refinement.proofs.scan.first_contained.Statement.{statement}
+use Rattle.refinement.proofs.scan.first_contained.Tie as tie
+
+abbrev Inv-loop : tie.InvT-loop
+Inv-loop list n from i₀ i = Find (contained (rectsIn list n)) list n i (firstContained (rectsIn list n))
+
+abbrev μ-loop : tie.MeasureT-loop
+μ-loop list n from i₀ i = n - i
+
+loop-holds : tie.Need-loop-holds Inv-loop μ-loop
+loop-holds c = search contained-start
+
+is-contained-requires : tie.Need-is-contained-requires Inv-loop μ-loop
+is-contained-requires c κs = search needs
+
+returns : tie.Need-returns Inv-loop μ-loop
+returns c = search find-hit
+
+add-i : tie.Need-add-i Inv-loop μ-loop
+add-i c = search needs
+
+loop-less : tie.Need-loop-less Inv-loop μ-loop
+loop-less c = search needs
+
+loop-again : tie.Need-loop-again Inv-loop μ-loop
+loop-again c = search find-miss
+
+returns-2 : tie.Need-returns-2 Inv-loop μ-loop
+returns-2 c = search find-end
+
+pub first-contained-spec : {M : Type 1} → statement M
+first-contained-spec =
+    tie.close
+    (tie.spec
+    Inv-loop
+    μ-loop
+    loop-holds
+    is-contained-requires
+    returns
+    add-i
+    loop-less
+    loop-again
+    returns-2)

@@ -1,0 +1,3 @@
+pub mod Changes
+pub mod Pairs
+pub mod Search
