@@ -37,7 +37,8 @@ table =
     -- G1
     cuts (rectOf 0 0 10 10) (rectOf 4 4 6 12) (rectOf 6 0 10 10 ∷ rectOf 0 0 4 10 ∷ rectOf 4 0 6 4 ∷ [])
     -- G2
-    ∷ cuts (rectOf 0 0 10 10) (rectOf 3 3 5 5) (rectOf 5 0 10 10 ∷ rectOf 0 0 3 10 ∷ rectOf 3 5 5 10 ∷ rectOf 3 0 5 3 ∷ [])
+    ∷ cuts (rectOf 0 0 10 10) (rectOf 3 3 5 5)
+    (rectOf 5 0 10 10 ∷ rectOf 0 0 3 10 ∷ rectOf 3 5 5 10 ∷ rectOf 3 0 5 3 ∷ [])
     -- G3
     ∷ cuts (rectOf 0 0 4 4) (rectOf 4 0 8 4) (rectOf 0 0 4 4 ∷ [])
     -- G4

@@ -32,7 +32,11 @@ AllHold (w ∷ l) = Holds w × AllHold l
 abbrev pub table : List Row
 table =
     record { polygon = rectOf 0 0 10 1 ∷ rectOf 0 0 1 10 ∷ []; cell = cellOf 9 9; extras = 81 ∷ 81 ∷ [] }
-    ∷ record { polygon = rectOf 0 0 2 10 ∷ rectOf 4 0 6 10 ∷ rectOf 2 0 4 2 ∷ []; cell = cellOf 3 9; extras = 16 ∷ 8 ∷ 16 ∷ [] }
+    ∷ record {
+      polygon = rectOf 0 0 2 10 ∷ rectOf 4 0 6 10 ∷ rectOf 2 0 4 2 ∷ [];
+      cell = cellOf 3 9;
+      extras = 16 ∷ 8 ∷ 16 ∷ [];
+    }
     ∷ record { polygon = rectOf 2 2 4 4 ∷ rectOf 2 2 4 4 ∷ []; cell = cellOf 4 3; extras = 2 ∷ 2 ∷ [] }
     ∷ record { polygon = rectOf 0 0 4 4 ∷ rectOf 4 0 6 2 ∷ []; cell = cellOf 5 3; extras = 4 ∷ 4 ∷ [] }
     ∷ record { polygon = rectOf 1 1 4 7 ∷ rectOf 4 1 5 3 ∷ []; cell = cellOf 0 3; extras = 6 ∷ 4 ∷ [] }

@@ -39,7 +39,8 @@ module _ (p : List ℕ) (c : Cell) (b : Bool) (e : b ≡ isList mostOfPolygon p)
     tested t k q = rw (← e, f, ← h, k, q)
 
 -- an accepted test compares at most 16 rectangles
-drawn-few : (v : Bool) (p : List ℕ) (c : Cell) (t : Containment) → v ≡ validContains p c → Tested t ≡ containsOf v (containsDrawn p c) → t .compared ≤ 16
+drawn-few : (v : Bool) (p : List ℕ) (c : Cell) (t : Containment) → v ≡ validContains p c
+    → Tested t ≡ containsOf v (containsDrawn p c) → t .compared ≤ 16
 unfolding validContains containsDrawn containsOf containment
 drawn-few true p c t e q =
     let s : t ≡ containment (given p) c = cc in
@@ -63,10 +64,12 @@ module _ (p : List ℕ) (c : Cell) (a : Contains) (e : a ≡ containsOf (validCo
     pub tested-number : 0 ≡ containsNumber (containsOf (validContains p c) (containsDrawn p c))
     tested-number = rw (← e, f)
 
-    pub tested-has : (told : ℕ) → boolByte (t .has) ≡ hasReported (containsOf (validContains p c) (containsDrawn p c)) told
+    pub tested-has : (told : ℕ) → boolByte (t .has)
+        ≡ hasReported (containsOf (validContains p c) (containsDrawn p c)) told
     tested-has told = byte-is (t .has) ∙ rw (← e, f)
 
-    pub tested-compared : (told : ℕ) → t .compared ≡ comparedReported (containsOf (validContains p c) (containsDrawn p c)) told
+    pub tested-compared : (told : ℕ)
+        → t .compared ≡ comparedReported (containsOf (validContains p c) (containsDrawn p c)) told
     tested-compared told = rw (← e, f)
 
   module _ (f : a ≡ Refused) where
@@ -76,5 +79,6 @@ module _ (p : List ℕ) (c : Cell) (a : Contains) (e : a ≡ containsOf (validCo
     pub refused-has : (told : ℕ) → told ≡ hasReported (containsOf (validContains p c) (containsDrawn p c)) told
     refused-has told = rw (← e, f)
 
-    pub refused-compared : (told : ℕ) → told ≡ comparedReported (containsOf (validContains p c) (containsDrawn p c)) told
+    pub refused-compared : (told : ℕ)
+        → told ≡ comparedReported (containsOf (validContains p c) (containsDrawn p c)) told
     refused-compared told = rw (← e, f)

@@ -77,8 +77,8 @@ abbrev pub containsNumber : Contains → ℕ
 containsNumber (Tested t) = 0
 containsNumber Refused = 3
 
--- its two values at exit, from those at entry: 1 where a rectangle has the cell and 0 where none has it; how many were compared. A
--- refusal leaves both as they were.
+-- its two values at exit, from those at entry: 1 where a rectangle has the cell and 0 where none has it; how many
+-- were compared. A refusal leaves both as they were.
 abbrev pub hasReported : Contains → ℕ → ℕ
 hasReported (Tested t) before = cond (t .has) 1 0
 hasReported Refused before = before

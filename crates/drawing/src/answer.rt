@@ -1,5 +1,5 @@
-// What the calls answer. The definitions `number`, `containsNumber` and `extraNumber` of specs/Answers.antt give document 01's
-// number for each.
+// What the calls answer. The definitions `number`, `containsNumber` and `extraNumber` of specs/Answers.antt give
+// document 01's number for each.
 use geometry::Containment;
 
 pub enum Answer {

@@ -1,5 +1,5 @@
--- The loop of the containment test: none of the rectangles compared so far has the cell. It is one for lists of numbers and for
--- polygons by value.
+-- The loop of the containment test: none of the rectangles compared so far has the cell. It is one for lists of
+-- numbers and for polygons by value.
 use mathlib.Core.Path.{_≡_, refl, sym, _∙_}
 use mathlib.Core.Bool.{Bool, true, false}
 use mathlib.Core.List.{List, [], _∷_}
@@ -95,4 +95,5 @@ module _ (p : Polygon) (c : Cell) where
       }
 
     pub polygon-end : n ≤ i → record { has = false; compared = n } ≡ containment (rectsOf p) c
-    polygon-end h = end (rectsOf p) c n i (v .comparing) h (array-end (p .count) i (p .rects) (omega arith) (omega arith))
+    polygon-end h = end (rectsOf p) c n i (v .comparing) h
+        (array-end (p .count) i (p .rects) (omega arith) (omega arith))

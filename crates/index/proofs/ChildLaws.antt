@@ -1,4 +1,5 @@
--- The children of a routing node: as the code reads them, and, below a sound node, as nodes that can be walked and are sound.
+-- The children of a routing node: as the code reads them, and, below a sound node, as nodes that can be walked and
+-- are sound.
 use Prim.Native.Nat.{ℕ, zero, suc, _+_, _≤_, _<_}
 use mathlib.Core.Path.{_≡_, refl, sym, _∙_}
 use mathlib.Core.List.{List, [], _∷_}
@@ -54,7 +55,8 @@ module _ (n : ℕ) (m : List ℕ) (lo k : ℕ) (v : SoundWalk (suc n) m lo k) wh
   numbers = child-numbers m k (v .walk .ends) (v .walk .few)
 
   pub branch-count : length (v .walk .node .child) ≡ countAt m k
-  branch-count = row-length (readNode fanout n m) lo k (childrenIn (part m k)) (v .walk .node .child) (parts .row) ∙ numbers .count
+  branch-count = row-length (readNode fanout n m) lo k (childrenIn (part m k)) (v .walk .node .child) (parts .row)
+      ∙ numbers .count
 
   -- stands for a child where there is none
   abbrev pub blank : Item (planeSpace fanout) (suc n)
@@ -71,25 +73,30 @@ module _ (n : ℕ) (m : List ℕ) (lo k : ℕ) (v : SoundWalk (suc n) m lo k) wh
     pub child-is : getD (childrenIn (part m k)) i 0 ≡ childAt m k i
     child-is = numbers .at i h
 
-    pub child-reads : readNode fanout n m (lowAt lo (childrenIn (part m k)) i) (getD (childrenIn (part m k)) i 0) ≡ some (getD (v .walk .node .child) i blank)
-    child-reads = row-at (readNode fanout n m) lo k (childrenIn (part m k)) i (v .walk .node .child) blank (parts .row) in-row
+    pub child-reads : readNode fanout n m (lowAt lo (childrenIn (part m k)) i) (getD (childrenIn (part m k)) i 0)
+        ≡ some (getD (v .walk .node .child) i blank)
+    child-reads = row-at (readNode fanout n m) lo k (childrenIn (part m k)) i (v .walk .node .child) blank
+        (parts .row) in-row
 
     pub child-from : lo ≤ lowAt lo (childrenIn (part m k)) i
     child-from = low-from (readNode fanout n m) lo k (childrenIn (part m k)) i (v .walk .node .child) (parts .row)
 
     pub child-below : getD (childrenIn (part m k)) i 0 < k
-    child-below = part-below (readNode fanout n m) lo k (childrenIn (part m k)) i (v .walk .node .child) (parts .row) in-row
+    child-below = part-below (readNode fanout n m) lo k (childrenIn (part m k)) i (v .walk .node .child) (parts .row)
+        in-row
 
     child-walk : Walkable n m (lowAt lo (childrenIn (part m k)) i) (getD (childrenIn (part m k)) i 0)
     child-walk = walkable n m _ _ (getD (v .walk .node .child) i blank) (v .walk .right)
-        (low-to (readNode fanout n m) lo k (childrenIn (part m k)) i (v .walk .node .child) (parts .row) in-row) child-reads
+        (low-to (readNode fanout n m) lo k (childrenIn (part m k)) i (v .walk .node .child) (parts .row) in-row)
+        child-reads
 
     pub child-polygon : getD (v .walk .node .child) i blank .poly ≡ polygonIn (part m (childAt m k i))
     child-polygon = rw (← child-is) (node-polygon n m _ _ (getD (v .walk .node .child) i blank) child-reads)
 
     pub child-sound : SoundItem (planeSpace fanout) (suc n) (v .walk .node .poly) (getD (v .walk .node .child) i blank)
     unfolding SoundItem
-    child-sound = all-at (SoundItem (planeSpace fanout) (suc n) (v .walk .node .poly)) (v .walk .node .child) i blank in-branches (v .sound .each)
+    child-sound = all-at (SoundItem (planeSpace fanout) (suc n) (v .walk .node .poly)) (v .walk .node .child)
+        i blank in-branches (v .sound .each)
 
     pub child-sound-walk : SoundWalk n m (lowAt lo (childrenIn (part m k)) i) (getD (childrenIn (part m k)) i 0)
     child-sound-walk = record {

@@ -86,7 +86,8 @@ module _ (m : List ℕ) (lo k : ℕ) (c : Cell) (ks : List ℕ) where
           count = v .count;
           i-le = omega arith;
           first = λ x g. go x g (decLt x i);
-          low-is = sym (ap (lowAt lo (childrenIn (part m k))) (add-one i) ∙ low-next lo (childrenIn (part m k)) i (rw (v .ks-are) at h)
+          low-is = sym (ap (lowAt lo (childrenIn (part m k))) (add-one i)
+              ∙ low-next lo (childrenIn (part m k)) i (rw (v .ks-are) at h)
               ∙ ap (λ (x : ℕ). x + 1) (numbers .at i inside ∙ sym part-is));
         }
           where

@@ -71,14 +71,16 @@ module _ (p : List ℕ) (n i : ℕ) (w : Bool) (v : Holding p n i w) where
     hold-is = sym (ap (λ x. x .has) f ∙ rw (l-is, r-is, c-is))
 
     pub hold-stop : not (t .has) ≡ true → false ≡ w
-    hold-stop g = passing-stop (itemTest fanout 0 (polygonIn p)) (entriesIn p n) i w (v .passing) (entryIn p i) (entries-next p n i h) (hold-is ∙ not-true (t .has) g)
+    hold-stop g = passing-stop (itemTest fanout 0 (polygonIn p)) (entriesIn p n) i w (v .passing) (entryIn p i)
+        (entries-next p n i h) (hold-is ∙ not-true (t .has) g)
 
     pub hold-on : not (t .has) ≡ false → Holding p n (i + 1) w
     hold-on g = record {
       count = v .count;
       i-le = omega arith;
       fits = v .fits;
-      passing = passing-on (itemTest fanout 0 (polygonIn p)) (entriesIn p n) i w (v .passing) (entryIn p i) (entries-next p n i h) (hold-is ∙ not-false (t .has) g);
+      passing = passing-on (itemTest fanout 0 (polygonIn p)) (entriesIn p n) i w (v .passing) (entryIn p i)
+          (entries-next p n i h) (hold-is ∙ not-false (t .has) g);
     }
 
 -- whether the entries from the j-th on have other cells than the i-th; j may have passed the last one

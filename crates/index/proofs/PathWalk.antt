@@ -1,4 +1,5 @@
--- The path of the point query's walk: a step down to the child that has the cell, the end where none has it, the loop over the levels.
+-- The path of the point query's walk: a step down to the child that has the cell, the end where none has it, the loop
+-- over the levels.
 use Prim.Native.Nat.{ℕ, zero, suc, _+_, _-_, _≤_, _<_}
 use mathlib.Core.Path.{_≡_, refl, sym, ap, _∙_}
 use mathlib.Core.Bool.{true, false}
@@ -39,12 +40,14 @@ module _ (c : Cell) (n : ℕ) (m : List ℕ) (lo k : ℕ) (v : SoundWalk (suc n)
     step-visits : visitsBelow (hasTest c) (suc n) m lo k ≡ 1 + visitsBelow (hasTest c) n m low j
     unfolding visitsBelow visitsFrom hasTest
     step-visits = rw (q .low-is, part-is, v .walk .reads, child-reads n m lo k v i (q .place .inside))
-        (visits-one (planeSpace fanout) c (cellTest c) n (v .around) (v .walk .node) (v .sound) i (blank n m lo k v) (in-branches n m lo k v i (q .place .inside)) child-has)
+        (visits-one (planeSpace fanout) c (cellTest c) n (v .around) (v .walk .node) (v .sound) i (blank n m lo k v)
+        (in-branches n m lo k v i (q .place .inside)) child-has)
 
     step-entries : heldBelow c (suc n) m lo k ≡ heldBelow c n m low j
     unfolding entriesBelow entriesFrom hasTest
     step-entries = rw (q .low-is, part-is, v .walk .reads, child-reads n m lo k v i (q .place .inside))
-        (entries-one (planeSpace fanout) c (cellTest c) n (v .around) (v .walk .node) (v .sound) i (blank n m lo k v) (in-branches n m lo k v i (q .place .inside)) child-has)
+        (entries-one (planeSpace fanout) c (cellTest c) n (v .around) (v .walk .node) (v .sound) i (blank n m lo k v)
+        (in-branches n m lo k v i (q .place .inside)) child-has)
 
   -- where no child has the cell
   module _ (q : NoneBefore m k c (countAt m k)) where
@@ -55,11 +58,13 @@ module _ (c : Cell) (n : ℕ) (m : List ℕ) (lo k : ℕ) (v : SoundWalk (suc n)
 
     end-visits : visitsBelow (hasTest c) (suc n) m lo k ≡ 1
     unfolding visitsBelow visitsFrom
-    end-visits = rw (v .walk .reads) (visits-none (planeSpace fanout) (hasTest c) (cellTest c) n (v .walk .node .child) none-has)
+    end-visits = rw (v .walk .reads)
+        (visits-none (planeSpace fanout) (hasTest c) (cellTest c) n (v .walk .node .child) none-has)
 
     end-entries : heldBelow c (suc n) m lo k ≡ []
     unfolding entriesBelow entriesFrom
-    end-entries = rw (v .walk .reads) (entries-none (planeSpace fanout) (hasTest c) (cellTest c) n (v .walk .node .child) none-has)
+    end-entries = rw (v .walk .reads)
+        (entries-none (planeSpace fanout) (hasTest c) (cellTest c) n (v .walk .node .child) none-has)
 
 -- The walk from part k came to part p, with so many levels left below it and so many visits, that of p among them.
 pub record OnPath (c : Cell) (level : ℕ) (m : List ℕ) (lo k left from p visits : ℕ) : Type 0 where
@@ -70,7 +75,12 @@ pub record OnPath (c : Cell) (level : ℕ) (m : List ℕ) (lo k left from p visi
 
 module _ (c : Cell) (level : ℕ) (m : List ℕ) (lo k : ℕ) where
   pub path-start : SoundWalk level m lo k → OnPath c level m lo k level lo k 1
-  path-start v = record { walk = v; visits-are = refl; entries-are = refl; few = visits-few (hasTest c) (cellTest c) level m lo k (v .walk) }
+  path-start v = record {
+    walk = v;
+    visits-are = refl;
+    entries-are = refl;
+    few = visits-few (hasTest c) (cellTest c) level m lo k (v .walk);
+  }
 
   pub path-children : (left from p visits : ℕ) → OnPath c level m lo k left from p visits → 0 < left → Children m p
   path-children zero from p visits x h = absurd (omega arith)
@@ -82,7 +92,8 @@ module _ (c : Cell) (level : ℕ) (m : List ℕ) (lo k : ℕ) where
       let b = x .few in
       omega arith
 
-  pub path-next : (left from p visits : ℕ) → OnPath c level m lo k left from p visits → 0 < left → (r : ChildFound) → ChildIs m from p c r
+  pub path-next : (left from p visits : ℕ) → OnPath c level m lo k left from p visits → 0 < left → (r : ChildFound)
+      → ChildIs m from p c r
       → (i low j : ℕ) → r ≡ Child i low j → OnPath c level m lo k (left - 1) low j (visits + 1)
   path-next zero from p visits x h r w i low j e = absurd (omega arith)
   path-next (suc n) from p visits x h r w i low j e =
@@ -97,8 +108,10 @@ module _ (c : Cell) (level : ℕ) (m : List ℕ) (lo k : ℕ) where
         few = x .few;
       })
 
-  pub path-none : (left from p visits : ℕ) → OnPath c level m lo k left from p visits → 0 < left → (r : ChildFound) → ChildIs m from p c r → r ≡ NoChild
-      → record { held = false; tag = 0; visits = visits } ≡ found (heldBelow c level m lo k) (visitsBelow (hasTest c) level m lo k)
+  pub path-none : (left from p visits : ℕ) → OnPath c level m lo k left from p visits → 0 < left → (r : ChildFound)
+      → ChildIs m from p c r → r ≡ NoChild
+      → record { held = false; tag = 0; visits = visits }
+      ≡ found (heldBelow c level m lo k) (visitsBelow (hasTest c) level m lo k)
   unfolding found foundOf
   path-none zero from p visits x h r w e = absurd (omega arith)
   path-none (suc n) from p visits x h r w e =
@@ -109,17 +122,20 @@ module _ (c : Cell) (level : ℕ) (m : List ℕ) (lo k : ℕ) where
       rw (← (x .entries-are), end-entries c n m from p (x .walk) q, ← s)
 
   -- the last node of the path is a leaf
-  module _ (left from p visits : ℕ) (x : OnPath c level m lo k left from p visits) (z : left ≤ 0) (l : List ℕ) (l-is : l ≡ part m p) where
+  module _ (left from p visits : ℕ) (x : OnPath c level m lo k left from p visits) (z : left ≤ 0) (l : List ℕ)
+      (l-is : l ≡ part m p) where
     at-leaf : Walkable 0 m from p
     at-leaf = let e : left ≡ 0 = omega arith in rw e at (x .walk .walk)
 
     pub path-part : NodePart l
     path-part = node-part 0 m from p at-leaf l l-is
 
-    pub path-leaf : (r : Found) → r ≡ found (leafEntries (cellTest c) l) visits → r ≡ found (heldBelow c level m lo k) (visitsBelow (hasTest c) level m lo k)
+    pub path-leaf : (r : Found) → r ≡ found (leafEntries (cellTest c) l) visits
+        → r ≡ found (heldBelow c level m lo k) (visitsBelow (hasTest c) level m lo k)
     path-leaf r e =
         let q : left ≡ 0 = omega arith in
-        let a : visits + visitsBelow (hasTest c) 0 m from p ≡ 1 + visitsBelow (hasTest c) level m lo k = rw q at (x .visits-are) in
+        let a : visits + visitsBelow (hasTest c) 0 m from p
+        ≡ 1 + visitsBelow (hasTest c) level m lo k = rw q at (x .visits-are) in
         let b = leaf-visits (hasTest c) (cellTest c) m from p at-leaf in
         let d : heldBelow c 0 m from p ≡ heldBelow c level m lo k = rw q at (x .entries-are) in
         let s : visits ≡ visitsBelow (hasTest c) level m lo k = omega arith in

@@ -29,7 +29,8 @@ module _ (c : Cell) (p : List ℕ) (n i : ℕ) (a : AtEntry (cellTest c) p n i [
     of-cell : b ≡ cellTest c (entryIn p i)
     of-cell = entry-test (cellTest c) p n i [] a leaf q h b e
 
-    pub leaf-held : (t visits : ℕ) → b ≡ true → t ≡ nodeEntry leaf i .tag → record { held = true; tag = t; visits = visits } ≡ found (leafEntries (cellTest c) p) visits
+    pub leaf-held : (t visits : ℕ) → b ≡ true → t ≡ nodeEntry leaf i .tag
+        → record { held = true; tag = t; visits = visits } ≡ found (leafEntries (cellTest c) p) visits
     unfolding found foundOf
     leaf-held t visits f g =
         let k = entry-tag (cellTest c) p n i [] a leaf q h t g in
@@ -38,6 +39,7 @@ module _ (c : Cell) (p : List ℕ) (n i : ℕ) (a : AtEntry (cellTest c) p n i [
     pub leaf-passed : b ≡ false → AtEntry (cellTest c) p n (i + 1) []
     leaf-passed f = entry-miss (cellTest c) p n i [] a h b of-cell f
 
-  pub leaf-not-held : (visits : ℕ) → [] ≡ leafEntries (cellTest c) p → record { held = false; tag = 0; visits = visits } ≡ found (leafEntries (cellTest c) p) visits
+  pub leaf-not-held : (visits : ℕ) → [] ≡ leafEntries (cellTest c) p
+      → record { held = false; tag = 0; visits = visits } ≡ found (leafEntries (cellTest c) p) visits
   unfolding found foundOf
   leaf-not-held visits e = rw (← e)

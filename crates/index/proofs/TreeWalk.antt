@@ -31,7 +31,8 @@ module _ (m : List ℕ) (level root : ℕ) (v : TreeIn m level root) where
   root-walkable : Walkable (v .tree .level) m 0 (rootIn m)
   root-walkable =
       let r = read-as fanout m (v .tree) (v .reads) in
-      walkable (v .tree .level) m 0 (rootIn m) (top (planeSpace fanout) (v .tree)) (r .right) (omega arith) (r .root-node)
+      walkable (v .tree .level) m 0 (rootIn m) (top (planeSpace fanout) (v .tree)) (r .right) (omega arith)
+      (r .root-node)
 
   pub tree-walkable : Walkable level m 0 root
   tree-walkable = rw (← (v .level-is), ← (v .root-is)) root-walkable
@@ -39,11 +40,13 @@ module _ (m : List ℕ) (level root : ℕ) (v : TreeIn m level root) where
   -- the root is sound, too
   pub root-sound-walk : SoundWalk (v .tree .level) m 0 (rootIn m)
   root-sound-walk =
-      let n : root-walkable .node ≡ top (planeSpace fanout) (v .tree) = Option·some-injective _ _ (sym (root-walkable .reads) ∙ read-as fanout m (v .tree) (v .reads) .root-node) in
+      let n : root-walkable .node ≡ top (planeSpace fanout) (v .tree) = Option·some-injective _ _
+      (sym (root-walkable .reads) ∙ read-as fanout m (v .tree) (v .reads) .root-node) in
       record {
         walk = root-walkable;
         around = v .tree .root;
-        sound = rw n (top-sound (planeSpace fanout) (planeRoot fanout) (v .tree) (read-sound fanout m (v .tree) (v .reads) .sound));
+        sound = rw n (top-sound (planeSpace fanout) (planeRoot fanout) (v .tree)
+            (read-sound fanout m (v .tree) (v .reads) .sound));
       }
 
   pub tree-sound-walk : SoundWalk level m 0 root

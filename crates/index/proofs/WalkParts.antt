@@ -24,11 +24,16 @@ any-of p [] = refl
 any-of p (r ∷ l) = ap (λ b. p r || b) (any-of p l)
 
 -- the tests of the polygon at part k, from the part and its rectangles as they are lent
-module _ (m : List ℕ) (k : ℕ) (p l : List ℕ) (r : ℕ) (p-is : p ≡ part m k) (l-is : l ≡ rectNumbers p) (r-is : r ≡ rectCount p) where
-  pub polygon-has : (t : Containment) (c : Cell) → t ≡ containment (rectsIn l r) c → t .has ≡ hasTest c (polygonIn (part m k))
+module _ (m : List ℕ) (k : ℕ) (p l : List ℕ) (r : ℕ) (p-is : p ≡ part m k) (l-is : l ≡ rectNumbers p)
+    (r-is : r ≡ rectCount p) where
+  pub polygon-has : (t : Containment) (c : Cell) → t ≡ containment (rectsIn l r) c
+      → t .has ≡ hasTest c (polygonIn (part m k))
   unfolding hasTest containment
-  polygon-has t c e = ap (λ x. x .has) e ∙ ap (λ q. anyHas q c) (lent-polygon m k p l r p-is l-is r-is) ∙ sym (has-is fanout (polygonIn (part m k)) c)
+  polygon-has t c e = ap (λ x. x .has) e ∙ ap (λ q. anyHas q c) (lent-polygon m k p l r p-is l-is r-is)
+      ∙ sym (has-is fanout (polygonIn (part m k)) c)
 
-  pub polygon-meets : (b : Bool) (w : Rect) → b ≡ any (sharesWith w) (rectsIn l r) → b ≡ meetsTest w (polygonIn (part m k))
+  pub polygon-meets : (b : Bool) (w : Rect) → b ≡ any (sharesWith w) (rectsIn l r)
+      → b ≡ meetsTest w (polygonIn (part m k))
   unfolding meetsTest meets
-  polygon-meets b w e = e ∙ ap (any (sharesWith w)) (lent-polygon m k p l r p-is l-is r-is) ∙ any-of (sharesWith w) (polygonIn (part m k))
+  polygon-meets b w e = e ∙ ap (any (sharesWith w)) (lent-polygon m k p l r p-is l-is r-is)
+      ∙ any-of (sharesWith w) (polygonIn (part m k))

@@ -12,7 +12,8 @@ use Rattle.index.specs.declared.child.ChildFound.{ChildFound}
 use Rattle.index.specs.declared.child.ChildFound.the-variants.{Child, NoChild}
 use Rattle.index.specs.Walks.{hasTest}
 
--- The node at part k has children in lower parts, whose polygons can be read. A routing node has this (the law children-of).
+-- The node at part k has children in lower parts, whose polygons can be read. A routing node has this (the law
+-- children-of).
 pub record Children (m : List ℕ) (k : ℕ) : Type 0 where
   pub below : k < 256
   pub ends : PartIn m k
@@ -29,8 +30,8 @@ pub record ChildHas (m : List ℕ) (k : ℕ) (c : Cell) (i : ℕ) : Type 0 where
 abbrev pub NoneBefore : List ℕ → ℕ → Cell → ℕ → Type 0
 NoneBefore m k c i = (j : ℕ) → j < i → hasTest c (polygonIn (part m (childAt m k j))) ≡ false
 
--- The i-th child of the node at part k, at part j, is the first that has the cell; its subtree has the parts from low on, that of the
--- node those from lo on.
+-- The i-th child of the node at part k, at part j, is the first that has the cell; its subtree has the parts from low
+-- on, that of the node those from lo on.
 pub record FirstChild (m : List ℕ) (lo k : ℕ) (c : Cell) (i low j : ℕ) : Type 0 where
   pub place : ChildHas m k c i
   pub first : NoneBefore m k c i

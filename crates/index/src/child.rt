@@ -12,8 +12,8 @@ pub enum ChildFound {
     NoChild,
 }
 
-// The first child of the node at part k whose polygon has the cell. Later ones are not asked: siblings share no cell. The
-// node's subtree has the parts from lo on.
+// The first child of the node at part k whose polygon has the cell. Later ones are not asked: siblings share no cell.
+// The node's subtree has the parts from lo on.
 pub fn child_with(m: &[u32], lo: u32, k: u32, c: Cell) -> ChildFound
     requires { ⌜ Children (now m) k ⌝ }
     ensures { λ r. ⌜ ChildIs (now (m .entry)) lo k c r ⌝ }

@@ -60,8 +60,8 @@ fn point_in_leaf(p: &[u32], c: Cell, visits: u32) -> Found
     }
 }
 
-// The walk below the node at part k, whose subtree has the parts from lo on: one path, down to a leaf or to a node without
-// a child that has the cell.
+// The walk below the node at part k, whose subtree has the parts from lo on: one path, down to a leaf or to a node
+// without a child that has the cell.
 pub fn point_below(m: &[u32], level: u32, lo: u32, k: u32, c: Cell) -> Found
     requires { ⌜ SoundWalk level (now m) lo k ⌝ }
     ensures { λ r. ⌜ r ≡ found (heldBelow c level (now (m .entry)) lo k) (visitsBelow (hasTest c) level (now (m .entry)) lo k) ⌝ }

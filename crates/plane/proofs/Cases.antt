@@ -35,9 +35,11 @@ AllHold (r ∷ l) = Holds r × AllHold l
 abbrev pub others : List Row
 others =
     -- G10
-    leaf (cellOf 0 5 ∷ cellOf 1 5 ∷ cellOf 2 5 ∷ cellOf 3 5 ∷ cellOf 4 5 ∷ cellOf 5 5 ∷ cellOf 6 5 ∷ cellOf 7 5 ∷ cellOf 8 5 ∷ []) (AtX 5)
+    leaf (cellOf 0 5 ∷ cellOf 1 5 ∷ cellOf 2 5 ∷ cellOf 3 5 ∷ cellOf 4 5 ∷ cellOf 5 5 ∷ cellOf 6 5 ∷ cellOf 7 5
+    ∷ cellOf 8 5 ∷ []) (AtX 5)
     -- G11
-    ∷ leaf (cellOf 0 0 ∷ cellOf 0 1 ∷ cellOf 0 2 ∷ cellOf 1 0 ∷ cellOf 1 1 ∷ cellOf 1 2 ∷ cellOf 2 0 ∷ cellOf 2 1 ∷ cellOf 2 2 ∷ []) (AtX 2)
+    ∷ leaf (cellOf 0 0 ∷ cellOf 0 1 ∷ cellOf 0 2 ∷ cellOf 1 0 ∷ cellOf 1 1 ∷ cellOf 1 2 ∷ cellOf 2 0 ∷ cellOf 2 1
+    ∷ cellOf 2 2 ∷ []) (AtX 2)
     -- G12
     ∷ query none none 0
     ∷ []

@@ -67,7 +67,8 @@ abbrev pub table : List Row
 table =
     record { index = none; asks = cellOf 5 5; answers = refusal 10 }
     ∷ row (oneLeaf (rectOf 0 0 1 1) (entry 0 0 ∷ [])) (cellOf 65535 65535) (entry 0 0) 8589672450 1
-    ∷ row (oneLeaf (rectOf 0 0 11 11) (entry 5 10 ∷ entry 10 5 ∷ entry 5 0 ∷ entry 0 5 ∷ [])) (cellOf 5 5) (entry 0 5) 25 1
+    ∷ row (oneLeaf (rectOf 0 0 11 11) (entry 5 10 ∷ entry 10 5 ∷ entry 5 0 ∷ entry 0 5 ∷ [])) (cellOf 5 5) (entry 0 5)
+    25 1
     ∷ row (oneLeaf (rectOf 0 0 11 11) (entry 5 10 ∷ entry 10 5 ∷ entry 5 0 ∷ [])) (cellOf 5 5) (entry 5 0) 25 1
     ∷ row g10 (cellOf 0 5) (entry 0 5) 0 2
     ∷ row g10 (cellOf 4 9) (entry 4 5) 16 2
@@ -77,7 +78,8 @@ table =
     ∷ row (g10With (entry 0 5 ∷ entry 1 5 ∷ entry 2 5 ∷ [])) (cellOf 4 5) (entry 5 5) 1 3
     ∷ row (g10With (entry 0 5 ∷ entry 1 5 ∷ entry 2 5 ∷ [])) (cellOf 3 5) (entry 2 5) 1 2
     ∷ row
-    (twoLeaves (rectOf 4 0 6 6) (record { poly = rectOf 5 0 6 1 ∷ []; child = entry 5 0 ∷ [] }) (record { poly = rectOf 4 3 5 6 ∷ []; child = entry 4 5 ∷ entry 4 3 ∷ [] }))
+    (twoLeaves (rectOf 4 0 6 6) (record { poly = rectOf 5 0 6 1 ∷ []; child = entry 5 0 ∷ [] })
+    (record { poly = rectOf 4 3 5 6 ∷ []; child = entry 4 5 ∷ entry 4 3 ∷ [] }))
     (cellOf 0 0)
     (entry 4 3)
     25

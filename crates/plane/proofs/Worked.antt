@@ -29,7 +29,12 @@ entry a b t = record { cell = cellOf a b; tag = t }
 
 -- G10's leaf before its ninth cell
 abbrev before : Tree (planeSpace 8)
-before = record { level = 0; root = rectOf 0 5 8 6 ∷ []; items = entry 0 5 0 ∷ entry 1 5 1 ∷ entry 2 5 2 ∷ entry 3 5 3 ∷ entry 4 5 4 ∷ entry 5 5 5 ∷ entry 6 5 6 ∷ entry 7 5 7 ∷ [] }
+before = record {
+  level = 0;
+  root = rectOf 0 5 8 6 ∷ [];
+  items = entry 0 5 0 ∷ entry 1 5 1 ∷ entry 2 5 2 ∷ entry 3 5 3
+      ∷ entry 4 5 4 ∷ entry 5 5 5 ∷ entry 6 5 6 ∷ entry 7 5 7 ∷ [];
+}
 
 -- and after it: split at x, l = 5
 abbrev after : Tree (planeSpace 8)
@@ -37,7 +42,11 @@ after = record {
   level = 1;
   root = rectOf 0 5 9 6 ∷ [];
   items =
-      record { poly = rectOf 0 5 5 6 ∷ []; child = entry 0 5 0 ∷ entry 1 5 1 ∷ entry 2 5 2 ∷ entry 3 5 3 ∷ entry 4 5 4 ∷ [] }
+      record {
+        poly = rectOf 0 5 5 6 ∷ [];
+        child = entry 0 5 0 ∷ entry 1 5 1 ∷ entry 2 5 2 ∷ entry 3 5 3 ∷ entry 4 5 4
+            ∷ [];
+      }
       ∷ record { poly = rectOf 5 5 9 6 ∷ []; child = entry 5 5 5 ∷ entry 6 5 6 ∷ entry 7 5 7 ∷ entry 8 5 8 ∷ [] } ∷ [];
 }
 
@@ -51,18 +60,24 @@ grownAfter = record {
   level = 1;
   root = rectOf 0 5 9 8 ∷ [];
   items =
-      record { poly = rectOf 0 5 5 8 ∷ []; child = entry 0 5 0 ∷ entry 1 5 1 ∷ entry 2 5 2 ∷ entry 3 5 3 ∷ entry 4 5 4 ∷ entry 3 7 9 ∷ [] }
+      record {
+        poly = rectOf 0 5 5 8 ∷ [];
+        child = entry 0 5 0 ∷ entry 1 5 1 ∷ entry 2 5 2 ∷ entry 3 5 3 ∷ entry 4 5 4
+            ∷ entry 3 7 9 ∷ [];
+      }
       ∷ record { poly = rectOf 5 5 9 6 ∷ []; child = entry 5 5 5 ∷ entry 6 5 6 ∷ entry 7 5 7 ∷ entry 8 5 8 ∷ [] } ∷ [];
 }
 
 -- the extra areas of the two branches' polygons: each is of one rectangle
 left-extra : extra (plane 8) (rectOf 0 5 5 6 ∷ []) (rectOf 0 5 5 6) (cellOf 3 7) ≡ 10
 unfolding area grown valid onGrid
-left-extra = extra-area 8 (rectOf 0 5 5 6 ∷ []) (rectOf 0 5 5 6) (cellOf 3 7) ∙ extra-single (rectOf 0 5 5 6) (cellOf 3 7) refl refl
+left-extra = extra-area 8 (rectOf 0 5 5 6 ∷ []) (rectOf 0 5 5 6) (cellOf 3 7)
+    ∙ extra-single (rectOf 0 5 5 6) (cellOf 3 7) refl refl
 
 right-extra : extra (plane 8) (rectOf 5 5 9 6 ∷ []) (rectOf 5 5 9 6) (cellOf 3 7) ≡ 14
 unfolding area grown valid onGrid
-right-extra = extra-area 8 (rectOf 5 5 9 6 ∷ []) (rectOf 5 5 9 6) (cellOf 3 7) ∙ extra-single (rectOf 5 5 9 6) (cellOf 3 7) refl refl
+right-extra = extra-area 8 (rectOf 5 5 9 6 ∷ []) (rectOf 5 5 9 6) (cellOf 3 7)
+    ∙ extra-single (rectOf 5 5 9 6) (cellOf 3 7) refl refl
 
 pub tenth : insertTree (planeSpace 8) (planeRoot 8) (some after) (entry 3 7 9) ≡ some grownAfter
 unfolding insertTree insertAt bind split half flatMap leafLine total choose grownPoly cutEach atMost anyHas any first least hasCell area grown overlap common cut xCeiling xFloor yCeiling yFloor unlessEmpty nonEmpty within strictlyWithin stacked abreast joinable union joins refine refineSteps refineStep firstFrom contained partner hasPartner firstContained firstJoin

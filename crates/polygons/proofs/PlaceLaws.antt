@@ -25,7 +25,8 @@ module _ {A : Type 0} (t : A → Bool) where
   place-passes (a ∷ l) d h = go (t a) refl (place-passes l d) h
     where
       go : (b : Bool) → t a ≡ b → (firstPlace t l < length l → t (getD l (firstPlace t l) d) ≡ true)
-          → cond b zero (suc (firstPlace t l)) < suc (length l) → t (getD (a ∷ l) (cond b zero (suc (firstPlace t l))) d) ≡ true
+          → cond b zero (suc (firstPlace t l)) < suc (length l)
+          → t (getD (a ∷ l) (cond b zero (suc (firstPlace t l))) d) ≡ true
       go true e f h = e
       go false e f h = f (omega arith)
 
@@ -47,7 +48,8 @@ module _ {A : Type 0} (t : A → Bool) where
   place-some [] h = absurd (false≢true h)
   place-some (a ∷ l) h = go (t a) (place-some l) h
     where
-      go : (b : Bool) → (any t l ≡ true → firstPlace t l < length l) → b || any t l ≡ true → cond b zero (suc (firstPlace t l)) < suc (length l)
+      go : (b : Bool) → (any t l ≡ true → firstPlace t l < length l) → b || any t l ≡ true
+          → cond b zero (suc (firstPlace t l)) < suc (length l)
       go true f h = omega arith
       go false f h = let k = f h in omega arith
 
@@ -67,7 +69,8 @@ module _ {A : Type 0} (t : A → Bool) where
   compared-none [] h = refl
   compared-none (a ∷ l) h = go (t a) (compared-none l) h
     where
-      go : (b : Bool) → (any t l ≡ false → comparedBy t l ≡ length l) → b || any t l ≡ false → cond b 1 (suc (comparedBy t l)) ≡ suc (length l)
+      go : (b : Bool) → (any t l ≡ false → comparedBy t l ≡ length l) → b || any t l ≡ false
+          → cond b 1 (suc (comparedBy t l)) ≡ suc (length l)
       go true f h = absurd (true≢false h)
       go false f h = let k = f h in omega arith
 

@@ -14,8 +14,8 @@ unfoldable pub firstPlace : {A : Type 0} → (A → Bool) → List A → ℕ
 firstPlace t [] = zero
 firstPlace t (a ∷ l) = let later = firstPlace t l in cond (t a) zero (suc later)
 
--- How many elements are compared, in order, until one passes the test. A.3: 'up to and with the first that has the cell, or all
--- if none has it'.
+-- How many elements are compared, in order, until one passes the test. A.3: 'up to and with the first that has the
+-- cell, or all if none has it'.
 unfoldable pub comparedBy : {A : Type 0} → (A → Bool) → List A → ℕ
 comparedBy t [] = zero
 comparedBy t (a ∷ l) = let later = comparedBy t l in cond (t a) 1 (suc later)

@@ -31,11 +31,13 @@ module _ (level : ℕ) (m : List ℕ) (lo k : ℕ) (c : Cell) (v : Removable lev
       below-leaf m′ r t = rw z (leaf-removed m lo k c (rw z at v) i (rw e at q) m′ r t)
 
 -- the children of a routing node, of which one has the cell
-pub below-children : (level : ℕ) (m : List ℕ) (lo k : ℕ) (c : Cell) → Removable level m lo k c → (level ≡ 0 → ⊥) → Children m k
+pub below-children : (level : ℕ) (m : List ℕ) (lo k : ℕ) (c : Cell) → Removable level m lo k c → (level ≡ 0 → ⊥)
+    → Children m k
 below-children zero m lo k c v ne = absurd (ne refl)
 below-children (suc n) m lo k c v ne = children-of n m lo k (v .path)
 
-pub below-some : (level : ℕ) (m : List ℕ) (lo k : ℕ) (c : Cell) (r : ChildFound) → Removable level m lo k c → (level ≡ 0 → ⊥) → ChildIs m lo k c r → r ≡ NoChild
+pub below-some : (level : ℕ) (m : List ℕ) (lo k : ℕ) (c : Cell) (r : ChildFound) → Removable level m lo k c
+    → (level ≡ 0 → ⊥) → ChildIs m lo k c r → r ≡ NoChild
     → RemovedBelow level m lo k c m true
 below-some zero m lo k c r v ne w e = absurd (ne refl)
 below-some (suc n) m lo k c r v ne w e = absurd (some-has n m lo k c v (rw e at w))
@@ -60,21 +62,25 @@ module _ (m : List ℕ) (lo k : ℕ) (c : Cell) (i low j : ℕ) (q : FirstChild 
         let e : suc n - 1 ≡ n = omega arith in
         rw (e, q .low-is, child-number n v) at x
 
-    stays : (level : ℕ) → Removable level m lo k c → (level ≡ 0 → ⊥) → RemovedBelow (level - 1) m low j c m₁ t → t ≡ true → RemovedBelow level m lo k c m₁ true
+    stays : (level : ℕ) → Removable level m lo k c → (level ≡ 0 → ⊥) → RemovedBelow (level - 1) m low j c m₁ t
+        → t ≡ true → RemovedBelow level m lo k c m₁ true
     stays zero v ne x e = absurd (ne refl)
     stays (suc n) v ne x e = child-stays n m lo k c v i (q .place) m₁ t (child-removed n v x) e
 
-    takes : (level : ℕ) → Removable level m lo k c → (level ≡ 0 → ⊥) → RemovedBelow (level - 1) m low j c m₁ t → TakesItem m₁ k i
+    takes : (level : ℕ) → Removable level m lo k c → (level ≡ 0 → ⊥) → RemovedBelow (level - 1) m low j c m₁ t
+        → TakesItem m₁ k i
     takes zero v ne x = absurd (ne refl)
     takes (suc n) v ne x = branch-takes n m lo k c v i (q .place) m₁ t (child-removed n v x)
 
-    taken : (level : ℕ) → Removable level m lo k c → (level ≡ 0 → ⊥) → RemovedBelow (level - 1) m low j c m₁ t → t ≡ false
+    taken : (level : ℕ) → Removable level m lo k c → (level ≡ 0 → ⊥) → RemovedBelow (level - 1) m low j c m₁ t
+        → t ≡ false
         → (m₂ : List ℕ) (s : Bool) → BranchTaken m₁ k i m₂ s → RemovedBelow level m lo k c m₂ s
     taken zero v ne x e m₂ s y = absurd (ne refl)
     taken (suc n) v ne x e m₂ s y = node-removed n m lo k c v i (q .place) m₁ t (child-removed n v x) e m₂ s y
 
 -- the same, from what was found
-module _ (level : ℕ) (m : List ℕ) (lo k : ℕ) (c : Cell) (v : Removable level m lo k c) (ne : level ≡ 0 → ⊥) (r : ChildFound) (w : ChildIs m lo k c r)
+module _ (level : ℕ) (m : List ℕ) (lo k : ℕ) (c : Cell) (v : Removable level m lo k c) (ne : level ≡ 0 → ⊥)
+    (r : ChildFound) (w : ChildIs m lo k c r)
     (i low j : ℕ) (e : r ≡ Child i low j) where
   found : FirstChild m lo k c i low j
   found = rw e at w

@@ -53,7 +53,8 @@ module _ (m : List ℕ) (lo k : ℕ) (c : Cell) (v : Removable 0 m lo k c) where
   count-is = ap length (parts .entries) ∙ entries-length (part m k) (itemCount (part m k))
 
   -- the i-th entry of the leaf
-  entry-is : (i : ℕ) (d : CellEntry) → i < itemCount (part m k) → getD (v .path .walk .node .child) i d ≡ entryIn (part m k) i
+  entry-is : (i : ℕ) (d : CellEntry) → i < itemCount (part m k)
+      → getD (v .path .walk .node .child) i d ≡ entryIn (part m k) i
   entry-is i d h = ap (λ (l : List CellEntry). getD l i d) (parts .entries) ∙ entry-at (part m k) (itemCount (part m k)) i d h
 
   node-part : NodePart (part m k)
@@ -68,7 +69,9 @@ module _ (m : List ℕ) (lo k : ℕ) (c : Cell) (v : Removable 0 m lo k c) where
       let n = count-is in
       let h = holder (planeSpace fanout) (plane-space-laws fanout) 0 c (v .path .walk .node .child) d (v .holds) in
       let i = h .inside in
-      let e = holder-has (planeSpace fanout) (plane-space-laws fanout) 0 c (v .path .walk .node .poly) _ (all-at (SoundItem (planeSpace fanout) 0 (v .path .walk .node .poly)) (v .path .walk .node .child) (h .at) d i (s .each)) (h .holds) in
+      let e = holder-has (planeSpace fanout) (plane-space-laws fanout) 0 c (v .path .walk .node .poly) _
+      (all-at (SoundItem (planeSpace fanout) 0 (v .path .walk .node .poly)) (v .path .walk .node .child) (h .at)
+      d i (s .each)) (h .holds) in
       record {
         leaf = node-part;
         at = h .at;
@@ -80,7 +83,8 @@ module _ (m : List ℕ) (lo k : ℕ) (c : Cell) (v : Removable 0 m lo k c) where
     leaf-takes = record { used = used; item = record { node = node-part; inside = place .inside } }
 
     -- what is left of the entries
-    leaf-without : without (planeSpace fanout) 0 c (v .path .walk .node .child) ≡ withoutAt i (v .path .walk .node .child)
+    leaf-without : without (planeSpace fanout) 0 c (v .path .walk .node .child)
+        ≡ withoutAt i (v .path .walk .node .child)
     unfolding SoundItem itemHas cellTest prune
     leaf-without =
         let d = entryIn (part m k) 0 in
@@ -89,7 +93,8 @@ module _ (m : List ℕ) (lo k : ℕ) (c : Cell) (v : Removable 0 m lo k c) where
         let i-in = place .inside in
         let e = entry-is i d (place .inside) in
         let t : itemHas (planeSpace fanout) 0 (getD (v .path .walk .node .child) i d) c ≡ true = rw e (place .is) in
-        without-at (planeSpace fanout) (plane-space-laws fanout) 0 c (v .path .walk .node .poly) (v .path .walk .node .child) i d (s .each) (s .apart) (omega arith) t
+        without-at (planeSpace fanout) (plane-space-laws fanout) 0 c (v .path .walk .node .poly)
+        (v .path .walk .node .child) i d (s .each) (s .apart) (omega arith) t
         ∙ rw t
 
     left-length : length (withoutAt i (v .path .walk .node .child)) ≡ itemCount (part m k) - 1
@@ -113,11 +118,14 @@ module _ (m : List ℕ) (lo k : ℕ) (c : Cell) (v : Removable 0 m lo k c) where
         let b = entries-nodes (withoutAt i (v .path .walk .node .child)) in
         let o = set-bits m k p e size in
         rw (z .dropped .memory)
-        (removed-left 0 m lo k c (setPart m k p) (v .path .walk .node) (v .path .walk .reads) (set-unused m k used few-parts (v .unused) p size)
-        (beside-wider m lo k k k _ (v .path .walk .from) (omega arith) (set-beside m k used few-parts (v .unused) p size))
+        (removed-left 0 m lo k c (setPart m k p) (v .path .walk .node) (v .path .walk .reads)
+        (set-unused m k used few-parts (v .unused) p size)
+        (beside-wider m lo k k k _ (v .path .walk .from) (omega arith)
+        (set-beside m k used few-parts (v .unused) p size))
         (withoutAt i (v .path .walk .node .child)) leaf-without (omega arith)
         (make-leaf fanout (setPart m k p) lo k _ (record {
-          fits = fits-dropped 3 m k m (setPart m k p) p (parts .fits) (set-length m k p e size) refl (set-in-use m k p e size k (v .path .walk .below) ∙ fits .used) same d f;
+          fits = fits-dropped 3 m k m (setPart m k p) p (parts .fits) (set-length m k p e size) refl
+              (set-in-use m k p e size k (v .path .walk .below) ∙ fits .used) same d f;
           polygon = parts .polygon ∙ sym (d .polygon) ∙ ap polygonIn (sym same);
           entries = rw (same, parts .entries) (sym (z .dropped .entry .entries));
         }))
@@ -131,7 +139,8 @@ module _ (m : List ℕ) (lo k : ℕ) (c : Cell) (v : Removable 0 m lo k c) where
         let a = entries-nodes (v .path .walk .node .child) in
         let o = freed-bits m k used few-parts (v .unused) in
         rw (z .memory)
-        (removed-gone 0 m lo k c (freed m k) (v .path .walk .node) (v .path .walk .reads) (freed-unused m k used few-parts (v .unused))
+        (removed-gone 0 m lo k c (freed m k) (v .path .walk .node) (v .path .walk .reads)
+        (freed-unused m k used few-parts (v .unused))
         (beside-wider m lo k k k _ (v .path .walk .from) (omega arith) (freed-beside m k used few-parts (v .unused)))
         (leaf-without ∙ no-items (withoutAt i (v .path .walk .node .child)) (omega arith)) (omega arith))
 

@@ -65,16 +65,19 @@ module _ (n : ℕ) (m : List ℕ) (lo k : ℕ) (c : Cell) (v : Removable (suc n)
   pub some-has : NoneBefore m k c (countAt m k) → ⊥
   unfolding held itemHas hasTest
   some-has q =
-      let r = holder (planeSpace fanout) (plane-space-laws fanout) (suc n) c (v .path .walk .node .child) (blank n m lo k (v .path)) (v .holds) in
+      let r = holder (planeSpace fanout) (plane-space-laws fanout) (suc n) c (v .path .walk .node .child)
+      (blank n m lo k (v .path)) (v .holds) in
       let s : r .at < countAt m k = (let e = branch-count n m lo k (v .path) in let f = r .inside in omega arith) in
-      let t = holder-has (planeSpace fanout) (plane-space-laws fanout) (suc n) c (v .path .walk .node .poly) _ (child-sound n m lo k (v .path) (r .at) s) (r .holds) in
+      let t = holder-has (planeSpace fanout) (plane-space-laws fanout) (suc n) c (v .path .walk .node .poly) _
+      (child-sound n m lo k (v .path) (r .at) s) (r .holds) in
       contrary _ t (rw (child-polygon n m lo k (v .path) (r .at) s) (q (r .at) s))
 
   module _ (i : ℕ) (q : ChildHas m k c i) where
     here : i < length (v .path .walk .node .child)
     here = in-branches n m lo k (v .path) i (q .inside)
 
-    child-has : itemHas (planeSpace fanout) (suc n) (getD (v .path .walk .node .child) i (blank n m lo k (v .path))) c ≡ true
+    child-has : itemHas (planeSpace fanout) (suc n) (getD (v .path .walk .node .child) i (blank n m lo k (v .path))) c
+        ≡ true
     unfolding itemHas hasTest
     child-has = rw (child-polygon n m lo k (v .path) i (q .inside)) (q .has)
 
@@ -85,15 +88,21 @@ module _ (n : ℕ) (m : List ℕ) (lo k : ℕ) (c : Cell) (v : Removable (suc n)
       path = child-sound-walk n m lo k (v .path) i (q .inside);
       unused = v .unused;
       holds = rw (child-node n m lo k (v .path) i (q .inside))
-          (has-holds (planeSpace fanout) (plane-space-laws fanout) (suc n) c (v .path .walk .node .poly) (v .path .walk .node .child) i (blank n m lo k (v .path)) (v .path .sound .each) (v .path .sound .apart) here child-has (v .holds));
+          (has-holds (planeSpace fanout) (plane-space-laws fanout) (suc n) c (v .path .walk .node .poly)
+          (v .path .walk .node .child) i (blank n m lo k (v .path)) (v .path .sound .each) (v .path .sound .apart)
+          here child-has (v .holds));
     }
 
     -- what is left of the branches
     branches-left : without (planeSpace fanout) (suc n) c (v .path .walk .node .child)
-        ≡ take i (v .path .walk .node .child) ++ (nodeLeft n c (getD (v .path .walk .node .child) i (blank n m lo k (v .path))) ++ drop (i + 1) (v .path .walk .node .child))
+        ≡ take i (v .path .walk .node .child) ++
+        (nodeLeft n c (getD (v .path .walk .node .child) i (blank n m lo k (v .path))) ++ drop (i + 1)
+        (v .path .walk .node .child))
     unfolding SoundItem
     branches-left =
-        without-at (planeSpace fanout) (plane-space-laws fanout) (suc n) c (v .path .walk .node .poly) (v .path .walk .node .child) i (blank n m lo k (v .path)) (v .path .sound .each) (v .path .sound .apart) here child-has
+        without-at (planeSpace fanout) (plane-space-laws fanout) (suc n) c (v .path .walk .node .poly)
+        (v .path .walk .node .child) i (blank n m lo k (v .path)) (v .path .sound .each) (v .path .sound .apart)
+        here child-has
 
     module _ (m₁ : List ℕ) (t : Bool) (r : RemovedBelow n m (lowAt lo (childrenIn (part m k)) i) (getD (childrenIn (part m k)) i 0) c m₁ t) where
       child-was : r .node ≡ getD (v .path .walk .node .child) i (blank n m lo k (v .path))
@@ -113,7 +122,8 @@ module _ (n : ℕ) (m : List ℕ) (lo k : ℕ) (c : Cell) (v : Removable (suc n)
 
       -- the bits fall with the nodes
       bits₁ : bitsSet m₁ + total (nodes (planeSpace fanout) (suc n)) (v .path .walk .node .child)
-          ≡ bitsSet m + total (nodes (planeSpace fanout) (suc n)) (without (planeSpace fanout) (suc n) c (v .path .walk .node .child))
+          ≡ bitsSet m + total (nodes (planeSpace fanout) (suc n))
+          (without (planeSpace fanout) (suc n) c (v .path .walk .node .child))
       bits₁ =
           let f = nodes (planeSpace fanout) (suc n) in
           let bs = v .path .walk .node .child in
@@ -121,7 +131,8 @@ module _ (n : ℕ) (m : List ℕ) (lo k : ℕ) (c : Cell) (v : Removable (suc n)
           let a = total-at f bs i (blank n m lo k (v .path)) here in
           let b : total f (without (planeSpace fanout) (suc n) c bs) ≡ total f (take i bs) + (total f l + total f (drop (i + 1) bs)) =
           ap (total f) branches-left ∙ total-append f (take i bs) (l ++ drop (i + 1) bs) ∙ ap (λ (x : ℕ). total f (take i bs) + x) (total-append f l (drop (i + 1) bs)) in
-          let e : bitsSet m₁ + f (getD bs i (blank n m lo k (v .path))) ≡ bitsSet m + total f l = rw child-was at (r .bits) in
+          let e : bitsSet m₁ + f (getD bs i (blank n m lo k (v .path)))
+          ≡ bitsSet m + total f l = rw child-was at (r .bits) in
           omega arith
 
       parts₁ : (j : ℕ) → lo ≤ j → j < k → (j < lowAt lo (childrenIn (part m k)) i) ⊎ (getD (childrenIn (part m k)) i 0 < j) → part m₁ j ≡ part m j
@@ -134,27 +145,40 @@ module _ (n : ℕ) (m : List ℕ) (lo k : ℕ) (c : Cell) (v : Removable (suc n)
       parts-are = ap (λ (x : ℕ). (x - 64) / 128) (r .beside .same-length)
 
       -- the child is left as y
-      child-left : (y : Item (planeSpace fanout) (suc n)) → nodeLeft n c (getD (v .path .walk .node .child) i (blank n m lo k (v .path))) ≡ y ∷ [] → RemovedBelow (suc n) m lo k c m₁ true
+      child-left : (y : Item (planeSpace fanout) (suc n))
+          → nodeLeft n c (getD (v .path .walk .node .child) i (blank n m lo k (v .path))) ≡ y ∷ []
+          → RemovedBelow (suc n) m lo k c m₁ true
       child-left y e =
           let bs = v .path .walk .node .child in
-          let w : without (planeSpace fanout) (suc n) c bs ≡ set bs i y = branches-left ∙ rw (e, add-one) (sym (set-split bs i y here)) in
+          let w : without (planeSpace fanout) (suc n) c bs ≡ set bs i y = branches-left
+          ∙ rw (e, add-one) (sym (set-split bs i y here)) in
           let s = length-set bs i y in
           let z = here in
           let b = bits₁ in
           let u = ap (total (nodes (planeSpace fanout) (suc n))) w in
-          removed-left (suc n) m lo k c m₁ (v .path .walk .node) (v .path .walk .reads) (r .unused) beside₁ (set bs i y) w (omega arith)
-          (change-node fanout m m₁ parts-are n lo k i (v .path .walk .node) (v .path .walk .reads) (in-row n m lo k (v .path) i (q .inside)) parts₁ uses₁
-          (fits-kept 1 m k m₁ (parts .fits) (r .beside .same-length) part-kept use-kept) (v .path .walk .node .poly) (parts .polygon ∙ ap polygonIn (sym part-kept)) y (ap childrenIn part-kept) (r .after y (rw child-was e)))
+          removed-left (suc n) m lo k c m₁ (v .path .walk .node) (v .path .walk .reads) (r .unused) beside₁
+          (set bs i y) w (omega arith)
+          (change-node fanout m m₁ parts-are n lo k i (v .path .walk .node) (v .path .walk .reads)
+          (in-row n m lo k (v .path) i (q .inside)) parts₁ uses₁
+          (fits-kept 1 m k m₁ (parts .fits) (r .beside .same-length) part-kept use-kept) (v .path .walk .node .poly)
+          (parts .polygon ∙ ap polygonIn (sym part-kept)) y (ap childrenIn part-kept) (r .after y (rw child-was e)))
           (omega arith)
 
       pub child-stays : t ≡ true → RemovedBelow (suc n) m lo k c m₁ true
       child-stays e =
           let bs = v .path .walk .node .child in
-          let x = only (nodeLeft n c (getD bs i (blank n m lo k (v .path)))) (rw (e, child-was) at (r .left-is)) (prune-one (planeSpace fanout) (other (planeSpace fanout) c) (λ p. p) (suc n) (getD bs i (blank n m lo k (v .path)))) in
+          let x = only (nodeLeft n c (getD bs i (blank n m lo k (v .path)))) (rw (e, child-was) at (r .left-is))
+          (prune-one (planeSpace fanout) (other (planeSpace fanout) c) (λ p. p) (suc n)
+          (getD bs i (blank n m lo k (v .path)))) in
           child-left (x .item) (x .is)
 
       used₁ : UsedPart m₁ k
-      used₁ = record { below = v .path .walk .below; ends = rw (r .beside .same-length) (v .path .walk .ends); used = use-kept ∙ fits .used }
+      used₁ = record {
+        below = v .path .walk .below;
+        ends = rw (r .beside .same-length) (v .path .walk .ends);
+        used =
+            use-kept ∙ fits .used;
+      }
 
       -- the child's branch can be taken out
       pub branch-takes : TakesItem m₁ k i
@@ -170,11 +194,15 @@ module _ (n : ℕ) (m : List ℕ) (lo k : ℕ) (c : Cell) (v : Removable (suc n)
       few-parts₁ = rw parts-are few-parts
 
       module _ (e : t ≡ false) where
-        branches-without : without (planeSpace fanout) (suc n) c (v .path .walk .node .child) ≡ withoutAt i (v .path .walk .node .child)
-        branches-without = branches-left ∙ rw (not-left (nodeLeft n c (getD (v .path .walk .node .child) i (blank n m lo k (v .path)))) (rw (e, child-was) at (r .left-is)))
+        branches-without : without (planeSpace fanout) (suc n) c (v .path .walk .node .child)
+            ≡ withoutAt i (v .path .walk .node .child)
+        branches-without = branches-left
+            ∙ rw (not-left (nodeLeft n c (getD (v .path .walk .node .child) i (blank n m lo k (v .path))))
+            (rw (e, child-was) at (r .left-is)))
 
         left-length : length (withoutAt i (v .path .walk .node .child)) ≡ countAt m k - 1
-        left-length = length-without i (v .path .walk .node .child) here ∙ ap (λ (x : ℕ). x - 1) (branch-count n m lo k (v .path))
+        left-length = length-without i (v .path .walk .node .child) here
+            ∙ ap (λ (x : ℕ). x - 1) (branch-count n m lo k (v .path))
 
         count₁ : itemCount (part m₁ k) ≡ countAt m k
         count₁ = ap itemCount part-kept
@@ -197,14 +225,18 @@ module _ (n : ℕ) (m : List ℕ) (lo k : ℕ) (c : Cell) (v : Removable (suc n)
             let u = ap (total (nodes (planeSpace fanout) (suc n))) branches-without in
             let kids : childrenIn (part (setPart m₁ k p) k) ≡ withoutAt i (childrenIn (part m k)) = ap childrenIn same ∙ z .dropped .branch .children ∙ ap (λ (l : List ℕ). withoutAt i (childrenIn l)) part-kept in
             rw (z .dropped .memory)
-            (removed-left (suc n) m lo k c (setPart m₁ k p) (v .path .walk .node) (v .path .walk .reads) (set-unused m₁ k used₁ few-parts₁ (r .unused) p size)
+            (removed-left (suc n) m lo k c (setPart m₁ k p) (v .path .walk .node) (v .path .walk .reads)
+            (set-unused m₁ k used₁ few-parts₁ (r .unused) p size)
             (beside-then m lo k m₁ _ beside₁ (beside-wider m₁ lo k k k _ (v .path .walk .from) (omega arith) b₂))
             (withoutAt i (v .path .walk .node .child)) branches-without (omega arith)
-            (remove-node fanout m (setPart m₁ k p) (ap (λ (x : ℕ). (x - 64) / 128) long) n lo k i (v .path .walk .node) (v .path .walk .reads) (in-row n m lo k (v .path) i (q .inside))
+            (remove-node fanout m (setPart m₁ k p) (ap (λ (x : ℕ). (x - 64) / 128) long) n lo k i
+            (v .path .walk .node) (v .path .walk .reads) (in-row n m lo k (v .path) i (q .inside))
             (λ j x y w. b₂ .parts j (inl y) ∙ parts₁ j x y w)
             (λ j x y w. b₂ .in-use j (let l = v .path .walk .below in omega arith) (inl y) ∙ uses₁ j x y w)
-            (fits-dropped 1 m k m₁ (setPart m₁ k p) p (parts .fits) long part-kept (set-in-use m₁ k p ends size k (v .path .walk .below) ∙ used₁ .used) same d f)
-            (v .path .walk .node .poly) (parts .polygon ∙ sym (ap polygonIn same ∙ d .polygon ∙ ap polygonIn part-kept)) kids)
+            (fits-dropped 1 m k m₁ (setPart m₁ k p) p (parts .fits) long part-kept
+            (set-in-use m₁ k p ends size k (v .path .walk .below) ∙ used₁ .used) same d f)
+            (v .path .walk .node .poly) (parts .polygon
+            ∙ sym (ap polygonIn same ∙ d .polygon ∙ ap polygonIn part-kept)) kids)
             (omega arith))
 
         -- the node lost its only branch
@@ -217,10 +249,14 @@ module _ (n : ℕ) (m : List ℕ) (lo k : ℕ) (c : Cell) (v : Removable (suc n)
             let h = count₁ in
             let o = freed-bits m₁ k used₁ few-parts₁ (r .unused) in
             let b = bits₁ in
-            let w : without (planeSpace fanout) (suc n) c (v .path .walk .node .child) ≡ [] = branches-without ∙ no-items (withoutAt i (v .path .walk .node .child)) (omega arith) in
-            let u : total (nodes (planeSpace fanout) (suc n)) (without (planeSpace fanout) (suc n) c (v .path .walk .node .child)) ≡ 0 = ap (total (nodes (planeSpace fanout) (suc n))) w in
+            let w : without (planeSpace fanout) (suc n) c (v .path .walk .node .child) ≡ [] = branches-without
+            ∙ no-items (withoutAt i (v .path .walk .node .child)) (omega arith) in
+            let u : total (nodes (planeSpace fanout) (suc n))
+            (without (planeSpace fanout) (suc n) c (v .path .walk .node .child))
+            ≡ 0 = ap (total (nodes (planeSpace fanout) (suc n))) w in
             rw (z .memory)
-            (removed-gone (suc n) m lo k c (freed m₁ k) (v .path .walk .node) (v .path .walk .reads) (freed-unused m₁ k used₁ few-parts₁ (r .unused))
+            (removed-gone (suc n) m lo k c (freed m₁ k) (v .path .walk .node) (v .path .walk .reads)
+            (freed-unused m₁ k used₁ few-parts₁ (r .unused))
             (beside-then m lo k m₁ _ beside₁ (beside-wider m₁ lo k k k _ (v .path .walk .from) (omega arith) b₂))
             w (omega arith))
 

@@ -78,7 +78,8 @@ module _ (m : List ℕ) (level root : ℕ) (c : Cell) (b : Bool) (v : TreeIn m l
   root-removable =
       let t = v .tree in
       let w = root-sound-walk m level root v in
-      let n : w .walk .node ≡ top (planeSpace fanout) t = Option·some-injective _ _ (sym (w .walk .reads) ∙ read .root-node) in
+      let n : w .walk .node ≡ top (planeSpace fanout) t = Option·some-injective _ _
+      (sym (w .walk .reads) ∙ read .root-node) in
       record { path = w; unused = read .others-zero; holds = rw n is-held }
 
   pub tree-removable : Removable level m 0 root c

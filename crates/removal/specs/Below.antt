@@ -53,7 +53,8 @@ BranchTaken m k i m′ false = NodeFreed m k m′
 abbrev pub nodeLeft : (n : ℕ) → Cell → Item (planeSpace fanout) (suc n) → List (Item (planeSpace fanout) (suc n))
 nodeLeft n c b = prune (planeSpace fanout) (suc n) (other (planeSpace fanout) c) (λ p. p) b
 
--- The node at part k reads and is sound, with its subtree in the parts from lo on, and it holds the cell. Parts not in use are zero.
+-- The node at part k reads and is sound, with its subtree in the parts from lo on, and it holds the cell. Parts not
+-- in use are zero.
 pub record Removable (n : ℕ) (m : List ℕ) (lo k : ℕ) (c : Cell) : Type 0 where
   pub path : SoundWalk n m lo k
   pub unused : othersZero m (partsOf m) ≡ true

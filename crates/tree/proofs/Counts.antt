@@ -122,25 +122,31 @@ total-exact t (a ∷ l) r = go (t a) refl (total-exact t l (r .1))
 
 -- Of every two elements at most one passes the test, and the i-th passes: only it counts.
 module _ {A : Type 0} (t : A → Bool) where
-  pub total-only : (f : A → ℕ) (l : List A) (i : ℕ) (d : A) → Pairs (λ a b. t a ≡ true → t b ≡ false) l → i < length l → t (getD l i d) ≡ true
+  pub total-only : (f : A → ℕ) (l : List A) (i : ℕ) (d : A) → Pairs (λ a b. t a ≡ true → t b ≡ false) l → i < length l
+      → t (getD l i d) ≡ true
       → total (λ a. cond (t a) (f a) 0) l ≡ f (getD l i d)
   unfolding Pairs total
   total-only f [] i d p h e = absurd (omega arith)
   total-only f (a ∷ l) zero d p h e =
-      let z = total-none (λ b. cond (t b) (f b) 0) l (all-map (λ b. t a ≡ true → t b ≡ false) (λ b. cond (t b) (f b) 0 ≡ 0) l (λ b g. rw (g e)) (p .0)) in
+      let z = total-none (λ b. cond (t b) (f b) 0) l
+      (all-map (λ b. t a ≡ true → t b ≡ false) (λ b. cond (t b) (f b) 0 ≡ 0) l (λ b g. rw (g e)) (p .0)) in
       rw e (omega arith)
   total-only f (a ∷ l) (suc i) d p h e =
-      let k : t a ≡ false = not-true (t a) (λ g. contrary (t (getD l i d)) e (all-at (λ b. t a ≡ true → t b ≡ false) l i d (omega arith) (p .0) g)) in
+      let k : t a ≡ false = not-true (t a)
+      (λ g. contrary (t (getD l i d)) e (all-at (λ b. t a ≡ true → t b ≡ false) l i d (omega arith) (p .0) g)) in
       let z = total-only f l i d (p .1) (omega arith) e in
       rw k (omega arith)
 
-  pub flatMap-only : {B : Type 0} (f : A → List B) (l : List A) (i : ℕ) (d : A) → Pairs (λ a b. t a ≡ true → t b ≡ false) l → i < length l
+  pub flatMap-only : {B : Type 0} (f : A → List B) (l : List A) (i : ℕ) (d : A)
+      → Pairs (λ a b. t a ≡ true → t b ≡ false) l → i < length l
       → t (getD l i d) ≡ true → flatMap (λ a. cond (t a) (f a) []) l ≡ f (getD l i d)
   unfolding Pairs flatMap
   flatMap-only f [] i d p h e = absurd (omega arith)
   flatMap-only f (a ∷ l) zero d p h e =
-      let z = flatMap-none (λ b. cond (t b) (f b) []) l (all-map (λ b. t a ≡ true → t b ≡ false) (λ b. cond (t b) (f b) [] ≡ []) l (λ b g. rw (g e)) (p .0)) in
+      let z = flatMap-none (λ b. cond (t b) (f b) []) l
+      (all-map (λ b. t a ≡ true → t b ≡ false) (λ b. cond (t b) (f b) [] ≡ []) l (λ b g. rw (g e)) (p .0)) in
       rw (e, z) (append-nil (f a))
   flatMap-only f (a ∷ l) (suc i) d p h e =
-      let k : t a ≡ false = not-true (t a) (λ g. contrary (t (getD l i d)) e (all-at (λ b. t a ≡ true → t b ≡ false) l i d (omega arith) (p .0) g)) in
+      let k : t a ≡ false = not-true (t a)
+      (λ g. contrary (t (getD l i d)) e (all-at (λ b. t a ≡ true → t b ≡ false) l i d (omega arith) (p .0) g)) in
       rw k (flatMap-only f l i d (p .1) (omega arith) e)
