@@ -1,5 +1,5 @@
 -- The ways out of the containment test, and of its form for C.
-use mathlib.Core.Path.{_≡_, refl, sym, _∙_, ap}
+use mathlib.Core.Path.{_≡_, refl, sym, _∙_}
 use mathlib.Core.Bool.{Bool, true, false, cond}
 use mathlib.Core.List.{List}
 use Prim.Native.Nat.{ℕ, _/_, _≤_, _<_}
@@ -18,23 +18,23 @@ use Rattle.geometry.proofs.NumberLaws.{length-rects}
 use Rattle.drawing.specs.declared.answer.Contains.{Contains}
 use Rattle.drawing.specs.declared.answer.Contains.the-variants.{Tested, Refused}
 use Rattle.drawing.specs.Arguments.{given, isList}
-use Rattle.drawing.specs.Answers.{containsOf, containsNumber, hasReported, comparedReported}
-use Rattle.drawing.specs.Calls.{validContains, containsDrawn}
+use Rattle.drawing.specs.Answers.{containsOf, ContainsExported}
+use Rattle.drawing.specs.Calls.{validContains, containsDrawn, containsAnswer}
 use Rattle.drawing.proofs.Ways.{list-few}
 
 -- test by test
 module _ (p : List ℕ) (c : Cell) (b : Bool) (e : b ≡ isList mostOfPolygon p) where
-  pub no-polygon : b ≡ false → Refused ≡ containsOf (validContains p c) (containsDrawn p c)
+  pub no-polygon : b ≡ false → Refused ≡ containsAnswer p c
   unfolding validContains containsOf
   no-polygon f = rw (← e, f)
 
   module _ (f : b ≡ true) (d : Bool) (h : d ≡ onGrid c) where
-    pub off-grid : d ≡ false → Refused ≡ containsOf (validContains p c) (containsDrawn p c)
+    pub off-grid : d ≡ false → Refused ≡ containsAnswer p c
     unfolding validContains containsOf
     off-grid k = rw (← e, f, ← h, k)
 
     pub tested : (t : Containment) → d ≡ true → t ≡ containment (rectsIn p (length p / 4)) c
-        → Tested t ≡ containsOf (validContains p c) (containsDrawn p c)
+        → Tested t ≡ containsAnswer p c
     unfolding validContains containsDrawn containsOf
     tested t k q = rw (← e, f, ← h, k, q)
 
@@ -56,29 +56,14 @@ byte-is true = refl
 byte-is false = refl
 
 -- the form for C, from the answer a
-module _ (p : List ℕ) (c : Cell) (a : Contains) (e : a ≡ containsOf (validContains p c) (containsDrawn p c)) where
+module _ (p : List ℕ) (c : Cell) (a : Contains) (e : a ≡ containsAnswer p c) where
   module _ (t : Containment) (f : a ≡ Tested t) where
     pub compared-fits : t .compared < 4294967296
     compared-fits = let h = drawn-few (validContains p c) p c t refl (sym f ∙ e) in omega arith
 
-    pub tested-number : 0 ≡ containsNumber (containsOf (validContains p c) (containsDrawn p c))
-    tested-number = rw (← e, f)
+    pub tested-exported : (has compared : ℕ)
+        → ContainsExported (containsAnswer p c) has compared 0 (boolByte (t .has)) (t .compared)
+    tested-exported has compared = rw (← e, f) (record { refusal = refl; has-told = byte-is (t .has); compared-told = refl })
 
-    pub tested-has : (told : ℕ) → boolByte (t .has)
-        ≡ hasReported (containsOf (validContains p c) (containsDrawn p c)) told
-    tested-has told = byte-is (t .has) ∙ rw (← e, f)
-
-    pub tested-compared : (told : ℕ)
-        → t .compared ≡ comparedReported (containsOf (validContains p c) (containsDrawn p c)) told
-    tested-compared told = rw (← e, f)
-
-  module _ (f : a ≡ Refused) where
-    pub refused-number : 3 ≡ containsNumber (containsOf (validContains p c) (containsDrawn p c))
-    refused-number = rw (← e, f)
-
-    pub refused-has : (told : ℕ) → told ≡ hasReported (containsOf (validContains p c) (containsDrawn p c)) told
-    refused-has told = rw (← e, f)
-
-    pub refused-compared : (told : ℕ)
-        → told ≡ comparedReported (containsOf (validContains p c) (containsDrawn p c)) told
-    refused-compared told = rw (← e, f)
+  pub refused-exported : (has compared : ℕ) → a ≡ Refused → ContainsExported (containsAnswer p c) has compared 3 has compared
+  refused-exported has compared f = rw (← e, f) (record { refusal = refl; has-told = refl; compared-told = refl })

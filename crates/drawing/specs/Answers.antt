@@ -87,6 +87,12 @@ abbrev pub comparedReported : Contains → ℕ → ℕ
 comparedReported (Tested t) before = t .compared
 comparedReported Refused before = before
 
+-- What its form for C promises where that is the answer: the number returned, and both values at exit.
+pub record ContainsExported (a : Contains) (has compared n has' compared' : ℕ) : Type 0 where
+  pub refusal : n ≡ containsNumber a
+  pub has-told : has' ≡ hasReported a has
+  pub compared-told : compared' ≡ comparedReported a compared
+
 -- The answer of the extra area.
 unfoldable pub extraOf : Bool → ℕ → Extra
 extraOf false n = Unfit

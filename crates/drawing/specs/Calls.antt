@@ -15,7 +15,9 @@ use Rattle.geometry.specs.Cut.{cutList, cutLimited}
 use Rattle.geometry.specs.Grow.{grown}
 use Rattle.geometry.specs.Refine.{refine}
 use Rattle.area.specs.Lacked.{extraArea}
+use Rattle.drawing.specs.declared.answer.Contains.{Contains}
 use Rattle.drawing.specs.Arguments.{given, isList, isResult}
+use Rattle.drawing.specs.Answers.{containsOf}
 
 -- a list and a rectangle
 unfoldable pub validWithRect : List ℕ → Rect → List ℕ → Bool
@@ -63,6 +65,9 @@ validContains p c = isList mostOfPolygon p && onGrid c
 
 unfoldable pub containsDrawn : List ℕ → Cell → Containment
 containsDrawn p c = containment (given p) c
+
+abbrev pub containsAnswer : List ℕ → Cell → Contains
+containsAnswer p c = containsOf (validContains p c) (containsDrawn p c)
 
 -- a rectangle and a cell, and the rectangle's extra area as that of a polygon of one rectangle
 unfoldable pub validExtra : Rect → Cell → Bool

@@ -1,7 +1,6 @@
 // The containment test of a polygon and a cell.
 ghost use mathlib.Core.Path.{_≡_};
-ghost use Rattle.drawing.specs.Answers.{containsOf};
-ghost use Rattle.drawing.specs.Calls.{validContains, containsDrawn};
+ghost use Rattle.drawing.specs.Calls.{containsAnswer};
 use crate::answer::Contains;
 use crate::arguments::is_list;
 use geometry::Cell;
@@ -9,7 +8,7 @@ use geometry::MOST_OF_POLYGON;
 
 // Whether one of the polygon's rectangles has the cell, and how many were compared to tell.
 pub fn contains(polygon: &[u32], c: Cell) -> Contains
-    ensures { λ a. ⌜ a ≡ containsOf (validContains (now (polygon .entry)) c) (containsDrawn (now (polygon .entry)) c) ⌝ }
+    ensures { λ a. ⌜ a ≡ containsAnswer (now (polygon .entry)) c ⌝ }
 {
     if !is_list(polygon, MOST_OF_POLYGON) {
         return Contains::Refused;

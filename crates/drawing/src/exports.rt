@@ -1,9 +1,9 @@
-// The calls for C and Rust: 0 or the number of the refusal is returned, and the count is stored through a pointer.
+// The calls for C and Rust: 0 or the number of the refusal is returned, and what is reported is stored through pointers.
 ghost use mathlib.Core.Path.{_≡_};
 ghost use Rattle.geometry.specs.declared.rect.Rect.{Rect};
 ghost use Rattle.geometry.specs.Cells.{cellOf, rectOf};
-ghost use Rattle.drawing.specs.Answers.{number, reported, few, Exported, containsOf, containsNumber, hasReported, comparedReported, extraOf, extraNumber, extraReported};
-ghost use Rattle.drawing.specs.Calls.{validWithRect, validWithCell, validWithPolygon, validAlone, validContains, validExtra, commonDrawn, growDrawn, cutDrawn, cutPolygonDrawn, refineDrawn, containsDrawn, extraDrawn};
+ghost use Rattle.drawing.specs.Answers.{number, reported, few, Exported, ContainsExported, extraOf, extraNumber, extraReported};
+ghost use Rattle.drawing.specs.Calls.{validWithRect, validWithCell, validWithPolygon, validAlone, validExtra, commonDrawn, growDrawn, cutDrawn, cutPolygonDrawn, refineDrawn, containsAnswer, extraDrawn};
 use crate::answer::Answer;
 use crate::answer::Contains;
 use crate::answer::Extra;
@@ -107,9 +107,7 @@ pub extern "C" fn lintzoger_contains(
     has: &mut u32,
     compared: &mut u32,
 ) -> u32
-    ensures { λ r. ⌜ r ≡ containsNumber (containsOf (validContains (now (polygon .entry)) (cellOf x y)) (containsDrawn (now (polygon .entry)) (cellOf x y))) ⌝ }
-    ensures { λ _. ⌜ now (has .exit) ≡ hasReported (containsOf (validContains (now (polygon .entry)) (cellOf x y)) (containsDrawn (now (polygon .entry)) (cellOf x y))) (now (has .entry)) ⌝ }
-    ensures { λ _. ⌜ now (compared .exit) ≡ comparedReported (containsOf (validContains (now (polygon .entry)) (cellOf x y)) (containsDrawn (now (polygon .entry)) (cellOf x y))) (now (compared .entry)) ⌝ }
+    ensures { λ r. ⌜ ContainsExported (containsAnswer (now (polygon .entry)) (cellOf x y)) (now (has .entry)) (now (compared .entry)) r (now (has .exit)) (now (compared .exit)) ⌝ }
 {
     match contains(polygon, Cell { x, y }) {
         Contains::Tested(t) => {

@@ -1,6 +1,6 @@
 -- How many rectangles the containment test compares: its relation to the place of the first that has the cell, and
 -- its bound.
-use mathlib.Core.Path.{_≡_, refl}
+use mathlib.Core.Path.{_≡_}
 use mathlib.Core.Bool.{true, false}
 use mathlib.Core.List.{List}
 use Prim.Native.Nat.{ℕ, _+_, _≤_, _<_}

@@ -1,6 +1,6 @@
 -- The loops over a polygon's rectangles: loading, storing, clipping.
 use mathlib.Core.Path.{_≡_, refl, sym, _∙_, ap}
-use mathlib.Core.Bool.{Bool, true, false}
+use mathlib.Core.Bool.{true, false}
 use mathlib.Core.List.{List, [], _∷_, _++_, append-nil, append-assoc, flatMap}
 use Prim.Native.Nat.{ℕ, _+_, _*_, _-_, _≤_, _<_}
 use native.Mathlib.Numerals.{add-one}
@@ -8,12 +8,11 @@ use native.Mathlib.Omega.{arith}
 use borrow.Author.Tests.{lt-ltb, le-ltb}
 use lib.Dec.{ltb}
 use lib.ListN.{length, take, drop, getD, set, length-set, replicate, length-replicate}
-use lib.Seq.{take-suc, take-suc-set, length-take-le}
-use Rattle.geometry.specs.declared.rect.Cell.{Cell}
+use lib.Seq.{take-suc, take-suc-set}
 use Rattle.geometry.specs.declared.rect.Rect.{Rect}
 use Rattle.geometry.specs.declared.rect.Side.{Side}
 use Rattle.geometry.specs.declared.polygon.Polygon.{Polygon}
-use Rattle.geometry.specs.Cells.{hasCell, anyHas, nonEmpty}
+use Rattle.geometry.specs.Cells.{nonEmpty}
 use Rattle.geometry.specs.Clip.{sidePart, clipRect, clip}
 use Rattle.geometry.specs.Common.{unlessEmpty}
 use Rattle.geometry.specs.Numbers.{rectAt, rectsIn, rectsOf, putAt, Appended, PolygonOf}

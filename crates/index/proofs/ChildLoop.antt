@@ -1,6 +1,6 @@
 -- The loop that looks for the child that has a cell.
-use Prim.Native.Nat.{ℕ, suc, _+_, _≤_, _<_}
-use mathlib.Core.Path.{_≡_, refl, sym, ap, _∙_}
+use Prim.Native.Nat.{ℕ, _+_, _≤_, _<_}
+use mathlib.Core.Path.{_≡_, sym, ap, _∙_}
 use mathlib.Core.Bool.{Bool, true, false}
 use mathlib.Core.List.{List}
 use native.Mathlib.Decide.{decLt}
@@ -13,10 +13,9 @@ use Rattle.geometry.specs.declared.rect.Cell.{Cell}
 use Rattle.memory.specs.Layout.{part, itemCount, polygonIn, childrenIn}
 use Rattle.memory.proofs.ReadingLaws.{lowAt, part-length}
 use Rattle.layout.specs.Nodes.{countAt, childAt, IsPart, PolygonPart}
-use Rattle.index.specs.declared.child.ChildFound.{ChildFound}
 use Rattle.index.specs.declared.child.ChildFound.the-variants.{Child, NoChild}
 use Rattle.index.specs.Walks.{hasTest}
-use Rattle.index.specs.Children.{Children, ChildHas, NoneBefore, FirstChild, ChildIs}
+use Rattle.index.specs.Children.{Children, NoneBefore, ChildIs}
 use Rattle.index.proofs.ChildLaws.{low-first, low-next, ChildNumbers, child-numbers}
 
 -- Before the i-th of the children ks: none before it has the cell, and its subtree has the parts from low on.

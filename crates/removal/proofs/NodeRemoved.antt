@@ -4,7 +4,7 @@ use mathlib.Core.Path.{_≡_, refl, sym, ap, _∙_}
 use mathlib.Core.Bool.{Bool, true, false}
 use mathlib.Core.List.{List, [], _∷_, _++_}
 use mathlib.Core.Logic.{_⊎_, inl, inr}
-use mathlib.Core.Option.{some, Option·some-injective}
+use mathlib.Core.Option.{Option·some-injective}
 use native.Mathlib.Omega.{arith}
 use native.Mathlib.Numerals.{add-one}
 use lib.ListN.{length, getD, set, take, drop, length-set}
@@ -20,11 +20,10 @@ use Rattle.tree.proofs.Prune.{prune-one}
 use Rattle.plane.specs.Plane.{planeSpace}
 use Rattle.plane.proofs.Rects.{plane-space-laws}
 use Rattle.memory.specs.Layout.{partsOf, part, inUse, bitsSet, itemCount, polygonIn, childrenIn}
-use Rattle.memory.specs.Reading.{readNode}
-use Rattle.memory.proofs.ReadingLaws.{NodeParts, FitsAs, node-parts, fits-as, length-right, part-length, lowAt, low-from, low-to, part-below, row-at, row-length, change-node, remove-node}
+use Rattle.memory.proofs.ReadingLaws.{NodeParts, FitsAs, node-parts, fits-as, length-right, part-length, lowAt, change-node, remove-node}
 use Rattle.memory.specs.Fanout.{fanout}
 use Rattle.layout.specs.Beside.{Beside}
-use Rattle.layout.specs.Nodes.{countAt, childAt}
+use Rattle.layout.specs.Nodes.{countAt}
 use Rattle.layout.specs.Gap.{withoutAt}
 use Rattle.layout.specs.PartSet.{setPart, freed, UsedPart}
 use Rattle.layout.proofs.GapLists.{length-without}

@@ -1,11 +1,11 @@
 -- A routing node that reads: the polygons of its branches are those of its children's parts, and what the code relies on.
-use Prim.Native.Nat.{ℕ, zero, suc, _+_, _≤_, _<_}
+use Prim.Native.Nat.{ℕ, suc, _+_, _≤_}
 use mathlib.Core.Path.{_≡_, sym, ap, subst, _∙_}
 use mathlib.Core.Bool.{true}
 use mathlib.Core.List.{List, [], _∷_, map}
 use mathlib.Core.Option.{some}
 use native.Mathlib.Omega.{arith}
-use lib.ListN.{length, getD, length-map}
+use lib.ListN.{length, length-map}
 use Rattle.geometry.specs.declared.rect.Rect.{Rect}
 use Rattle.geometry.proofs.NumberLaws.{length-rects}
 use Rattle.tree.specs.Lists.{All}

@@ -1,6 +1,6 @@
 -- `exports::lintzoger_contains` meets its contract; the laws that it needs are in ContainsWays.
 use borrow.Author.Needs.{needs}
-use Rattle.drawing.proofs.ContainsWays.{compared-fits, tested-number, tested-has, tested-compared, refused-number, refused-has, refused-compared}
+use Rattle.drawing.proofs.ContainsWays.{compared-fits, tested-exported, refused-exported}
 use Rattle.drawing.proofs.exports.lintzoger_contains.Statement.{statement}
 use Rattle.drawing.proofs.exports.lintzoger_contains.Tie as tie
 
@@ -20,10 +20,10 @@ enum-told : tie.Need-enum-told
 enum-told c = search needs
 
 returns : tie.Need-returns
-returns c = (search tested-number, (search tested-has, search tested-compared))
+returns c = search tested-exported
 
 returns-2 : tie.Need-returns-2
-returns-2 c = (search refused-number, (search refused-has, search refused-compared))
+returns-2 c = search refused-exported
 
 pub lintzoger-contains-spec : {M : Type 1} → statement M
 lintzoger-contains-spec =
