@@ -1,3 +1,5 @@
 pub mod Arguments
 pub mod Answers
 pub mod Calls
+pub mod Wkb
+pub mod WkbClaim

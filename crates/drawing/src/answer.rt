@@ -1,5 +1,5 @@
-// What the calls answer. The definitions `number`, `containsNumber` and `extraNumber` of specs/Answers.antt give
-// document 01's number for each.
+// What the calls answer. The definitions `number`, `containsNumber` and `extraNumber` of specs/Answers.antt and
+// `wkbNumber` of specs/Wkb.antt give the number for each.
 use geometry::Containment;
 
 pub enum Answer {
@@ -23,4 +23,13 @@ pub enum Extra {
     Area(u64),
     // an invalid rectangle or cell
     Unfit,
+}
+
+pub enum Wkb {
+    // accepted: how many bytes were written
+    Bytes(usize),
+    // an invalid rectangle, count or length of the polygon
+    BadPolygon,
+    // the output is shorter than the bytes
+    ShortOutput,
 }

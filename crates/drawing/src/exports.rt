@@ -1,12 +1,14 @@
-// The calls for C and Rust: 0 or the number of the refusal is returned, and what is reported is stored through pointers.
+// The calls for C and Rust: each returns 0 or the number of its refusal, and stores what it reports through pointers.
 ghost use mathlib.Core.Path.{_≡_};
 ghost use Rattle.geometry.specs.declared.rect.Rect.{Rect};
 ghost use Rattle.geometry.specs.Cells.{cellOf, rectOf};
 ghost use Rattle.drawing.specs.Answers.{number, reported, few, Exported, ContainsExported, extraOf, extraNumber, extraReported};
 ghost use Rattle.drawing.specs.Calls.{validWithRect, validWithCell, validWithPolygon, validAlone, validExtra, commonDrawn, growDrawn, cutDrawn, cutPolygonDrawn, refineDrawn, containsAnswer, extraDrawn};
+ghost use Rattle.drawing.specs.Wkb.{WkbExported};
 use crate::answer::Answer;
 use crate::answer::Contains;
 use crate::answer::Extra;
+use crate::answer::Wkb;
 use crate::calls::common;
 use crate::calls::cut;
 use crate::calls::cut_by_polygon;
@@ -14,6 +16,7 @@ use crate::calls::extra_area;
 use crate::calls::grow;
 use crate::calls::refine;
 use crate::containing::contains;
+use crate::writing::write_wkb;
 use geometry::Cell;
 use geometry::Rect;
 
@@ -116,6 +119,20 @@ pub extern "C" fn lintzoger_contains(
             0
         }
         Contains::Refused => 3,
+    }
+}
+
+#[no_mangle]
+pub extern "C" fn lintzoger_wkb(polygon: &[u32], out: &mut [u8], length: &mut u32) -> u32
+    ensures { λ r. ⌜ WkbExported (now (polygon .entry)) (now (out .entry)) (now (length .entry)) r (now (out .exit)) (now (length .exit)) ⌝ }
+{
+    match write_wkb(polygon, out) {
+        Wkb::Bytes(n) => {
+            *length = n as u32;
+            0
+        }
+        Wkb::BadPolygon => 3,
+        Wkb::ShortOutput => 11,
     }
 }
 

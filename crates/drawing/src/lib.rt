@@ -1,4 +1,5 @@
-// The drawing exercise: the rectangle rules on lent numbers, four a rectangle (llx, lly, urx, ury).
+// The drawing exercise: the rectangle rules on lent numbers, four a rectangle (llx, lly, urx, ury), and a polygon
+// written for a map program.
 //
 // No call here has a `requires`: a bad argument is refused, and leaves every lent list as it was.
 mod answer;
@@ -6,10 +7,12 @@ mod arguments;
 mod calls;
 mod containing;
 mod exports;
+mod writing;
 
 pub use answer::Answer;
 pub use answer::Contains;
 pub use answer::Extra;
+pub use answer::Wkb;
 pub use calls::common;
 pub use calls::cut;
 pub use calls::cut_by_polygon;
@@ -17,3 +20,4 @@ pub use calls::extra_area;
 pub use calls::grow;
 pub use calls::refine;
 pub use containing::contains;
+pub use writing::write_wkb;

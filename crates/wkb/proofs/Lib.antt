@@ -1,0 +1,11 @@
+pub mod ByteLaws
+pub mod DoubleLaws
+pub mod FlatLaws
+pub mod CollectionLaws
+pub mod RingLaws
+pub mod ReadLaws
+pub mod CollectionCases
+pub mod OverwriteLaws
+pub mod LittleLoop
+pub mod GeometryWays
+pub mod PolygonsLoop

@@ -1,0 +1,5 @@
+pub mod Bytes
+pub mod Doubles
+pub mod Collection
+pub mod Orientation
+pub mod Reading

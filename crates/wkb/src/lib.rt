@@ -1,0 +1,5 @@
+// Well-Known Binary, the published OGC layout, little-endian: rectangles written as bytes.
+mod bytes;
+mod geometries;
+
+pub use geometries::put_collection;
