@@ -9,20 +9,24 @@
  * A list is four numbers a rectangle: llx, lly, urx, ury. The lengths count
  * numbers, not rectangles. A list has 1 to 256 rectangles, so list_len is a
  * multiple of 4 from 4 to 1024; a polygon has 1 to 16, so polygon_len is a
- * multiple of 4 from 4 to 64; result_len is exactly 1024.
+ * multiple of 4 from 4 to 64; result_len is exactly 1024. (out_len and *length
+ * count bytes.)
  *
  * Each call returns 0 where it accepts, or the number of its refusal:
- *   LINTZOGER_INVALID     an invalid rectangle, cell, count or list length;
- *   LINTZOGER_OVER_LIMIT  the list has over 256 rectangles after a cut by one
- *                         rectangle, also where a later cut would leave fewer.
- * The first is tested before anything is cut.
+ *   LINTZOGER_INVALID       an invalid rectangle, cell, count or list length;
+ *   LINTZOGER_OVER_LIMIT    the list has over 256 rectangles after a cut by one
+ *                           rectangle, also where a later cut would leave fewer;
+ *   LINTZOGER_SHORT_OUTPUT  out_len is less than the number of bytes to write.
+ * The first is tested before anything is cut, and before out_len.
  *
  * Where a call accepts, the first 4 * *written numbers of result are the
- * rectangles of the answer; the other numbers of result stay as they were.
- * After a refusal result, *written, *extra, *has and *compared are as they were.
+ * rectangles of the answer; the other numbers of result stay as they were. Of
+ * out the first *length bytes are written, and the other bytes stay as they
+ * were. After a refusal result, out, *written, *extra, *has, *compared and
+ * *length are as they were.
  *
- * No pointer is null, and result, written, extra, has and compared share no
- * memory with each other or with the lists read.
+ * No pointer is null, and result, out, written, extra, has, compared and length
+ * share no memory with each other or with the lists read.
  */
 #ifndef LINTZOGER_DRAWING_H
 #define LINTZOGER_DRAWING_H
@@ -32,11 +36,15 @@
 
 #define LINTZOGER_INVALID 3
 #define LINTZOGER_OVER_LIMIT 7
+#define LINTZOGER_SHORT_OUTPUT 11
 
 /* The most rectangles of a list and of a polygon, and the length of result. */
 #define LINTZOGER_LIST_LIMIT 256
 #define LINTZOGER_POLYGON_LIMIT 16
 #define LINTZOGER_RESULT_LEN (4 * LINTZOGER_LIST_LIMIT)
+
+/* The bytes of a polygon of so many rectangles as Well-Known Binary. */
+#define LINTZOGER_WKB_LEN(rectangles) (9 + 93 * (rectangles))
 
 #ifdef __cplusplus
 extern "C" {
@@ -80,6 +88,14 @@ uint32_t lintzoger_refine(const uint32_t *list, size_t list_len,
 uint32_t lintzoger_contains(const uint32_t *polygon, size_t polygon_len,
                             uint32_t x, uint32_t y,
                             uint32_t *has, uint32_t *compared);
+
+/* The polygon as Well-Known Binary (WKB), little-endian, for map tools: a
+   GeometryCollection with a Polygon for each rectangle, in their order. A ring
+   starts at ll, runs counterclockwise and closes: ll, (urx, lly), ur, (llx, ury),
+   ll, as doubles. Stores the number of bytes to *length, which is
+   LINTZOGER_WKB_LEN(rectangles), 1497 at most; out_len may be more. */
+uint32_t lintzoger_wkb(const uint32_t *polygon, size_t polygon_len,
+                       uint8_t *out, size_t out_len, uint32_t *length);
 
 #ifdef __cplusplus
 }

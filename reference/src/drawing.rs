@@ -1,13 +1,15 @@
 //! The drawing exercise: the rectangle rules called without the tree, on lists of numbers.
 //!
 //! A list is four numbers a rectangle: llx, lly, urx, ury. The calls have the parameters of those
-//! in include/drawing.h. All arguments are tested (refusal 3) before anything is cut (refusal 7).
-//! After a refusal the result list and the numbers stored are as they were.
+//! in include/drawing.h. All arguments are tested (refusal 3) before anything is cut (refusal 7),
+//! and before the output's length is (refusal 11). After a refusal the result list, the output and
+//! the numbers stored are as they were.
 
 use crate::geometry::{
     contains as test_containment, cut_list_by_polygon, is_cell, refine as refine_list, Cell,
     OverLimit, Rectangle, LIST_LIMIT, POLYGON_LIMIT,
 };
+use crate::wkb::polygon_bytes;
 
 /// The length of a result list: 256 rectangles.
 pub const RESULT_LENGTH: usize = 4 * LIST_LIMIT;
@@ -19,14 +21,17 @@ pub enum Refusal {
     Invalid,
     /// A list over 256 after a single cut.
     OverLimit,
+    /// The output is shorter than what is to be written.
+    ShortOutput,
 }
 
 impl Refusal {
-    /// Document 01's number of the refusal.
+    /// The number of the refusal in documents 01 and 02.
     pub fn number(self) -> u32 {
         match self {
             Refusal::Invalid => 3,
             Refusal::OverLimit => 7,
+            Refusal::ShortOutput => 11,
         }
     }
 }
@@ -128,6 +133,16 @@ pub fn contains(
     let containment = test_containment(&polygon, cell);
     *has = u32::from(containment.has);
     *compared = u32::try_from(containment.compared).expect("at most 16 rectangles");
+    Ok(())
+}
+
+/// The polygon as Well-Known Binary, at the output's start; 'bytes beyond it stay'.
+pub fn wkb(polygon: &[u32], out: &mut [u8], length: &mut u32) -> Result<(), Refusal> {
+    let polygon = read_list(polygon, POLYGON_LIMIT)?;
+    let bytes = polygon_bytes(&polygon);
+    let start = out.get_mut(..bytes.len()).ok_or(Refusal::ShortOutput)?;
+    start.copy_from_slice(&bytes);
+    *length = u32::try_from(bytes.len()).expect("at most 1497 bytes");
     Ok(())
 }
 

@@ -1,4 +1,4 @@
-//! The second implementation of document 01 and of document 02's requests A.1 to A.3, written from
+//! The second implementation of document 01 and of document 02's requests A.1 to A.4, written from
 //! their sentences and as plain as possible, and the declarations of the proved library that the
 //! tests compare it with.
 
@@ -13,3 +13,4 @@ pub mod proved_bench;
 pub mod proved_index;
 pub mod random;
 pub mod tree;
+pub mod wkb;

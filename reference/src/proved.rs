@@ -68,6 +68,13 @@ extern "C" {
         has: *mut u32,
         compared: *mut u32,
     ) -> u32;
+    fn lintzoger_wkb(
+        polygon: *const u32,
+        polygon_len: usize,
+        out: *mut u8,
+        out_len: usize,
+        length: *mut u32,
+    ) -> u32;
 }
 
 // In each wrapper the pointers come from slices and references that live through the call, and the
@@ -157,4 +164,16 @@ pub fn refine(list: &[u32], result: &mut [u32], written: &mut u32) -> u32 {
 pub fn contains(polygon: &[u32], cell: [u32; 2], has: &mut u32, compared: &mut u32) -> u32 {
     let [x, y] = cell;
     unsafe { lintzoger_contains(polygon.as_ptr(), polygon.len(), x, y, has, compared) }
+}
+
+pub fn wkb(polygon: &[u32], out: &mut [u8], length: &mut u32) -> u32 {
+    unsafe {
+        lintzoger_wkb(
+            polygon.as_ptr(),
+            polygon.len(),
+            out.as_mut_ptr(),
+            out.len(),
+            length,
+        )
+    }
 }

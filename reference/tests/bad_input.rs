@@ -1,4 +1,4 @@
-//! Each fault of an argument is refused with 3, alone, with others, and where 7 is possible too.
+//! Each fault of an argument is refused with 3: alone, with others, and where 7 or 11 is possible.
 
 mod support;
 
@@ -70,8 +70,26 @@ fn one_fault_where_the_limit_is_passed_too() {
 }
 
 #[test]
+fn one_fault_where_the_output_is_short_too() {
+    for polygon in [vec![0, 0, 2, 2], [0, 0, 2, 2].repeat(POLYGON_LIMIT)] {
+        let mut short = Case::new(Call::Wkb);
+        short.polygon = polygon;
+        for output_length in [0, 8, 101] {
+            short.output_length = output_length;
+            short.expect(11, "a short output");
+            for fault in faults(Call::Wkb) {
+                let mut case = short.clone();
+                fault.apply(&mut case);
+                case.expect(3, &format!("a short output, {fault:?}"));
+            }
+        }
+    }
+}
+
+/// (The call for Well-Known Binary has only one argument that a fault can be in.)
+#[test]
 fn two_faults() {
-    for call in CALLS {
+    for call in CALLS.into_iter().filter(|&call| call != Call::Wkb) {
         let base = case_over_limit(call);
         let mut count = 0;
         for first in faults(call) {

@@ -5,7 +5,8 @@ mod support;
 
 use reference::proved;
 use support::containment::{case, check};
-use support::{GRID_END, LIST_LIMIT, POLYGON_LIMIT};
+use support::polygons::{apart, every_length, INVALID};
+use support::{GRID_END, POLYGON_LIMIT};
 
 /// The last coordinate of a cell.
 const LAST: u32 = GRID_END - 1;
@@ -18,12 +19,6 @@ fn worked_numbers() {
     check(&polygon, [3, 3], true, 2, "worked");
     check(&polygon, [8, 8], true, 3, "worked");
     check(&polygon, [9, 9], false, 3, "worked");
-}
-
-/// Rectangles of different sizes that share no cell.
-fn apart(count: usize) -> Vec<[u32; 4]> {
-    let at = |k: u32| [100 * k, 10 * k, 100 * k + 20 + k, 10 * k + 1 + k % 7];
-    (0..count as u32).map(at).collect()
 }
 
 /// The first and the last cell of a rectangle.
@@ -74,38 +69,16 @@ fn first_of_two() {
     check(&same, [6, 5], false, POLYGON_LIMIT, "sixteen equal ones");
 }
 
-/// Accepted are one to sixteen rectangles, and no other length: also none that would look right if
-/// only some of its bits were looked at.
+/// Accepted are one to sixteen rectangles, and no other length.
 #[test]
-fn every_length() {
-    let good: Vec<usize> = (1..=POLYGON_LIMIT).map(|count| 4 * count).collect();
-    let long = [1 << 16, 1 << 18].map(|more| good.iter().map(move |length| more + length));
-    for length in (0..=5 * LIST_LIMIT).chain(long.into_iter().flatten()) {
+fn every_length_of_the_polygon() {
+    for (numbers, is_polygon) in every_length() {
         let mut case = case(&[], [0, 0]);
-        case.polygon = [0, 0, 1, 1].repeat(length / 4 + 1);
-        case.polygon.truncate(length);
-        let answer = if good.contains(&length) { 0 } else { 3 };
-        case.expect(answer, &format!("{length} numbers"));
+        let place = format!("{} numbers", numbers.len());
+        case.polygon = numbers;
+        case.expect(if is_polygon { 0 } else { 3 }, &place);
     }
 }
-
-/// Rectangles with ll >= ur or with ur over 65536 in a dimension.
-const INVALID: [[u32; 4]; 14] = [
-    [7, 0, 7, 9],
-    [0, 7, 9, 7],
-    [8, 0, 7, 9],
-    [0, 8, 9, 7],
-    [GRID_END, 0, GRID_END, 1],
-    [0, GRID_END, 1, GRID_END],
-    [0, 0, GRID_END + 1, 1],
-    [0, 0, 1, GRID_END + 1],
-    [GRID_END, 0, GRID_END + 1, 1],
-    [0, GRID_END, 1, GRID_END + 1],
-    [0, 0, u32::MAX, 1],
-    [0, 0, 1, u32::MAX],
-    [u32::MAX, 0, 1, 1],
-    [0, u32::MAX, 1, 1],
-];
 
 /// An invalid rectangle is refused at each place, also behind the first that has the cell.
 #[test]

@@ -55,6 +55,9 @@ fn compare_random_cases(call: Call) {
     if matches!(call, Call::Cut | Call::CutPolygon) {
         valid.require(LEAST, &["refused 7"]);
     }
+    if call.writes_bytes() {
+        valid.require(LEAST, &["refused 11"]);
+    }
     faulty.require(FAULTY * 9 / 10, &["refused 3"]);
 }
 
@@ -91,4 +94,9 @@ fn refine() {
 #[test]
 fn contains() {
     compare_random_cases(Call::Contains);
+}
+
+#[test]
+fn wkb() {
+    compare_random_cases(Call::Wkb);
 }

@@ -1,13 +1,16 @@
 //! One call of the drawing exercise, made to both implementations and compared.
 
-use super::RESULT_LENGTH;
+use super::report::{difference, inputs};
+use super::{OUTPUT_LIMIT, RESULT_LENGTH};
 use reference::drawing::{self, Refusal};
 use reference::proved;
 use reference::random::Random;
-use std::fmt::Write;
 
 /// Numbers before and after the result list, where no call may write.
-const GUARD: usize = 16;
+pub const GUARD: usize = 16;
+
+/// Bytes before and after the output, where no call may write: as many as a call writes at most.
+pub const OUTPUT_GUARD: usize = OUTPUT_LIMIT;
 
 /// The calls, in the order of include/drawing.h.
 #[derive(Clone, Copy, Debug, PartialEq, Eq)]
@@ -19,9 +22,10 @@ pub enum Call {
     CutPolygon,
     Refine,
     Contains,
+    Wkb,
 }
 
-pub const CALLS: [Call; 7] = [
+pub const CALLS: [Call; 8] = [
     Call::Common,
     Call::Grow,
     Call::ExtraArea,
@@ -29,11 +33,12 @@ pub const CALLS: [Call; 7] = [
     Call::CutPolygon,
     Call::Refine,
     Call::Contains,
+    Call::Wkb,
 ];
 
 impl Call {
     pub fn takes_list(self) -> bool {
-        !matches!(self, Call::ExtraArea | Call::Contains)
+        !matches!(self, Call::ExtraArea | Call::Contains | Call::Wkb)
     }
 
     pub fn takes_rectangle(self) -> bool {
@@ -45,7 +50,11 @@ impl Call {
     }
 
     pub fn takes_polygon(self) -> bool {
-        matches!(self, Call::CutPolygon | Call::Contains)
+        matches!(self, Call::CutPolygon | Call::Contains | Call::Wkb)
+    }
+
+    pub fn writes_bytes(self) -> bool {
+        self == Call::Wkb
     }
 }
 
@@ -58,7 +67,9 @@ pub struct Case {
     pub polygon: Vec<u32>,
     pub cell: [u32; 2],
     pub result_length: usize,
-    /// Seed of what the result list and the numbers stored hold before the call.
+    /// The bytes of the output.
+    pub output_length: usize,
+    /// Seed of what the result list, the output and the numbers stored hold before the call.
     pub fill: u64,
 }
 
@@ -71,14 +82,22 @@ pub struct Output {
     pub extra: u64,
     pub has: u32,
     pub compared: u32,
+    pub length: u32,
     /// The numbers before the result list, the result list, and those after it.
     pub numbers: Vec<u32>,
+    /// The bytes before the output, the output, and those after it.
+    pub bytes: Vec<u8>,
 }
 
 impl Output {
     /// The rectangles written, four numbers each.
     pub fn list(&self) -> &[u32] {
         &self.numbers[GUARD..GUARD + 4 * self.written as usize]
+    }
+
+    /// The bytes written.
+    pub fn written_bytes(&self) -> &[u8] {
+        &self.bytes[OUTPUT_GUARD..OUTPUT_GUARD + self.length as usize]
     }
 }
 
@@ -91,6 +110,7 @@ impl Case {
             polygon: vec![0, 0, 1, 1],
             cell: [0, 0],
             result_length: RESULT_LENGTH,
+            output_length: OUTPUT_LIMIT,
             fill: 0,
         }
     }
@@ -104,10 +124,26 @@ impl Case {
             extra: random.number(),
             has: random.number() as u32,
             compared: random.number() as u32,
+            length: random.number() as u32,
             numbers: (0..GUARD + self.result_length + GUARD)
                 .map(|_| random.number() as u32)
                 .collect(),
+            bytes: self.bytes_before(&mut random),
         }
+    }
+
+    fn bytes_before(&self, random: &mut Random) -> Vec<u8> {
+        if !self.call.writes_bytes() {
+            return Vec::new();
+        }
+        let count = OUTPUT_GUARD + self.output_length + OUTPUT_GUARD;
+        let eights = (0..count.div_ceil(8)).map(|_| random.number().to_ne_bytes());
+        eights.flatten().take(count).collect()
+    }
+
+    /// The bytes lent as the output.
+    fn output<'a>(&self, bytes: &'a mut [u8]) -> &'a mut [u8] {
+        &mut bytes[OUTPUT_GUARD..OUTPUT_GUARD + self.output_length]
     }
 
     fn second(&self, mut output: Output) -> Output {
@@ -123,6 +159,10 @@ impl Case {
             Call::Contains => {
                 let (has, compared) = (&mut output.has, &mut output.compared);
                 drawing::contains(&self.polygon, self.cell, has, compared)
+            }
+            Call::Wkb => {
+                let out = self.output(&mut output.bytes);
+                drawing::wkb(&self.polygon, out, &mut output.length)
             }
         };
         output.answer = answer.map_or_else(Refusal::number, |()| 0);
@@ -143,20 +183,24 @@ impl Case {
                 let (has, compared) = (&mut output.has, &mut output.compared);
                 proved::contains(&self.polygon, self.cell, has, compared)
             }
+            Call::Wkb => {
+                let out = self.output(&mut output.bytes);
+                proved::wkb(&self.polygon, out, &mut output.length)
+            }
         };
         output
     }
 
     /// Makes the call to both implementations and fails the test where they differ: in the answer,
-    /// in what is stored, in any number of the result list or next to it, or in the lists read.
-    /// `place` says which case of which test this is.
+    /// in what is stored, in any number of the result list or next to it, in any byte of the output
+    /// or next to it, or in the lists read. `place` says which case of which test this is.
     pub fn compare(&self, place: &str) -> Output {
         let before = self.before();
         let lent = self.clone();
         let second = self.second(before.clone());
         let proved = lent.proved(before);
         if second != proved || *self != lent {
-            panic!("{}", self.difference(place, &lent, &second, &proved));
+            panic!("{place}: {}", difference(self, &lent, &second, &proved));
         }
         self.check_untouched(place, &second);
         second
@@ -171,12 +215,16 @@ impl Case {
             expected.extra = output.extra;
         } else if self.call == Call::Contains {
             (expected.has, expected.compared) = (output.has, output.compared);
+        } else if self.call == Call::Wkb {
+            let end = OUTPUT_GUARD + output.length as usize;
+            expected.length = output.length;
+            expected.bytes[OUTPUT_GUARD..end].copy_from_slice(output.written_bytes());
         } else {
             let end = GUARD + 4 * output.written as usize;
             expected.written = output.written;
             expected.numbers[GUARD..end].copy_from_slice(&output.numbers[GUARD..end]);
         }
-        assert_eq!(*output, expected, "{place}: written to\n{}", self.inputs());
+        assert_eq!(*output, expected, "{place}: written to\n{}", inputs(self));
     }
 
     /// As `compare`, and fails also where the answer is not the expected one.
@@ -188,61 +236,8 @@ impl Case {
             "{place}: {:?} answers {}, expected {answer}\n{}",
             self.call,
             output.answer,
-            self.inputs()
+            inputs(self)
         );
         output
-    }
-
-    fn difference(&self, place: &str, lent: &Case, second: &Output, proved: &Output) -> String {
-        let mut text = format!("{place}: the two implementations differ\n{}", self.inputs());
-        if self != lent {
-            text += &format!("lists read after the call:\n{}", lent.inputs());
-        }
-        let before = self.before();
-        for (name, output) in [("before", &before), ("second", second), ("proved", proved)] {
-            let Output {
-                answer,
-                written,
-                extra,
-                has,
-                compared,
-                ..
-            } = output;
-            writeln!(
-                text,
-                "{name}: answer {answer}, written {written}, extra {extra}, has {has}, \
-                 compared {compared}"
-            )
-            .unwrap();
-        }
-        for (i, &number) in before.numbers.iter().enumerate() {
-            let (a, b) = (second.numbers[i], proved.numbers[i]);
-            if a != number || b != number {
-                let at = i as i64 - GUARD as i64;
-                let mark = if a == b { "" } else { "  <- differs" };
-                writeln!(text, "result[{at}]: second {a}, proved {b}{mark}").unwrap();
-            }
-        }
-        text
-    }
-
-    /// The arguments that the call takes.
-    fn inputs(&self) -> String {
-        let mut text = format!("call: {:?}\n", self.call);
-        if self.call.takes_list() {
-            writeln!(text, "list ({} numbers): {:?}", self.list.len(), self.list).unwrap();
-            writeln!(text, "result list: {} numbers", self.result_length).unwrap();
-        }
-        if self.call.takes_rectangle() {
-            writeln!(text, "rectangle: {:?}", self.rectangle).unwrap();
-        }
-        if self.call.takes_polygon() {
-            let length = self.polygon.len();
-            writeln!(text, "polygon ({length} numbers): {:?}", self.polygon).unwrap();
-        }
-        if self.call.takes_cell() {
-            writeln!(text, "cell: {:?}", self.cell).unwrap();
-        }
-        text
     }
 }

@@ -2,7 +2,8 @@
 //! nested and crossing rectangles are frequent.
 
 use super::case::{Call, Case};
-use super::{GRID_END, LIST_LIMIT};
+use super::wkb::needed;
+use super::{GRID_END, LIST_LIMIT, OUTPUT_LIMIT};
 use reference::random::Random;
 
 /// The coordinates, per dimension, that the corners of one case are taken from.
@@ -131,7 +132,8 @@ pub fn random_case(call: Call, random: &mut Random) -> Case {
     random_case_of_size(call, list_count, polygon_count, random)
 }
 
-/// A case of valid arguments with so many rectangles in the list and in the polygon.
+/// A case of valid arguments with so many rectangles in the list and in the polygon. (An output may
+/// be too short.)
 pub fn random_case_of_size(
     call: Call,
     list_count: usize,
@@ -155,5 +157,20 @@ pub fn random_case_of_size(
     if call.takes_cell() {
         case.cell = [0, 1].map(|d| coordinates.cell(d, random));
     }
+    if call.writes_bytes() {
+        case.output_length = output_length(polygon_count, random);
+    }
     case
+}
+
+/// The bytes of an output for so many rectangles: as many as they need, some more, or too few.
+fn output_length(rectangles: usize, random: &mut Random) -> usize {
+    let need = needed(rectangles);
+    match random.between(1, 8) {
+        1..=4 => need,
+        5 => need + random.between(1, 93) as usize,
+        6 => OUTPUT_LIMIT,
+        7 => need - random.between(1, 93) as usize,
+        _ => random.between(0, need as u32 - 1) as usize,
+    }
 }

@@ -24,7 +24,9 @@ pub mod nested;
 pub mod notch;
 pub mod others;
 pub mod parent;
+pub mod polygons;
 pub mod program;
+pub mod report;
 pub mod settle;
 pub mod shapes;
 pub mod sound;
@@ -32,14 +34,15 @@ pub mod streams;
 pub mod tables;
 pub mod tally;
 pub mod trace;
+pub mod wkb;
 
 use std::env;
 use std::io::Write;
 use std::sync::OnceLock;
 use std::time::{SystemTime, UNIX_EPOCH};
 
-// Document 01's numbers, written out here so that the tests do not follow a change of the second
-// implementation's own.
+// Numbers of documents 01 and 02, written out here so that the tests do not follow a change of the
+// second implementation's own.
 
 /// The largest upper right coordinate.
 pub const GRID_END: u32 = 65536;
@@ -52,6 +55,9 @@ pub const POLYGON_LIMIT: usize = 16;
 
 /// The numbers of a result list.
 pub const RESULT_LENGTH: usize = 1024;
+
+/// The bytes of a polygon of 16 rectangles as Well-Known Binary, the most that a call writes.
+pub const OUTPUT_LIMIT: usize = 1497;
 
 /// The seed of this test program: LINTZOGER_SEED where it is set (decimal), else from the clock.
 /// It is printed past the test harness, which shows nothing of a passing test otherwise.

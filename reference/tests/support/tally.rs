@@ -86,6 +86,7 @@ pub fn accepted_kinds(call: Call) -> &'static [&'static str] {
             "the last has the cell",
             "none has the cell",
         ],
+        Call::Wkb => &["output as long as needed", "output longer"],
     }
 }
 
@@ -94,6 +95,7 @@ fn outcome(case: &Case, output: &Output) -> &'static str {
         0 => accepted_kind(case, output),
         3 => "refused 3",
         7 => "refused 7",
+        11 => "refused 11",
         _ => "unknown answer",
     }
 }
@@ -106,6 +108,8 @@ fn accepted_kind(case: &Case, output: &Output) -> &'static str {
             _ => "extra area of 2^31 or more",
         },
         Call::Contains => containment_kind(case.polygon.len() / 4, output),
+        Call::Wkb if output.length as usize == case.output_length => "output as long as needed",
+        Call::Wkb => "output longer",
         Call::Common => match output.list().len() {
             0 => "nothing written",
             length if length < case.list.len() => "some rectangles left",
