@@ -1,51 +1,24 @@
 //! The examples in C compile with the headers, link the proved libraries and print what is stored.
 
-use std::env;
+mod c_support;
+
+use c_support::{compile, expected, kept, source};
 use std::fs;
-use std::path::{Path, PathBuf};
+use std::path::Path;
 use std::process::Command;
 
-fn root() -> PathBuf {
-    Path::new(env!("CARGO_MANIFEST_DIR")).join("..")
-}
-
-fn program(name: &str) -> PathBuf {
-    Path::new(env!("CARGO_TARGET_TMPDIR")).join(name)
-}
-
-/// Compiles the source with the archives to the program of that name.
-fn compile(source: &Path, archives: &[&str], name: &str) {
-    let compiler = env::var("CC").unwrap_or_else(|_| "cc".to_string());
-    let compiled = Command::new(&compiler)
-        .args(["-std=c11", "-Wall", "-Wextra", "-Werror"])
-        .arg("-I")
-        .arg(root().join("include"))
-        .arg(source)
-        .args(archives)
-        .arg("-o")
-        .arg(program(name))
-        .output()
-        .expect("the C compiler runs");
-    let errors = String::from_utf8_lossy(&compiled.stderr);
-    assert!(compiled.status.success(), "{compiler}: {errors}");
-}
-
-/// Runs the program of that name, which must end with success; returns what it prints.
-fn run(name: &str) -> String {
-    let run = Command::new(program(name))
-        .output()
-        .expect("the program runs");
+/// Runs the program, which must end with success; returns what it prints.
+fn run(program: &Path) -> String {
+    let run = Command::new(program).output().expect("the program runs");
     assert!(run.status.success(), "the program ends with {}", run.status);
     String::from_utf8(run.stdout).expect("the program prints text")
 }
 
 /// The example prints what is stored beside it.
 fn check_example(name: &str, archive: &str) {
-    let folder = root().join("examples/c");
-    compile(&folder.join(format!("{name}.c")), &[archive], name);
-    let stored = folder.join(format!("{name}.expected"));
-    let expected = fs::read_to_string(stored).expect("the stored answers can be read");
-    assert_eq!(run(name), expected);
+    let program = kept(name);
+    compile(&source(name), &[archive], &program);
+    assert_eq!(run(&program), expected(name));
 }
 
 #[test]
@@ -71,7 +44,7 @@ fn session() {
 /// One program can include both headers and link both libraries.
 #[test]
 fn both_headers() {
-    let source = program("both.c");
+    let (source, program) = (kept("both.c"), kept("both"));
     let text = "#include \"drawing.h\"\n#include \"lintzoger.h\"\n\
         int main(void) {\n\
         uint32_t index[LINTZOGER_INDEX_LEN(1)] = {0}, held;\n\
@@ -83,7 +56,7 @@ fn both_headers() {
     compile(
         &source,
         &[env!("LINTZOGER_ARCHIVE"), env!("DRAWING_ARCHIVE")],
-        "both",
+        &program,
     );
-    assert_eq!(run("both"), "");
+    assert_eq!(run(&program), "");
 }

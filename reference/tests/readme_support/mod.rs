@@ -1,6 +1,7 @@
 //! README.md taken apart, and a folder to run it in.
 
 use std::fs;
+use std::io::Write;
 use std::os::unix::fs::symlink;
 use std::path::{Path, PathBuf};
 use std::process::{Command, Output};
@@ -95,6 +96,18 @@ pub fn copy_of_repository(name: &str) -> PathBuf {
     let libraries = libraries.expect("the archive is in a folder");
     symlink(libraries, copy.join("target/staticlib")).expect("a link");
     copy
+}
+
+/// Whether the program is installed. Where it is not, that and what follows from it are said past
+/// the test harness.
+pub fn is_here(program: &str, else_say: &str) -> bool {
+    let is_here = Command::new(program).arg("--version").output().is_ok();
+    if !is_here {
+        let line = format!("{program} is not here: {else_say}\n");
+        let said = std::io::stderr().write_all(line.as_bytes());
+        said.expect("standard error takes a line");
+    }
+    is_here
 }
 
 /// Runs the command, which must end with success.
