@@ -1,9 +1,9 @@
 //! The proved calls' time over the plain Rust calls' time for the same job: numbers in, numbers
-//! out, arguments tested. Both are called on the same inputs, in turns; the result list is not
-//! cleared between calls. The times are illustrations, the ratio is the figure.
+//! out, arguments tested. Both are called on the same inputs, in turns; the result list and the
+//! output are not cleared between calls. The times are illustrations, the ratio is the figure.
 
 use reference::drawing::{self, RESULT_LENGTH};
-use reference::geometry::POLYGON_LIMIT;
+use reference::geometry::{GRID_END, POLYGON_LIMIT};
 use reference::measure::median;
 use reference::proved;
 use reference::random::Random;
@@ -19,6 +19,9 @@ const ROUNDS: usize = 15;
 /// The least time of a round, in nanoseconds.
 const ROUND_TIME: u128 = 10_000_000;
 
+/// The bytes of a polygon of 16 rectangles as Well-Known Binary.
+const OUTPUT_LENGTH: usize = 9 + 93 * POLYGON_LIMIT;
+
 /// The arguments of one call, which takes some of them. The rectangle is the polygon's first.
 struct Input {
     list: Vec<u32>,
@@ -26,8 +29,9 @@ struct Input {
     cell: [u32; 2],
 }
 
-/// A call on an input, which returns the call's number.
-type Job = fn(&Input, &mut [u32], &mut u32) -> u32;
+/// A call on an input, which returns the call's number. It is lent a result list, an output and a
+/// number to store, and uses some of them.
+type Job = fn(&Input, &mut [u32], &mut [u8], &mut u32) -> u32;
 
 fn first(polygon: &[u32]) -> [u32; 4] {
     [polygon[0], polygon[1], polygon[2], polygon[3]]
@@ -41,8 +45,10 @@ fn number(answer: Result<(), drawing::Refusal>) -> u32 {
 const JOBS: [(&str, Job, Job); 3] = [
     (
         "cut by a rectangle",
-        |input, result, written| proved::cut(&input.list, first(&input.polygon), result, written),
-        |input, result, written| {
+        |input, result, _, written| {
+            proved::cut(&input.list, first(&input.polygon), result, written)
+        },
+        |input, result, _, written| {
             number(drawing::cut(
                 &input.list,
                 first(&input.polygon),
@@ -53,8 +59,10 @@ const JOBS: [(&str, Job, Job); 3] = [
     ),
     (
         "cut by a polygon of 4",
-        |input, result, written| proved::cut_polygon(&input.list, &input.polygon, result, written),
-        |input, result, written| {
+        |input, result, _, written| {
+            proved::cut_polygon(&input.list, &input.polygon, result, written)
+        },
+        |input, result, _, written| {
             number(drawing::cut_polygon(
                 &input.list,
                 &input.polygon,
@@ -65,15 +73,17 @@ const JOBS: [(&str, Job, Job); 3] = [
     ),
     (
         "refine",
-        |input, result, written| proved::refine(&input.list, result, written),
-        |input, result, written| number(drawing::refine(&input.list, result, written)),
+        |input, result, _, written| proved::refine(&input.list, result, written),
+        |input, result, _, written| number(drawing::refine(&input.list, result, written)),
     ),
 ];
 
 /// The containment test stores `has` in the result list's first place, and `compared` as written.
 const CONTAINS: [Job; 2] = [
-    |input, result, written| proved::contains(&input.polygon, input.cell, &mut result[0], written),
-    |input, result, written| {
+    |input, result, _, written| {
+        proved::contains(&input.polygon, input.cell, &mut result[0], written)
+    },
+    |input, result, _, written| {
         number(drawing::contains(
             &input.polygon,
             input.cell,
@@ -81,6 +91,12 @@ const CONTAINS: [Job; 2] = [
             written,
         ))
     },
+];
+
+/// The call that writes Well-Known Binary stores its length as written.
+const WKB: [Job; 2] = [
+    |input, _, out, length| proved::wkb(&input.polygon, out, length),
+    |input, _, out, length| number(drawing::wkb(&input.polygon, out, length)),
 ];
 
 /// Where the cell is in a polygon of 16: name, `has`, `compared`.
@@ -118,7 +134,7 @@ fn input(random: &mut Random, count: usize) -> Input {
         let mut result = [0; RESULT_LENGTH];
         if JOBS
             .iter()
-            .all(|job| job.2(&input, &mut result, &mut 0) == 0)
+            .all(|job| job.2(&input, &mut result, &mut [], &mut 0) == 0)
         {
             return input;
         }
@@ -137,34 +153,47 @@ fn containment_input(random: &mut Random, has: u32, compared: u32) -> Input {
             cell: [0, 1].map(|_| random.between(0, 9)),
         };
         let mut written = 0;
-        plain(&input, &mut result, &mut written);
+        plain(&input, &mut result, &mut [], &mut written);
         if [result[0], written] == [has, compared] {
             return input;
         }
     }
 }
 
+/// A polygon of so many rectangles anywhere on the grid.
+fn wkb_input(random: &mut Random, count: usize) -> Input {
+    let polygon = (0..count).flat_map(|_| rectangle(random, GRID_END, GRID_END));
+    Input {
+        list: Vec::new(),
+        polygon: polygon.collect(),
+        cell: [0, 0],
+    }
+}
+
+/// What the call gives: its number, and all that it was lent to be written.
+fn outcome(input: &Input, job: Job) -> (u32, Vec<u32>, Vec<u8>, u32) {
+    let (mut result, mut out) = (vec![0; RESULT_LENGTH], vec![0; OUTPUT_LENGTH]);
+    let mut written = 0;
+    let answer = job(input, &mut result, &mut out, &mut written);
+    (answer, result, out, written)
+}
+
 /// Both calls give the same, so the comparison is about the same job.
 fn check(inputs: &[Input], proved: Job, plain: Job) {
     for input in inputs {
-        let (mut proved_result, mut plain_result) = ([0; RESULT_LENGTH], [0; RESULT_LENGTH]);
-        let (mut proved_written, mut plain_written) = (0, 0);
-        let answer = proved(input, &mut proved_result, &mut proved_written);
-        assert_eq!(answer, plain(input, &mut plain_result, &mut plain_written));
-        assert_eq!(proved_written, plain_written);
-        assert_eq!(proved_result, plain_result);
+        assert_eq!(outcome(input, proved), outcome(input, plain));
     }
 }
 
 /// Nanoseconds a call, over `repeats` passes through the inputs.
 fn time(inputs: &[Input], job: Job, repeats: u32) -> f64 {
-    let mut result = [0; RESULT_LENGTH];
+    let (mut result, mut out) = ([0; RESULT_LENGTH], [0; OUTPUT_LENGTH]);
     let mut written = 0;
     let start = Instant::now();
     for _ in 0..repeats {
         for input in inputs {
-            black_box(job(black_box(input), &mut result, &mut written));
-            black_box(&mut result);
+            black_box(job(black_box(input), &mut result, &mut out, &mut written));
+            black_box((&mut result, &mut out));
         }
     }
     start.elapsed().as_nanos() as f64 / f64::from(repeats) / inputs.len() as f64
@@ -211,5 +240,10 @@ fn main() {
             .map(|_| containment_input(&mut random, has, compared))
             .collect();
         compare(name, POLYGON_LIMIT, &inputs, proved, plain);
+    }
+    let [proved, plain] = WKB;
+    for count in [1, 4, POLYGON_LIMIT] {
+        let inputs: Vec<Input> = (0..INPUTS).map(|_| wkb_input(&mut random, count)).collect();
+        compare("well-known binary", count, &inputs, proved, plain);
     }
 }
