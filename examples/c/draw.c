@@ -1,4 +1,4 @@
-/* Each call of the drawing exercise on small data. */
+/* Each call of the drawing exercise on small data, but for lintzoger_wkb, which wkb.c has. */
 
 #include "drawing.h"
 

@@ -97,6 +97,7 @@ fn check_commands(edition: &str) {
         }
     }
     assert!(copy.join("target/session").is_file());
+    assert!(copy.join("target/cross.wkb").is_file());
     assert!(copy.join("../cells/target/debug/cells").is_file());
 }
 
