@@ -38,4 +38,4 @@ ring-runs r v =
     let h : ℕ = r .ury - r .lly in
     let x : r .urx ≡ r .llx + w = omega (arith, k .wide) in
     let y : r .ury ≡ r .lly + h = omega (arith, k .high) in
-    record { some = area-positive r (valid-some r v); twice = sums _ _ _ _ w h x y }
+    record { positive = area-positive r (valid-some r v); twice = sums _ _ _ _ w h x y }

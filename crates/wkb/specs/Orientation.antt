@@ -18,5 +18,5 @@ yTimesNextX (p ∷ q ∷ l) = p .1 * q .0 + yTimesNextX (q ∷ l)
 
 -- 'runs counterclockwise', around an area: by the shoelace formula the first sum is the greater one, by twice the area
 pub record Counterclockwise (l : List (ℕ × ℕ)) (area : ℕ) : Type 0 where
-  pub some : 1 ≤ area
+  pub positive : 1 ≤ area
   pub twice : xTimesNextY l ≡ yTimesNextX l + 2 * area
