@@ -39,6 +39,12 @@ unfolding isList
 list-few most m b e f =
     leb-true (length m / 4) most (all4 (eqb (length m % 4) 0) (leb 1 (length m / 4)) (leb (length m / 4) most) (allValid (given m)) (sym e ∙ f) .2)
 
+-- and all of them are valid
+pub list-valid : (most : ℕ) (m : List ℕ) → isList most m ≡ true → allValid (given m) ≡ true
+unfolding isList
+list-valid most m e =
+    all4 (eqb (length m % 4) 0) (leb 1 (length m / 4)) (leb (length m / 4) most) (allValid (given m)) e .3
+
 -- what a call promises, from whether its arguments are valid
 module _ (valid? : Bool) (limited : Option (List Rect)) (out : List ℕ) where
   refused : valid? ≡ false → Drawn valid? limited out Invalid out

@@ -1,19 +1,23 @@
--- The claim about the shipped call, from its promise as it returned: accepted, a reader finds the polygon; refused,
--- everything is as it was.
+-- The claim about the shipped call, from its own contract and what it returned and stored: accepted, a reader finds the
+-- polygon; refused, everything is as it was.
 use mathlib.Core.Path.{_≡_, refl, sym, ap, subst, _∙_}
 use mathlib.Core.Bool.{Bool, true, false}
 use mathlib.Core.List.{List, _++_}
-use Prim.Native.Nat.{ℕ, _+_, _/_, _%_, _≤_}
+use Prim.Native.Nat.{ℕ, _+_, _/_, _≤_}
 use native.Mathlib.Omega.{arith}
 use borrow.Author.Tests.{leb-true}
-use lib.Dec.{leb, eqb}
+use contract.Lifetimes.{Lfts}
+use denote.Ref.{now}
+use denote.Triple.Clauses.{AtExit}
+use borrow.Fn.Kinds.{endedOf}
+use borrow.Fn.World.{ArgsD, ResD}
+use lib.Dec.{leb}
 use lib.ListN.{length, getD, drop, length-append, length-drop}
 use lib.Seq.{drop-at}
 use Rattle.polygons.specs.Limits.{mostOfPolygon}
 use Rattle.geometry.specs.declared.rect.Rect.{Rect}
-use Rattle.geometry.specs.Cells.{noRect, valid, allValid}
+use Rattle.geometry.specs.Cells.{noRect, valid}
 use Rattle.geometry.specs.Numbers.{rectAt}
-use Rattle.geometry.proofs.Booleans.{all4}
 use Rattle.geometry.proofs.CellLaws.{valid-at}
 use Rattle.geometry.proofs.NumberLaws.{length-rects, rects-at}
 use Rattle.wkb.specs.Collection.{collectionBytes, ring, wkbLength}
@@ -25,13 +29,10 @@ use Rattle.drawing.specs.declared.answer.Wkb.the-variants.{Bytes, BadPol
 use Rattle.drawing.specs.Arguments.{given, isList}
 use Rattle.drawing.specs.Wkb.{wkbOf, wkbAnswer, outputOf, wkbNumber, lengthReported, WkbExported}
 use Rattle.drawing.specs.WkbClaim.{WkbClaim}
-use Rattle.drawing.proofs.Ways.{list-few}
-
--- what an accepted list is
-list-valid : (most : ℕ) (p : List ℕ) → isList most p ≡ true → allValid (given p) ≡ true
-unfolding isList
-list-valid most p e =
-    all4 (eqb (length p % 4) 0) (leb 1 (length p / 4)) (leb (length p / 4) most) (allValid (given p)) e .3
+use Rattle.drawing.proofs.Ways.{list-few, list-valid}
+use Rattle.drawing.proofs.exports.lintzoger_wkb as wkb-fn
+use Rattle.drawing.proofs.exports.lintzoger_wkb.Reads as wkb
+use Rattle.drawing.proofs.exports.lintzoger_wkb.Kinds as wkb-kinds
 
 -- the claim where both tests passed
 module _ (p out : List ℕ) (v : isList mostOfPolygon p ≡ true) (room : wkbLength (length p / 4) ≤ length out) where
@@ -63,20 +64,51 @@ by-case true true p out told a e d f z = rw f (claimed p out (sym e) (leb-true _
 by-case true false p out told a e d f z = absurd (omega (arith, ap wkbNumber f))
 by-case false r p out told a e d f z = absurd (omega (arith, ap wkbNumber f))
 
-module _ (p out out′ : List ℕ) (told n told′ : ℕ) (w : WkbExported p out told n out′ told′) where
-  -- accepted
-  pub wkb-claim : n ≡ 0 → WkbClaim p out out′ told′
-  wkb-claim z =
-      rw (w .output, w .length-told)
-      (by-case (isList mostOfPolygon p) (leb (wkbLength (length p / 4)) (length out)) p out told (wkbAnswer p out)
-      refl refl refl (sym (w .refusal) ∙ z))
+-- A call of `lintzoger_wkb` that has returned: its lifetimes, its arguments (the polygon, the output, the place for the
+-- length), its number and what it was lent when it returned, with the function's own contract of these (`Post`), quoted
+-- and not restated.
+pub record Call : Type 0 where
+  pub κs : Lfts 3
+  pub args : ArgsD wkb-fn.signature κs
+  pub out : ResD wkb-fn.signature κs
+  pub exits : AtExit (endedOf 3 wkb-kinds.ps wkb-kinds.r) κs
+  pub meets : wkb.Post κs args out exits
 
-  -- refused: 'nothing written', and the stored length is as it was
-  pub wkb-refused : (n ≡ 0 → ⊥) → (out′ ≡ out) × (told′ ≡ told)
-  wkb-refused z = go (wkbAnswer p out) (w .refusal) (w .output) (w .length-told)
-    where
-      go : (a : Wkb) → n ≡ wkbNumber a → out′ ≡ outputOf a (given p) out → told′ ≡ lengthReported a told
-          → (out′ ≡ out) × (told′ ≡ told)
-      go (Bytes k) e o l = absurd (z e)
-      go BadPolygon e o l = (o, l)
-      go ShortOutput e o l = (o, l)
+-- what it was handed, and what it left
+abbrev pub polygon : Call → List ℕ
+polygon s = now (s .args .0)
+
+abbrev pub output : Call → List ℕ
+output s = now (s .args .1 .0)
+
+abbrev pub output-left : Call → List ℕ
+output-left s = now (s .exits .1 .0)
+
+abbrev pub length-before : Call → ℕ
+length-before s = now (s .args .1 .1 .0)
+
+abbrev pub length-stored : Call → ℕ
+length-stored s = now (s .exits .1 .1 .0)
+
+-- accepted: a reader finds the polygon
+pub wkb-claim : (s : Call) → s .out ≡ 0 → WkbClaim (polygon s) (output s) (output-left s) (length-stored s)
+wkb-claim s z =
+    let w : WkbExported (polygon s) (output s) (length-before s) (s .out) (output-left s) (length-stored s) = s .meets in
+    let p : List ℕ = polygon s in
+    let o : List ℕ = output s in
+    rw (w .output, w .length-told)
+    (by-case (isList mostOfPolygon p) (leb (wkbLength (length p / 4)) (length o)) p o (length-before s) (wkbAnswer p o)
+    refl refl refl (sym (w .refusal) ∙ z))
+
+-- by the answer's cases
+refused-left : (a : Wkb) (rs : List Rect) (out out′ : List ℕ) (told n told′ : ℕ) → (n ≡ 0 → ⊥) → n ≡ wkbNumber a
+    → out′ ≡ outputOf a rs out → told′ ≡ lengthReported a told → (out′ ≡ out) × (told′ ≡ told)
+refused-left (Bytes k) rs out out′ told n told′ z e o l = absurd (z e)
+refused-left BadPolygon rs out out′ told n told′ z e o l = (o, l)
+refused-left ShortOutput rs out out′ told n told′ z e o l = (o, l)
+
+-- refused: 'nothing written', and the stored length is as it was
+pub wkb-refused : (s : Call) → (s .out ≡ 0 → ⊥) → (output-left s ≡ output s) × (length-stored s ≡ length-before s)
+wkb-refused s z =
+    let w : WkbExported (polygon s) (output s) (length-before s) (s .out) (output-left s) (length-stored s) = s .meets in
+    refused-left (wkbAnswer (polygon s) (output s)) (given (polygon s)) _ _ _ _ _ z (w .refusal) (w .output) (w .length-told)

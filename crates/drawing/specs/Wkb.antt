@@ -1,4 +1,4 @@
--- A polygon written as Well-Known Binary: the call's answer, its number, and what it leaves.
+-- A polygon written as Well-Known Binary (request A.4): the call's answer, its number, and what it leaves.
 -- docs/RULES.md 2.19, 2.25, 2.31, 8.10
 use Prim.Native.Nat.{ℕ, _/_}
 use mathlib.Core.Bool.{Bool, true, false}
@@ -32,6 +32,7 @@ outputOf (Bytes n) rs out = collectionBytes rs ++ drop n out
 outputOf BadPolygon rs out = out
 outputOf ShortOutput rs out = out
 
+-- for a polygon, the output at exit from that at entry
 abbrev pub wkbOutput : List ℕ → List ℕ → List ℕ
 wkbOutput p out = outputOf (wkbAnswer p out) (given p) out
 

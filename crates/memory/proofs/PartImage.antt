@@ -7,6 +7,7 @@ use native.Mathlib.Omega.{arith}
 use borrow.Author.Tests.{le-leb}
 use lib.ListN.{length, take, drop, getD, replicate, length-append, length-replicate}
 use lib.Seq.{take-at, drop-at, drop-append-le, take-length, take-suc, getD-drop, drop-drop}
+use Rattle.polygons.proofs.FlatLaws.{flat-length}
 use Rattle.geometry.specs.declared.rect.Rect.{Rect}
 use Rattle.geometry.specs.Numbers.{rectsIn, numbersOf}
 use Rattle.geometry.proofs.CellLaws.{rect-is}
@@ -113,9 +114,8 @@ module _ (p : List Rect) (c : ℕ) (items : List ℕ) (few : length p ≤ 16) (f
 
 -- the entries of a leaf take three numbers each
 pub length-entries : (es : List CellEntry) → length (flatMap entryNumbers es) ≡ 3 * length es
-unfolding flatMap entryNumbers
-length-entries [] = refl
-length-entries (e ∷ es) = let ih = length-entries es in omega arith
+unfolding entryNumbers
+length-entries = flat-length entryNumbers 3 (λ e. refl)
 
 -- what getD gives past the end
 noEntry : CellEntry

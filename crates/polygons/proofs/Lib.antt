@@ -1,3 +1,4 @@
 pub mod LimitLaws
 pub mod LeastLaws
 pub mod PlaceLaws
+pub mod FlatLaws

@@ -4,6 +4,7 @@ use mathlib.Core.Path.{_≡_, ap, _∙_}
 use mathlib.Core.List.{List, flatMap}
 use native.Mathlib.Omega.{arith}
 use lib.ListN.{length, take, drop, length-append}
+use Rattle.polygons.proofs.FlatLaws.{flat-length, flat-at}
 use Rattle.geometry.specs.declared.rect.Rect.{Rect}
 use Rattle.geometry.specs.Cells.{noRect}
 use Rattle.geometry.specs.Numbers.{rectAt, rectsIn}
@@ -11,7 +12,6 @@ use Rattle.geometry.proofs.NumberLaws.{length-rects, rects-at}
 use Rattle.wkb.specs.Collection.{headerBytes, pointBytes, ring, polygonBytes, collectionBytes, wkbLength}
 use Rattle.wkb.proofs.ByteLaws.{length-little}
 use Rattle.wkb.proofs.DoubleLaws.{length-double}
-use Rattle.wkb.proofs.FlatLaws.{length-flat, flat-at}
 
 pub length-header : (kind count : ℕ) → length (headerBytes kind count) ≡ 9
 unfolding headerBytes
@@ -23,14 +23,14 @@ length-point p = rw (length-append, length-double (p .0), length-double (p .1))
 
 pub length-ring : (r : Rect) → length (flatMap pointBytes (ring r)) ≡ 80
 unfolding ring
-length-ring r = length-flat pointBytes 16 length-point (ring r)
+length-ring r = flat-length pointBytes 16 length-point (ring r)
 
 pub length-polygon : (r : Rect) → length (polygonBytes r) ≡ 93
 unfolding polygonBytes
 length-polygon r = simp (length-append, length-header, length-little, length-ring)
 
 pub length-polygons : (rs : List Rect) → length (flatMap polygonBytes rs) ≡ 93 * length rs
-length-polygons rs = length-flat polygonBytes 93 length-polygon rs
+length-polygons rs = flat-length polygonBytes 93 length-polygon rs
 
 -- 'The length, which is returned, is 9 + 93 × rectangles'
 pub length-collection : (rs : List Rect) → length (collectionBytes rs) ≡ wkbLength (length rs)

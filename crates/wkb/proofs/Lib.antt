@@ -1,6 +1,5 @@
 pub mod ByteLaws
 pub mod DoubleLaws
-pub mod FlatLaws
 pub mod CollectionLaws
 pub mod RingLaws
 pub mod ReadLaws

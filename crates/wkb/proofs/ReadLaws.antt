@@ -6,6 +6,7 @@ use mathlib.Core.List.{List, _++_, flatMap, append-assoc}
 use native.Mathlib.Omega.{arith}
 use lib.ListN.{length, getD, take, drop, length-append}
 use lib.Seq.{take-at, drop-at, drop-drop, drop-append-le}
+use Rattle.polygons.proofs.FlatLaws.{flat-length, flat-from}
 use Rattle.geometry.specs.declared.rect.Rect.{Rect}
 use Rattle.geometry.specs.Cells.{noRect, valid, allValid}
 use Rattle.geometry.proofs.CellLaws.{Valid, valid-of, valid-at}
@@ -15,7 +16,6 @@ use Rattle.wkb.specs.Collection.{headerBytes, pointBytes, ring, polygonB
 use Rattle.wkb.specs.Reading.{wordAt, HeaderRead, PointRead, PolygonRead, CollectionRead}
 use Rattle.wkb.proofs.ByteLaws.{length-little, little-whole}
 use Rattle.wkb.proofs.DoubleLaws.{length-double, double-read}
-use Rattle.wkb.proofs.FlatLaws.{length-flat, flat-from}
 use Rattle.wkb.proofs.CollectionLaws.{length-header, length-point, length-polygon, length-polygons}
 use Rattle.wkb.proofs.RingLaws.{ring-five}
 
@@ -104,7 +104,7 @@ module _ (r : Rect) (v : valid r ≡ true) (m : List ℕ) where
             let q : ℕ × ℕ = getD (ring r) j (0, 0) in
             let s = ring-small r v j in
             let five = ring-five r in
-            let lp = length-flat pointBytes 16 length-point (ring r) in
+            let lp = flat-length pointBytes 16 length-point (ring r) in
             let more : List ℕ = flatMap pointBytes (drop (suc j) (ring r)) in
             let w : drop (13 + 16 * j) (h ++ n ++ ps ++ m) ≡ pointBytes q ++ (more ++ m)
             = sym (drop-drop (16 * j) 13 (h ++ n ++ ps ++ m))

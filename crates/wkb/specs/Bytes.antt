@@ -1,10 +1,10 @@
--- Numbers as bytes, lowest first, and bytes written over a list.
+-- Request A.4, 'little-endian': numbers as bytes, lowest first; and bytes written over a list.
 -- docs/RULES.md 2.27
 use Prim.Native.Nat.{ℕ, zero, suc, _+_, _*_, _/_, _%_}
 use mathlib.Core.List.{List, [], _∷_, _++_}
 use lib.ListN.{length, take, drop}
 
--- 'little-endian': the k lowest bytes of a number, lowest first
+-- the k lowest bytes of a number, lowest first
 unfoldable pub littleBytes : ℕ → ℕ → List ℕ
 littleBytes zero v = []
 littleBytes (suc k) v = (v % 256) ∷ littleBytes k (v / 256)

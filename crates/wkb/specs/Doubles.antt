@@ -1,4 +1,4 @@
--- Whole numbers as doubles, eight bytes each. 'Coordinates are doubles of the exact whole numbers.'
+-- Request A.4, whole numbers as doubles, eight bytes each: 'Coordinates are doubles of the exact whole numbers.'
 -- docs/RULES.md 2.28
 use Prim.Native.Nat.{ℕ}
 use mathlib.Core.Bool.{false}

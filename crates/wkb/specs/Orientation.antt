@@ -1,4 +1,4 @@
--- Which way a closed path runs, and around which area.
+-- Request A.4, 'runs counterclockwise': which way a closed path runs, and around which area.
 -- docs/RULES.md 2.30
 use Prim.Native.Nat.{ℕ, _+_, _*_, _≤_}
 use mathlib.Core.List.{List, [], _∷_}

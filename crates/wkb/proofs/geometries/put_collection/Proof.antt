@@ -36,7 +36,9 @@ loop-less : tie.Need-loop-less Inv-loop μ-loop
 loop-less c = search needs
 
 loop-again : tie.Need-loop-again Inv-loop μ-loop
-loop-again c = polygons-again _ _ _ _ _ _ (c .before .before .before .before .before .before .loop .inv) _ (search needs) (search needs) (search needs) (c .before .before .put-polygon .ensures)
+loop-again c =
+    polygons-again _ _ _ _ _ _ (c .before .before .before .before .before .before .loop .inv) _ (search needs) (search needs)
+    (search needs) (c .before .before .put-polygon .ensures)
 
 same-length : tie.Need-same-length Inv-loop μ-loop
 same-length c = search needs

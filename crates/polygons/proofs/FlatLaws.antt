@@ -8,10 +8,10 @@ use lib.Seq.{take-at, drop-at, drop-drop}
 
 module _ {A B : Type 0} (f : A → List B) (k : ℕ) (each : (a : A) → length (f a) ≡ k) where
   -- how long they are together
-  pub length-flat : (l : List A) → length (flatMap f l) ≡ k * length l
+  pub flat-length : (l : List A) → length (flatMap f l) ≡ k * length l
   unfolding flatMap
-  length-flat [] = omega arith
-  length-flat (a ∷ l) = length-append (f a) (flatMap f l) ∙ rw (each a, length-flat l) (omega arith)
+  flat-length [] = omega arith
+  flat-length (a ∷ l) = length-append (f a) (flatMap f l) ∙ rw (each a, flat-length l) (omega arith)
 
   -- from the part of the i-th element on
   pub flat-from : (l : List A) (i : ℕ) (d : A) → i < length l
