@@ -14,7 +14,8 @@ use Rattle.tree.specs.Insert.{refused, accepted, insertTree, limited}
 use Rattle.tree.specs.Remove.{remove}
 use Rattle.tree.specs.Query.{holds, entryAt, visits, windowVisits}
 use Rattle.tree.specs.Nearest.{nearest, walk}
-use Rattle.tree.specs.Calls.{insertCall, removeCall, clearCall, pointCall, windowCall, nearestCall, insertion, removal, outcomeAnswer, answer}
+use Rattle.tree.specs.Emptiness.{isEmpty, emptyVisits}
+use Rattle.tree.specs.Calls.{insertCall, removeCall, clearCall, pointCall, windowCall, nearestCall, emptyCall, insertion, removal, outcomeAnswer, answer}
 use Rattle.tree.specs.Calls.{pointAnswer as pointFound}
 use Rattle.tree.specs.Calls.{nearestEnd as nearestFound}
 use Rattle.plane.specs.Lines.{CellEntry}
@@ -24,13 +25,14 @@ use Rattle.memory.specs.Layout.{partsOf, rightLength}
 use Rattle.memory.specs.Reading.{reading}
 use Rattle.memory.proofs.ReadingLaws.{parts-are, right-length}
 use Rattle.memory.specs.Fanout.{fanout}
-use Rattle.index.specs.Answers.{PlaneIndex, insertEnd, insertRead, insertAnswer, removeEnd, removeRead, removeAnswer, clearAnswer, pointEnd, pointRead, pointAnswer, matchesIn, windowRead, windowAnswer, nearestEnd, nearestRead, nearestAnswer}
-use Rattle.index.specs.Numbers.{accepts, insertTold, removeTold, clearTold, pointTold, windowTold, nearestTold}
+use Rattle.index.specs.Answers.{PlaneIndex, insertEnd, insertRead, insertAnswer, removeEnd, removeRead, removeAnswer, clearAnswer, pointEnd, pointRead, pointAnswer, matchesIn, windowRead, windowAnswer, nearestEnd, nearestRead, nearestAnswer, emptyEnd, emptyRead, emptyAnswer}
+use Rattle.index.specs.Numbers.{accepts, insertTold, removeTold, clearTold, pointTold, windowTold, nearestTold, emptyTold}
 use Rattle.index.specs.declared.answer.Inserted.the-variants as I
 use Rattle.index.specs.declared.answer.Removed.the-variants as R
 use Rattle.index.specs.declared.answer.PointFound.the-variants as P
 use Rattle.index.specs.declared.answer.WindowFound.the-variants as W
 use Rattle.index.specs.declared.answer.NearestFound.the-variants as Near
+use Rattle.index.specs.declared.answer.EmptyFound.the-variants as Empty
 use Rattle.history.specs.Defined.{early, toldOf, toldOn}
 
 -- The memory m of N parts holds the index i.
@@ -73,6 +75,13 @@ module _ (N : ℕ) (m : List ℕ) (i : PlaneIndex) (h : Holds N m i) where
       ≡ cond (onGrid c) (nearestEnd c (nearest (planeSpace fanout) c i) (walk (planeSpace fanout) c i .entered)) Near.OffGrid
   unfolding nearestAnswer nearestRead
   nearest-value c = rw (right, h .reads)
+
+  pub empty-value : (w : Rect) → emptyAnswer m w
+      ≡ cond (valid w)
+      (emptyEnd (isEmpty (planeSpace fanout) (planeWindow fanout) w i) (emptyVisits (planeSpace fanout) (planeWindow fanout) w i))
+      Empty.BadWindow
+  unfolding emptyAnswer emptyRead
+  empty-value w = rw (right, h .reads)
 
   -- the number and values of each answer
   pub insert-told : (len : ℕ) (e : CellEntry) → insertTold (insertAnswer m len e) ≡ toldOn N i (insertCall e) len
@@ -137,3 +146,16 @@ module _ (N : ℕ) (m : List ℕ) (i : PlaneIndex) (h : Holds N m i) where
       go false o v = refl
       go true none v = refl
       go true (some e) v = refl
+
+  pub empty-told : (len : ℕ) (w : Rect) → emptyTold (emptyAnswer m w) ≡ toldOn N i (emptyCall w) len
+  unfolding toldOn early toldOf answer emptyEnd
+  empty-told len w =
+      ap emptyTold (empty-value w)
+      ∙ go (valid w) (isEmpty (planeSpace fanout) (planeWindow fanout) w i)
+      (emptyVisits (planeSpace fanout) (planeWindow fanout) w i)
+    where
+      go : (a b : Bool) (v : ℕ) → emptyTold (cond a (emptyEnd b v) Empty.BadWindow)
+          ≡ cond (eqb (cond a 0 3) 0) (accepts (cond b 1 0 ∷ v ∷ [])) (record { number = cond a 0 3; values = [] })
+      go false b v = refl
+      go true true v = refl
+      go true false v = refl

@@ -7,7 +7,7 @@ use native.Mathlib.Omega.{arith}
 use lib.ListN.{length, length-replicate}
 use Rattle.tree.specs.Lists.{All}
 use Rattle.tree.specs.Record.{recorded, recordOf}
-use Rattle.tree.specs.Calls.{insertCall, removeCall, clearCall, pointCall, windowCall, nearestCall}
+use Rattle.tree.specs.Calls.{insertCall, removeCall, clearCall, pointCall, windowCall, nearestCall, emptyCall}
 use Rattle.tree.proofs.Claim.{index-claim}
 use Rattle.plane.specs.Lines.{CellEntry}
 use Rattle.plane.specs.Plane.{planeSpace, planeRoot}
@@ -15,6 +15,7 @@ use Rattle.plane.specs.Windows.{planeWindow}
 use Rattle.plane.proofs.Rects.{plane-space-laws}
 use Rattle.plane.proofs.Roots.{plane-root-laws}
 use Rattle.plane.proofs.Steps.{plane-steps}
+use Rattle.plane.proofs.Windows.{plane-window-laws}
 use Rattle.memory.proofs.ReadingLaws.{fresh}
 use Rattle.memory.specs.Fanout.{fanout}
 use Rattle.index.specs.Answers.{PlaneIndex}
@@ -22,11 +23,13 @@ use Rattle.history.specs.Calls.{IndexCall, Made, accepted, fed, freshMem
 use Rattle.history.specs.Contract.{KeptBy, Kept}
 use Rattle.history.specs.Defined.{indexAfter, AsDefined}
 use Rattle.history.specs.Claim.{EachWith, Reports, PointVisits, visitsTold, VisitsExact, NearestExact, NearestBy, TellsNearest, HistoryClaim}
+use Rattle.history.specs.Emptiness.{EmptyExact, EmptyBy, TellsEmpty}
 use Rattle.history.proofs.Answers.{Holds}
 use Rattle.history.proofs.Steps.{stepped, as-defined, holds-after}
 use Rattle.history.proofs.States.{PlaneState, one-fits, two-fit, goes, Goes}
 use Rattle.history.proofs.Visits.{point-visits}
 use Rattle.history.proofs.Nearest.{tells-nearest}
+use Rattle.history.proofs.Emptiness.{tells-empty}
 
 -- The memory m holds an index that goes with the record r.
 pub record Agrees (N : ℕ) (m : List ℕ) (r : List CellEntry) : Type 0 where
@@ -55,12 +58,29 @@ nearest-by N r (nearestCall c) d g p = λ f.
     rw f
     (subst (NearestExact (d .before) c r) (sym (p .told))
     (tells-nearest (d .before) c (g .index) r (g .holds .reads) (g .state .same) (ap accepted (sym (p .told)) ∙ f)))
+nearest-by N r (emptyCall w) d g p = tt
+
+-- An accepted emptiness query, with the record after it.
+empty-by : (N : ℕ) (r : List CellEntry) (k : IndexCall) (d : Made) → Agrees N (d .before) r → KeptBy k d
+    → EmptyBy k (d .before) (d .told) (fed r k (accepted (d .told)))
+unfolding recorded
+empty-by N r (insertCall e) d g p = tt
+empty-by N r (removeCall c) d g p = tt
+empty-by N r clearCall d g p = tt
+empty-by N r (pointCall c) d g p = tt
+empty-by N r (windowCall w) d g p = tt
+empty-by N r (nearestCall c) d g p = tt
+empty-by N r (emptyCall w) d g p = λ f.
+    rw f
+    (subst (EmptyExact (d .before) w r) (sym (p .told))
+    (tells-empty (d .before) w (g .index) (g .holds .reads) r (g .state .same) (ap accepted (sym (p .told)) ∙ f)))
 
 -- What one call comes to.
 pub record CallClaim (N : ℕ) (r : List CellEntry) (d : Made) : Type 0 where
   pub defined : AsDefined N d
   pub report : Reports d (fed r (d .call) (accepted (d .told)))
   pub nearest : TellsNearest d (fed r (d .call) (accepted (d .told)))
+  pub emptiness : TellsEmpty d (fed r (d .call) (accepted (d .told)))
   pub agrees : Agrees N (d .after) (fed r (d .call) (accepted (d .told)))
 
 pub call-claim : (N : ℕ) (r : List CellEntry) (d : Made) → Agrees N (d .before) r → Kept d → CallClaim N r d
@@ -71,6 +91,7 @@ call-claim N r d g p =
       defined = as-defined N (g .index) d (g .holds) s;
       report = t .report;
       nearest = nearest-by N r (d .call) d g p;
+      emptiness = empty-by N r (d .call) d g p;
       agrees = record { index = indexAfter N (g .index) (d .call) (length (d .lent)); holds = holds-after N (g .index) d (g .holds) s; state = t .state };
     }
 
@@ -79,15 +100,28 @@ pub record ListClaim (N : ℕ) (r : List CellEntry) (ds : List Made) (m : List �
   pub defined : All (AsDefined N) ds
   pub reported : EachWith Reports r ds
   pub nearest : EachWith TellsNearest r ds
+  pub emptiness : EachWith TellsEmpty r ds
   pub agrees : Agrees N m (recordFrom r ds)
 
 pub list-claim : (N : ℕ) (ds : List Made) (r : List CellEntry) (m m′ : List ℕ) → Agrees N m r → All Kept ds → Linked m ds m′ → ListClaim N r ds m′
 unfolding All Linked EachWith recordOf
-list-claim N [] r m m′ g p l = record { defined = tt; reported = tt; nearest = tt; agrees = subst (λ x. Agrees N x r) (sym l) g }
+list-claim N [] r m m′ g p l = record {
+  defined = tt;
+  reported = tt;
+  nearest = tt;
+  emptiness = tt;
+  agrees = subst (λ x. Agrees N x r) (sym l) g;
+}
 list-claim N (d ∷ ds) r m m′ g p l =
     let c = call-claim N r d (subst (λ x. Agrees N x r) (sym (l .0)) g) (p .0) in
     let n = list-claim N ds (fed r (d .call) (accepted (d .told))) (d .after) m′ (c .agrees) (p .1) (l .1) in
-    record { defined = (c .defined, n .defined); reported = (c .report, n .reported); nearest = (c .nearest, n .nearest); agrees = n .agrees }
+    record {
+      defined = (c .defined, n .defined);
+      reported = (c .report, n .reported);
+      nearest = (c .nearest, n .nearest);
+      emptiness = (c .emptiness, n .emptiness);
+      agrees = n .agrees;
+    }
 
 -- An accepted point query, on any memory.
 visits-by : (k : IndexCall) (d : Made) → KeptBy k d → PointVisits k (d .before) (d .told)
@@ -97,6 +131,7 @@ visits-by clearCall d p = tt
 visits-by (pointCall c) d p = λ f. subst (λ t. VisitsExact (d .before) c (visitsTold t)) (sym (p .told)) (point-visits (d .before) c (ap accepted (sym (p .told)) ∙ f))
 visits-by (windowCall w) d p = tt
 visits-by (nearestCall c) d p = tt
+visits-by (emptyCall w) d p = tt
 
 pub call-visits : (d : Made) → Kept d → PointVisits (d .call) (d .before) (d .told)
 call-visits d p = visits-by (d .call) d p
@@ -111,7 +146,8 @@ pub kept-history : (N : ℕ) → 1 ≤ N → N ≤ 256 → (ds : List Made) (m :
 kept-history N a b ds m p l =
     let c = list-claim N ds [] (freshMemory N) m (fresh-agrees N a b) p l in
     let g = c .agrees in
-    let t = index-claim (planeSpace fanout) (plane-space-laws fanout) (plane-steps fanout one-fits) (planeRoot fanout) (plane-root-laws fanout) two-fit (planeWindow fanout) N (g .index) (recordFrom [] ds) (g .state) in
+    let t = index-claim (planeSpace fanout) (plane-space-laws fanout) (plane-steps fanout one-fits) (planeRoot fanout)
+    (plane-root-laws fanout) two-fit (planeWindow fanout) N (plane-window-laws fanout) (g .index) (recordFrom [] ds) (g .state) in
     record {
       answers = c .defined;
       index = g .index;
@@ -128,4 +164,5 @@ kept-history N a b ds m p l =
       reported = c .reported;
       visits = all-visits ds p;
       nearest = c .nearest;
+      emptiness = c .emptiness;
     }

@@ -4,6 +4,7 @@ pub mod Steps
 pub mod States
 pub mod Visits
 pub mod Nearest
+pub mod Emptiness
 pub mod History
 pub mod Shipped
 pub mod Sample

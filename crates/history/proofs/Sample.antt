@@ -15,11 +15,12 @@ use Rattle.tree.specs.Split.{split}
 use Rattle.tree.specs.Depth.{itemPolygons}
 use Rattle.tree.specs.Insert.{insertAt, insertTree}
 use Rattle.tree.specs.Nearest.{orNearer, walkNode}
+use Rattle.tree.specs.Emptiness.{nodeToMatch}
 use Rattle.tree.specs.Order.{comesBefore}
 use Rattle.tree.specs.Remove.{prune}
 use Rattle.plane.specs.Plane.{cellRect}
 use Rattle.plane.specs.Windows.{meets}
-use Rattle.tree.specs.Calls.{insertCall, removeCall, clearCall, pointCall, windowCall, nearestCall, answer, after}
+use Rattle.tree.specs.Calls.{insertCall, removeCall, clearCall, pointCall, windowCall, nearestCall, emptyCall, answer, after}
 use Rattle.index.specs.Answers.{PlaneIndex}
 use Rattle.index.specs.Changes.{entryOf}
 use Rattle.index.specs.Numbers.{Told, refusal, accepts}
@@ -79,3 +80,28 @@ pub nearest-sample : toldAll none nearest-input
     ∷ []
 unfolding toldAll toldOn indexAfter early toldOf answer after onGrid any insertTree total nodes flatMap held bind insertAt split keep hasCell anyHas grown sharesWith cellRect nonEmpty overlap orNearer walkNode comesBefore gap squared
 nearest-sample = refl
+
+-- Emptiness queries on the same two entries: nothing is held, a window with an entry, one between the entries, one beside
+-- the root's polygon, one without cells.
+abbrev pub emptiness-input : List IndexCall
+emptiness-input =
+    emptyCall (rectOf 0 0 65536 65536)
+    ∷ insertCall (entryOf (cellOf 10 10) 7)
+    ∷ insertCall (entryOf (cellOf 20 12) 9)
+    ∷ emptyCall (rectOf 10 10 20 13)
+    ∷ emptyCall (rectOf 11 10 20 13)
+    ∷ emptyCall (rectOf 0 0 10 10)
+    ∷ emptyCall (rectOf 10 10 10 13)
+    ∷ []
+
+pub emptiness-sample : toldAll none emptiness-input
+    ≡ accepts (1 ∷ 0 ∷ [])
+    ∷ accepts (1 ∷ [])
+    ∷ accepts (2 ∷ [])
+    ∷ accepts (0 ∷ 1 ∷ [])
+    ∷ accepts (1 ∷ 1 ∷ [])
+    ∷ accepts (1 ∷ 0 ∷ [])
+    ∷ refusal 3
+    ∷ []
+unfolding toldAll toldOn indexAfter early toldOf answer after onGrid any insertTree total nodes flatMap held bind insertAt split keep valid hasCell anyHas meets grown sharesWith cellRect nonEmpty overlap nodeToMatch
+emptiness-sample = refl

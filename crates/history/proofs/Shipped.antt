@@ -11,10 +11,10 @@ use borrow.Fn.Kinds.{endedOf}
 use denote.Triple.Clauses.{AtExit}
 use borrow.Fn.World.{ArgsD, ResD}
 use lib.ListN.{length}
-use Rattle.geometry.specs.Cells.{onGrid}
+use Rattle.geometry.specs.Cells.{onGrid, valid}
 use Rattle.tree.specs.Lists.{All}
 use Rattle.tree.specs.Tree.{entries}
-use Rattle.tree.specs.Calls.{insertCall, removeCall, clearCall, pointCall, windowCall, nearestCall}
+use Rattle.tree.specs.Calls.{insertCall, removeCall, clearCall, pointCall, windowCall, nearestCall, emptyCall}
 use Rattle.plane.specs.Plane.{planeSpace}
 use Rattle.memory.specs.Reading.{reading}
 use Rattle.memory.specs.Fanout.{fanout}
@@ -22,13 +22,16 @@ use Rattle.index.specs.Answers.{PlaneIndex}
 use Rattle.index.specs.Changes.{entryOf}
 use Rattle.index.specs.declared.answer.PointFound.{PointFound}
 use Rattle.index.specs.declared.answer.NearestFound.{NearestFound}
-use Rattle.index.specs.Numbers.{insertTold, removeTold, clearTold, pointTold, windowTold, nearestTold}
+use Rattle.index.specs.declared.answer.EmptyFound.{EmptyFound}
+use Rattle.index.specs.Numbers.{insertTold, removeTold, clearTold, pointTold, windowTold, nearestTold, emptyTold}
 use Rattle.history.specs.Calls.{Made, accepted, freshMemory, Linked}
 use Rattle.history.specs.Contract.{Kept}
 use Rattle.history.specs.Claim.{visitsTold, VisitsExact, NearestExact, HistoryClaim}
+use Rattle.history.specs.Emptiness.{EmptyExact, EmptyAsWindow}
 use Rattle.history.proofs.History.{kept-history, call-visits}
 use Rattle.history.proofs.Visits.{point-accepts}
 use Rattle.history.proofs.Nearest.{nearest-accepts, nearest-on-index}
+use Rattle.history.proofs.Emptiness.{empty-accepts, empty-on-index, empty-as-window as as-window}
 use Rattle.index.proofs.clear as clear-fn
 use Rattle.index.proofs.clear.Reads as clear
 use Rattle.index.proofs.clear.Kinds as clear-kinds
@@ -47,6 +50,9 @@ use Rattle.insertion.proofs.insert.Kinds as insert-kinds
 use Rattle.nearest.proofs.nearest as nearest-fn
 use Rattle.nearest.proofs.nearest.Reads as nearest
 use Rattle.nearest.proofs.nearest.Kinds as nearest-kinds
+use Rattle.emptiness.proofs.is_empty as empty-fn
+use Rattle.emptiness.proofs.is_empty.Reads as empty
+use Rattle.emptiness.proofs.is_empty.Kinds as empty-kinds
 
 -- A call of `insert`: the index, the work area, the cell, the tag.
 pub record Insert : Type 0 where
@@ -96,6 +102,14 @@ pub record Nearest : Type 0 where
   pub exits : AtExit (endedOf 1 nearest-kinds.ps nearest-kinds.r) κs
   pub meets : nearest.Post κs args out exits
 
+-- A call of `is_empty`: the index, to read only, and the window.
+pub record Emptiness : Type 0 where
+  pub κs : Lfts 1
+  pub args : ArgsD empty-fn.signature κs
+  pub out : ResD empty-fn.signature κs
+  pub exits : AtExit (endedOf 1 empty-kinds.ps empty-kinds.r) κs
+  pub meets : empty.Post κs args out exits
+
 pub data Step : Type 0 where
   inserts : Insert → Step
   removes : Remove → Step
@@ -103,6 +117,7 @@ pub data Step : Type 0 where
   points : Point → Step
   windows : Window → Step
   nearests : Nearest → Step
+  empties : Emptiness → Step
 
 -- What a step was handed, and what came of it. A step that is lent the index to read only leaves it as it is.
 abbrev pub made : Step → Made
@@ -154,6 +169,14 @@ made (nearests s) = record {
   left = [];
   told = nearestTold (s .out);
 }
+made (empties s) = record {
+  call = emptyCall (s .args .1 .0);
+  before = now (s .args .0);
+  after = now (s .args .0);
+  lent = [];
+  left = [];
+  told = emptyTold (s .out);
+}
 
 -- A step's own contract is what the claim rests on.
 kept : (s : Step) → Kept (made s)
@@ -163,6 +186,7 @@ kept (clears s) = record { told = ap clearTold (s .meets .0); memory = s .meets 
 kept (points s) = record { told = ap pointTold (s .meets); memory = refl; list = refl }
 kept (windows s) = record { result = s .out; told = refl; contract = s .meets; memory = refl }
 kept (nearests s) = record { told = ap nearestTold (s .meets); memory = refl; list = refl }
+kept (empties s) = record { told = ap emptyTold (s .meets); memory = refl; list = refl }
 
 all-kept : (ss : List Step) → All Kept (map made ss)
 unfolding All
@@ -193,3 +217,27 @@ pub nearest-exact : (s : Nearest) → accepted (nearestTold (s .out)) ≡ true
     × NearestExact (now (s .args .0)) (s .args .1 .0) (entries (planeSpace fanout) i) (nearestTold (s .out))
 nearest-exact s f =
     rw (s .meets) (nearest-on-index (now (s .args .0)) (s .args .1 .0) (ap (λ (x : NearestFound). accepted (nearestTold x)) (sym (s .meets)) ∙ f))
+
+-- The same of emptiness queries: on every memory that holds an index, one of a valid window is accepted,
+pub empty-on-sound : (s : Emptiness) (i : PlaneIndex) → reading fanout (now (s .args .0)) ≡ some i
+    → valid (s .args .1 .0) ≡ true → accepted (emptyTold (s .out)) ≡ true
+empty-on-sound s i e g =
+    ap (λ (x : EmptyFound). accepted (emptyTold x)) (s .meets)
+    ∙ empty-accepts (now (s .args .0)) (s .args .1 .0) i e g
+
+-- and of an accepted one the memory holds an index, whatever memory it was handed, and the answer is exact for the entries
+-- of that index.
+pub empty-exact : (s : Emptiness) → accepted (emptyTold (s .out)) ≡ true
+    → (i : PlaneIndex) × (reading fanout (now (s .args .0)) ≡ some i)
+    × EmptyExact (now (s .args .0)) (s .args .1 .0) (entries (planeSpace fanout) i) (emptyTold (s .out))
+empty-exact s f =
+    let g = ap (λ (x : EmptyFound). accepted (emptyTold x)) (sym (s .meets)) ∙ f in
+    rw (s .meets) (empty-on-index (now (s .args .0)) (s .args .1 .0) g)
+
+-- An emptiness query and a window query that were handed the same memory and the same window, whatever these are: the yes
+-- exactly where the window query reports zero matches, and at most its visits.
+pub empty-as-window : (s : Emptiness) (t : Window) → now (s .args .0) ≡ now (t .args .0) → s .args .1 .0 ≡ t .args .1 .0
+    → EmptyAsWindow (emptyTold (s .out)) (windowTold (t .out))
+empty-as-window s t e g =
+    rw (s .meets, t .meets .answer, e, g)
+    (as-window (now (t .args .0)) (t .args .1 .0) (length (now (t .args .1 .1 .0))))

@@ -16,7 +16,7 @@ use Rattle.tree.specs.Insert.{accepted as acceptedAs}
 use Rattle.tree.specs.Remove.{remove}
 use Rattle.tree.specs.Query.{holds, entryAt, visits}
 use Rattle.tree.specs.Nearest.{nearest, walk}
-use Rattle.tree.specs.Calls.{insertCall, removeCall, clearCall, pointCall, windowCall, nearestCall, isAccepted, outcomeAnswer, insertion, removal, nearestEnd, answer}
+use Rattle.tree.specs.Calls.{insertCall, removeCall, clearCall, pointCall, windowCall, nearestCall, emptyCall, isAccepted, outcomeAnswer, insertion, removal, nearestEnd, answer}
 use Rattle.tree.specs.Calls.{pointAnswer as pointFound}
 use Rattle.tree.specs.Record.{recorded}
 use Rattle.tree.specs.Claim.{Reported, OnGrid}
@@ -58,6 +58,7 @@ module _ (N : ℕ) (i : PlaneIndex) (len : ℕ) where
   on-grid (pointCall c) f = tt
   on-grid (windowCall w) f = tt
   on-grid (nearestCall c) f = tt
+  on-grid (emptyCall w) f = tt
 
   -- an insertion is accepted by its number exactly where the tree's answer accepts
   insert-accepts : (c : Bool) (t : Option (Tree (planeSpace fanout)))
@@ -107,6 +108,7 @@ module _ (N : ℕ) (i : PlaneIndex) (len : ℕ) where
   fed-same r (pointCall c) = fed-point r (pointCall c) (entryAt (planeSpace fanout) c i) (visits (planeSpace fanout) c i)
   fed-same r (windowCall w) = fed-window r w _
   fed-same r (nearestCall c) = ap (fed r (nearestCall c)) (sym (nearest-accepts c (nearest (planeSpace fanout) c i) (walk (planeSpace fanout) c i .entered)))
+  fed-same r (emptyCall w) = refl
 
   -- the entries reported
   outcome-reports : (o : Outcome (planeSpace fanout)) (r : List CellEntry) → Reported (planeSpace fanout) (outcomeAnswer (planeSpace fanout) o) r
@@ -129,6 +131,7 @@ module _ (N : ℕ) (i : PlaneIndex) (len : ℕ) where
   reports r (pointCall c) g f d = absurd (false≢true d)
   reports r (windowCall w) g f d = absurd (false≢true d)
   reports r (nearestCall c) g f d = absurd (false≢true d)
+  reports r (emptyCall w) g f d = absurd (false≢true d)
 
   -- What is carried on by a call that was told t and left the index j.
   pub record Goes (r : List CellEntry) (k : IndexCall) (j : PlaneIndex) (t : Told) : Type 0 where

@@ -9,15 +9,15 @@ use Rattle.geometry.specs.declared.rect.Cell.{Cell}
 use Rattle.geometry.specs.declared.rect.Rect.{Rect}
 use Rattle.plane.specs.Lines.{CellEntry}
 use Rattle.memory.specs.Reading.{reading}
-use Rattle.tree.specs.Calls.{insertCall, removeCall, clearCall, pointCall, windowCall, nearestCall, answer, after}
+use Rattle.tree.specs.Calls.{insertCall, removeCall, clearCall, pointCall, windowCall, nearestCall, emptyCall, answer, after}
 use Rattle.memory.specs.Fanout.{fanout}
 use Rattle.index.specs.Answers.{PlaneIndex}
 use Rattle.index.specs.Changes.{InsertMemory, RemoveMemory}
 use Rattle.index.specs.Numbers.{Told, insertTold, removeTold, windowTold}
 use Rattle.history.specs.Calls.{IndexCall, Made, accepted, isChange}
-use Rattle.history.specs.Contract.{InsertKept, RemoveKept, ClearKept, PointKept, WindowKept, NearestKept, KeptBy, Kept}
+use Rattle.history.specs.Contract.{InsertKept, RemoveKept, ClearKept, PointKept, WindowKept, NearestKept, EmptyKept, KeptBy, Kept}
 use Rattle.history.specs.Defined.{early, toldOf, toldOn, indexAfter, lentAfter, AsDefined}
-use Rattle.history.proofs.Answers.{Holds, insert-told, remove-told, clear-told, point-told, window-told, nearest-told}
+use Rattle.history.proofs.Answers.{Holds, insert-told, remove-told, clear-told, point-told, window-told, nearest-told, empty-told}
 use Rattle.history.proofs.Effects.{insert-refused, work-left, remove-refused, insert-reads, remove-reads, clear-length, clear-reads, window-left}
 
 same : {A : Type 0} (b : Bool) (x : A) → x ≡ cond b x x
@@ -111,6 +111,18 @@ module _ (N : ℕ) (i : PlaneIndex) (d : Made) (h : Holds N (d .before) i) where
     list = p .list;
   }
 
+  empty-stepped : (w : Rect) → EmptyKept w d → Stepped N i (emptyCall w) d
+  unfolding lentAfter indexAfter after
+  empty-stepped w p = record {
+    answer = p .told ∙ empty-told N (d .before) i h (length (d .lent)) w;
+    leaves =
+        ap (reading fanout) (p .memory) ∙ h .reads ∙ ap some (same (eqb (early N (emptyCall w) (length (d .lent))) 0) i);
+    same-length = ap length (p .memory);
+    refused = λ f. p .memory;
+    query = λ f. p .memory;
+    list = p .list;
+  }
+
   stepped-by : (k : IndexCall) → KeptBy k d → Stepped N i k d
   stepped-by (insertCall e) p = insert-stepped e p
   stepped-by (removeCall c) p = remove-stepped c p
@@ -118,6 +130,7 @@ module _ (N : ℕ) (i : PlaneIndex) (d : Made) (h : Holds N (d .before) i) where
   stepped-by (pointCall c) p = point-stepped c p
   stepped-by (windowCall w) p = window-stepped w p
   stepped-by (nearestCall c) p = nearest-stepped c p
+  stepped-by (emptyCall w) p = empty-stepped w p
 
   -- a call that kept its contract
   pub stepped : Kept d → Stepped N i (d .call) d

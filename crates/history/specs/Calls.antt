@@ -6,7 +6,7 @@ use mathlib.Core.List.{List, [], _∷_, map}
 use mathlib.Core.Path.{_≡_}
 use lib.Dec.{eqb}
 use lib.ListN.{replicate}
-use Rattle.tree.specs.Calls.{Call, insertCall, removeCall, clearCall, pointCall, windowCall, nearestCall}
+use Rattle.tree.specs.Calls.{Call, insertCall, removeCall, clearCall, pointCall, windowCall, nearestCall, emptyCall}
 use Rattle.tree.specs.Record.{recorded, recordOf}
 use Rattle.plane.specs.Lines.{CellEntry}
 use Rattle.plane.specs.Plane.{planeSpace}
@@ -44,6 +44,7 @@ isChange clearCall = true
 isChange (pointCall c) = false
 isChange (windowCall w) = false
 isChange (nearestCall c) = false
+isChange (emptyCall w) = false
 
 -- 'All zeros is the fresh, empty index', with N parts
 abbrev pub freshMemory : ℕ → List ℕ

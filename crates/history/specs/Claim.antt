@@ -1,5 +1,5 @@
 -- Demand 3, as one claim about a list of calls made one after another from a fresh memory.
--- docs/RULES.md 5.7, 6.3, 6.6 to 6.15
+-- docs/RULES.md 5.7, 6.3, 6.6 to 6.16
 use Prim.Native.Nat.{ℕ, suc, _≤_}
 use mathlib.Core.Bool.{Bool, true, cond}
 use mathlib.Core.List.{List, [], _∷_}
@@ -14,7 +14,7 @@ use Rattle.tree.specs.Tree.{Sound, height, entries, nodeCount}
 use Rattle.tree.specs.Depth.{polygons, polygonsAt, leaves, leafDepths, edges}
 use Rattle.tree.specs.Query.{ofCell, holds}
 use Rattle.tree.specs.Nearest.{IsNearest, walk}
-use Rattle.tree.specs.Calls.{insertCall, removeCall, clearCall, pointCall, windowCall, nearestCall}
+use Rattle.tree.specs.Calls.{insertCall, removeCall, clearCall, pointCall, windowCall, nearestCall, emptyCall}
 use Rattle.tree.specs.Claim.{leafHolds, leafCovers}
 use Rattle.plane.specs.Lines.{CellEntry}
 use Rattle.plane.specs.Plane.{planeSpace, planeRoot}
@@ -24,6 +24,7 @@ use Rattle.index.specs.Answers.{PlaneIndex}
 use Rattle.index.specs.Numbers.{Told}
 use Rattle.history.specs.Calls.{IndexCall, Made, accepted, isChange, fed, recordFrom}
 use Rattle.history.specs.Defined.{AsDefined}
+use Rattle.history.specs.Emptiness.{TellsEmpty}
 
 -- the polygon has the cell
 abbrev pub polygonHas : Cell → List Rect → Bool
@@ -59,6 +60,7 @@ PointVisits clearCall m t = Unit {0}
 PointVisits (pointCall c) m t = accepted t ≡ true → VisitsExact m c (visitsTold t)
 PointVisits (windowCall w) m t = Unit {0}
 PointVisits (nearestCall c) m t = Unit {0}
+PointVisits (emptyCall w) m t = Unit {0}
 
 -- What a nearest query of c told on a memory m that holds an index, where r are the entries held: 'The answer is the
 -- entry, the squared distance and the number of nodes entered.'
@@ -85,6 +87,7 @@ NearestBy clearCall m t r = Unit {0}
 NearestBy (pointCall c) m t r = Unit {0}
 NearestBy (windowCall w) m t r = Unit {0}
 NearestBy (nearestCall c) m t r = accepted t ≡ true → NearestExact m c r t
+NearestBy (emptyCall w) m t r = Unit {0}
 
 abbrev pub TellsNearest : Made → List CellEntry → Type 0
 TellsNearest d r = NearestBy (d .call) (d .before) (d .told) r
@@ -122,3 +125,6 @@ pub record HistoryClaim (N : ℕ) (ds : List Made) (m : List ℕ) : Type 0 where
   -- Request A.1: an accepted nearest query tells an entry of the record at that call, none of the record is nearer, and
   -- 'Visits are at most the number of nodes.'
   pub nearest : EachWith TellsNearest [] ds
+  -- Request A.11: an accepted emptiness query tells whether no entry of the record at that call is in the window, and its
+  -- visits 'never exceed those of the window query'
+  pub emptiness : EachWith TellsEmpty [] ds

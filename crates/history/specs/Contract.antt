@@ -3,11 +3,11 @@
 use mathlib.Core.Path.{_≡_}
 use Rattle.geometry.specs.declared.rect.Cell.{Cell}
 use Rattle.geometry.specs.declared.rect.Rect.{Rect}
-use Rattle.tree.specs.Calls.{insertCall, removeCall, clearCall, pointCall, windowCall, nearestCall}
+use Rattle.tree.specs.Calls.{insertCall, removeCall, clearCall, pointCall, windowCall, nearestCall, emptyCall}
 use Rattle.plane.specs.Lines.{CellEntry}
-use Rattle.index.specs.Answers.{clearAnswer, cleared, pointAnswer, nearestAnswer}
+use Rattle.index.specs.Answers.{clearAnswer, cleared, pointAnswer, nearestAnswer, emptyAnswer}
 use Rattle.index.specs.Changes.{InsertCall, RemoveCall}
-use Rattle.index.specs.Numbers.{insertTold, removeTold, clearTold, pointTold, windowTold, nearestTold}
+use Rattle.index.specs.Numbers.{insertTold, removeTold, clearTold, pointTold, windowTold, nearestTold, emptyTold}
 use Rattle.index.specs.Walks.{WindowCall}
 use Rattle.index.specs.declared.answer.Inserted.{Inserted}
 use Rattle.index.specs.declared.answer.Removed.{Removed}
@@ -52,6 +52,12 @@ pub record NearestKept (c : Cell) (d : Made) : Type 0 where
   pub memory : d .after ≡ d .before
   pub list : d .left ≡ d .lent
 
+-- An emptiness query of w. It is lent the index to read only.
+pub record EmptyKept (w : Rect) (d : Made) : Type 0 where
+  pub told : d .told ≡ emptyTold (emptyAnswer (d .before) w)
+  pub memory : d .after ≡ d .before
+  pub list : d .left ≡ d .lent
+
 -- The call d, of this kind, kept the contract of its function.
 abbrev pub KeptBy : IndexCall → Made → Type 0
 KeptBy (insertCall e) d = InsertKept e d
@@ -60,6 +66,7 @@ KeptBy clearCall d = ClearKept d
 KeptBy (pointCall c) d = PointKept c d
 KeptBy (windowCall w) d = WindowKept w d
 KeptBy (nearestCall c) d = NearestKept c d
+KeptBy (emptyCall w) d = EmptyKept w d
 
 abbrev pub Kept : Made → Type 0
 Kept d = KeptBy (d .call) d

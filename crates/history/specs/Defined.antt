@@ -9,8 +9,8 @@ use mathlib.Core.Path.{_≡_}
 use lib.Dec.{leb, eqb}
 use lib.ListN.{length, replicate, drop}
 use Rattle.geometry.specs.Cells.{onGrid, valid}
-use Rattle.tree.specs.Calls.{insertCall, removeCall, clearCall, pointCall, windowCall, nearestCall, answer, after}
-use Rattle.tree.specs.Calls.{Answer, refusal, reports, pointAnswer, windowAnswer, nearestAnswer}
+use Rattle.tree.specs.Calls.{insertCall, removeCall, clearCall, pointCall, windowCall, nearestCall, emptyCall, answer, after}
+use Rattle.tree.specs.Calls.{Answer, refusal, reports, pointAnswer, windowAnswer, nearestAnswer, emptyAnswer}
 use Rattle.plane.specs.Plane.{planeSpace, planeRoot}
 use Rattle.plane.specs.Windows.{planeWindow}
 use Rattle.memory.specs.Reading.{reading}
@@ -30,10 +30,11 @@ early N clearCall len = 0
 early N (pointCall c) len = cond (onGrid c) 0 3
 early N (windowCall w) len = cond (valid w) 0 3
 early N (nearestCall c) len = cond (onGrid c) 0 3
+early N (emptyCall w) len = cond (valid w) 0 3
 
 -- The number and values of the tree's answer: 'held with tag, or not held, and the visits'; 'matches and visits', or 9, 'list shorter than
--- 3 × matches: number, matches'; 'the entry, the squared distance and the number of nodes entered'. (10, 'nothing is
--- held', is the tree's own refusal.)
+-- 3 × matches: number, matches'; 'the entry, the squared distance and the number of nodes entered' (10, 'nothing is
+-- held', is the tree's own refusal); 'a yes or no for a window', 1 or 0, and the visits.
 unfoldable pub toldOf : ℕ → Answer (planeSpace fanout) → Told
 toldOf len (refusal k) = numbers.refusal k
 toldOf len (reports n) = accepts (n ∷ [])
@@ -41,6 +42,7 @@ toldOf len (pointAnswer none v) = accepts (0 ∷ v ∷ [])
 toldOf len (pointAnswer (some e) v) = accepts (1 ∷ v ∷ e .tag ∷ [])
 toldOf len (windowAnswer es v) = cond (leb (3 * length es) len) (accepts (length es ∷ v ∷ [])) (record { number = 9; values = length es ∷ [] })
 toldOf len (nearestAnswer e d v) = accepts (e .cell .x ∷ e .cell .y ∷ e .tag ∷ d ∷ v ∷ [])
+toldOf len (emptyAnswer b v) = accepts (cond b 1 0 ∷ v ∷ [])
 
 -- the tree's answer to a call on the index i, and the index after it
 abbrev pub treeAnswer : ℕ → PlaneIndex → IndexCall → Answer (planeSpace fanout)
@@ -70,6 +72,7 @@ lentAfter i clearCall n l = l
 lentAfter i (pointCall c) n l = l
 lentAfter i (windowCall w) n l = cond (eqb n 0) (flatMap entryNumbers (matchesIn w i) ++ drop (3 * length (matchesIn w i)) l) l
 lentAfter i (nearestCall c) n l = l
+lentAfter i (emptyCall w) n l = l
 
 -- The call accepted, refused and answered as document 01 defines.
 pub record AsDefined (N : ℕ) (d : Made) : Type 0 where

@@ -1,4 +1,5 @@
 pub mod Calls
 pub mod Contract
 pub mod Defined
+pub mod Emptiness
 pub mod Claim

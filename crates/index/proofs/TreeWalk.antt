@@ -55,7 +55,7 @@ module _ (m : List ℕ) (level root : ℕ) (v : TreeIn m level root) where
   pub tree-polygon : PolygonPart m root
   tree-polygon = walk-polygon level m 0 root tree-walkable
 
-  root-polygon : polygonIn (part m root) ≡ v .tree .root
+  pub root-polygon : polygonIn (part m root) ≡ v .tree .root
   root-polygon =
       let t = v .tree in
       let r = read-as fanout m t (v .reads) in

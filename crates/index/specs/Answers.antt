@@ -1,8 +1,8 @@
 -- The answer of each call, from the memory, its arguments and the lengths of the lent lists. 'Tests run in number order; the first that
 -- applies is given, and only where its cause holds.'
--- docs/RULES.md 4.23 to 4.25, 5.4 to 5.11, 5.13, 7.1, 7.2
+-- docs/RULES.md 4.23 to 4.25, 5.4 to 5.11, 5.13, 5.18, 7.1, 7.2
 use Prim.Native.Nat.{ℕ, _+_, _*_}
-use mathlib.Core.Bool.{cond}
+use mathlib.Core.Bool.{Bool, true, false, cond}
 use mathlib.Core.List.{List, _++_, flatMap}
 use mathlib.Core.Option.{Option, none, some}
 use lib.Dec.{leb, eqb}
@@ -14,6 +14,7 @@ use Rattle.tree.specs.Tree.{Index, entries}
 use Rattle.tree.specs.Insert.{Outcome, refused, accepted}
 use Rattle.tree.specs.Query.{entryAt, visits, matches, windowVisits}
 use Rattle.tree.specs.Nearest.{nearest, walk}
+use Rattle.tree.specs.Emptiness.{isEmpty, emptyVisits}
 use Rattle.tree.specs.Calls.{insertion, removal}
 use Rattle.plane.specs.Lines.{CellEntry}
 use Rattle.plane.specs.Plane.{planeSpace, planeRoot}
@@ -34,6 +35,8 @@ use Rattle.index.specs.declared.answer.WindowFound.{WindowFound}
 use Rattle.index.specs.declared.answer.WindowFound.the-variants as W
 use Rattle.index.specs.declared.answer.NearestFound.{NearestFound}
 use Rattle.index.specs.declared.answer.NearestFound.the-variants as N
+use Rattle.index.specs.declared.answer.EmptyFound.{EmptyFound}
+use Rattle.index.specs.declared.answer.EmptyFound.the-variants as E
 
 -- an index of document 01's trees
 abbrev pub PlaneIndex : Type 0
@@ -127,3 +130,18 @@ nearestRead c (some i) = nearestEnd c (nearest (planeSpace fanout) c i) (walk (p
 -- nearest query: the index and the cell. Tests 1, 3, 4, 10
 unfoldable pub nearestAnswer : List ℕ → Cell → NearestFound
 nearestAnswer m c = cond (rightLength m) (cond (onGrid c) (nearestRead c (reading fanout m)) N.OffGrid) N.WrongLength
+
+-- 'a yes or no for a window', and the visits of the walk that 'stops at the first matching entry'
+unfoldable pub emptyEnd : Bool → ℕ → EmptyFound
+emptyEnd true v = E.Empty v
+emptyEnd false v = E.Occupied v
+
+unfoldable pub emptyRead : Rect → Option PlaneIndex → EmptyFound
+emptyRead w none = E.NoTree
+emptyRead w (some i) =
+    emptyEnd (isEmpty (planeSpace fanout) (planeWindow fanout) w i)
+    (emptyVisits (planeSpace fanout) (planeWindow fanout) w i)
+
+-- emptiness query: the index and the window. Tests 1, 3, 4
+unfoldable pub emptyAnswer : List ℕ → Rect → EmptyFound
+emptyAnswer m w = cond (rightLength m) (cond (valid w) (emptyRead w (reading fanout m)) E.BadWindow) E.WrongLength

@@ -1,5 +1,5 @@
 -- Document 01, 'Causes for saying no': the number and the values that each answer stands for. The number is 0 where the call accepts.
--- docs/RULES.md 4.24, 5.4 to 5.6, 5.9, 5.13, 7.3, 7.4, 8.10
+-- docs/RULES.md 4.24, 5.4 to 5.6, 5.9, 5.13, 5.18, 7.3, 7.4, 8.10
 use Prim.Native.Nat.{ℕ}
 use mathlib.Core.List.{List, [], _∷_}
 use Rattle.index.specs.declared.answer.Inserted.{Inserted}
@@ -14,6 +14,8 @@ use Rattle.index.specs.declared.answer.WindowFound.{WindowFound}
 use Rattle.index.specs.declared.answer.WindowFound.the-variants as W
 use Rattle.index.specs.declared.answer.NearestFound.{NearestFound}
 use Rattle.index.specs.declared.answer.NearestFound.the-variants as N
+use Rattle.index.specs.declared.answer.EmptyFound.{EmptyFound}
+use Rattle.index.specs.declared.answer.EmptyFound.the-variants as E
 
 -- a number of the table, and the values returned with it
 pub record Told : Type 0 where
@@ -71,3 +73,11 @@ nearestTold N.WrongLength = refusal 1
 nearestTold N.OffGrid = refusal 3
 nearestTold N.NoTree = refusal 4
 nearestTold N.NothingHeld = refusal 10
+
+-- 'a yes or no for a window': 1 or 0, and 'the visits reported'
+abbrev pub emptyTold : EmptyFound → Told
+emptyTold (E.Empty visits) = accepts (1 ∷ visits ∷ [])
+emptyTold (E.Occupied visits) = accepts (0 ∷ visits ∷ [])
+emptyTold E.WrongLength = refusal 1
+emptyTold E.BadWindow = refusal 3
+emptyTold E.NoTree = refusal 4

@@ -59,3 +59,13 @@ pub enum NearestFound {
     NoTree,
     NothingHeld,
 }
+
+pub enum EmptyFound {
+    // no entry is in the window; the nodes entered
+    Empty { visits: u32 },
+    // an entry is in it; the nodes entered up to the first one
+    Occupied { visits: u32 },
+    WrongLength,
+    BadWindow,
+    NoTree,
+}

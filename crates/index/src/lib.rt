@@ -12,6 +12,7 @@ mod walk;
 mod window_query;
 
 pub use answer::Cleared;
+pub use answer::EmptyFound;
 pub use answer::Inserted;
 pub use answer::NearestFound;
 pub use answer::PointFound;
@@ -29,5 +30,7 @@ pub use point_query::is_of_cell;
 pub use point_query::point;
 pub use point_query::point_opened;
 pub use walk::polygon_has;
+pub use walk::polygon_meets;
+pub use window_query::is_inside;
 pub use window_query::window;
 pub use window_query::window_opened;

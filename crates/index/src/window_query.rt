@@ -29,7 +29,7 @@ pub struct Matched {
 }
 
 // Whether the cell of the i-th entry of a leaf is in the window, by the leaf's items.
-fn is_inside(items: &Items, i: usize, w: Rect) -> bool
+pub fn is_inside(items: &Items, i: usize, w: Rect) -> bool
     requires { ⌜ i < 8 ⌝ }
     ensures { λ b. ⌜ b ≡ insideTest w (entryAmong (now (items .entry)) i) ⌝ }
 {

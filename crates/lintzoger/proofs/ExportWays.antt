@@ -18,10 +18,12 @@ use Rattle.index.specs.declared.answer.WindowFound.{WindowFound}
 use Rattle.index.specs.declared.answer.WindowFound.the-variants as W
 use Rattle.index.specs.declared.answer.NearestFound.{NearestFound}
 use Rattle.index.specs.declared.answer.NearestFound.the-variants as Near
-use Rattle.index.specs.Numbers.{refusal, insertTold, removeTold, nearestTold}
+use Rattle.index.specs.declared.answer.EmptyFound.{EmptyFound}
+use Rattle.index.specs.declared.answer.EmptyFound.the-variants as Empty
+use Rattle.index.specs.Numbers.{refusal, insertTold, removeTold, nearestTold, emptyTold}
 use Rattle.index.specs.Changes.{InsertMemory, workAfter, InsertCall, RemoveMemory, RemoveCall}
-use Rattle.index.specs.Answers.{clearAnswer, cleared, pointAnswer, windowAnswer, windowList, nearestAnswer}
-use Rattle.lintzoger.specs.Exports.{stored, InsertExported, RemoveExported, ClearExported, PointExported, WindowExported, NearestExported}
+use Rattle.index.specs.Answers.{clearAnswer, cleared, pointAnswer, windowAnswer, windowList, nearestAnswer, emptyAnswer}
+use Rattle.lintzoger.specs.Exports.{stored, InsertExported, RemoveExported, ClearExported, PointExported, WindowExported, NearestExported, EmptyExported}
 
 module _ (m w : List ℕ) (e : CellEntry) (held : ℕ) (m′ w′ : List ℕ) (a : Inserted) (z : InsertCall m w e m′ w′ a) where
   insert-told : (n h : ℕ) → n ≡ insertTold a .number → h ≡ stored (insertTold a) 0 held → InsertExported m w e held n m′ w′ h
@@ -153,3 +155,23 @@ module _ (m : List ℕ) (c : Cell) (x y tag distance visits : ℕ) (a : NearestF
 
   pub nearest-nothing : a ≡ Near.NothingHeld → NearestExported m c x y tag distance visits 10 x y tag distance visits
   nearest-nothing f = nearest-refused 10 (ap nearestTold f)
+
+module _ (m : List ℕ) (w : Rect) (empty visits : ℕ) (a : EmptyFound) (e : a ≡ emptyAnswer m w) where
+  pub empty-yes : (v : ℕ) → a ≡ Empty.Empty v → EmptyExported m w empty visits 0 1 v
+  empty-yes v f = record { number = rw (← e, f); empty-is = rw (← e, f); visits-is = rw (← e, f) }
+
+  pub empty-no : (v : ℕ) → a ≡ Empty.Occupied v → EmptyExported m w empty visits 0 0 v
+  empty-no v f = record { number = rw (← e, f); empty-is = rw (← e, f); visits-is = rw (← e, f) }
+
+  -- nothing is stored with a number alone
+  empty-refused : (n : ℕ) → emptyTold a ≡ refusal n → EmptyExported m w empty visits n empty visits
+  empty-refused n f = record { number = rw (← e, f); empty-is = rw (← e, f); visits-is = rw (← e, f) }
+
+  pub empty-length : a ≡ Empty.WrongLength → EmptyExported m w empty visits 1 empty visits
+  empty-length f = empty-refused 1 (ap emptyTold f)
+
+  pub empty-bad-window : a ≡ Empty.BadWindow → EmptyExported m w empty visits 3 empty visits
+  empty-bad-window f = empty-refused 3 (ap emptyTold f)
+
+  pub empty-no-tree : a ≡ Empty.NoTree → EmptyExported m w empty visits 4 empty visits
+  empty-no-tree f = empty-refused 4 (ap emptyTold f)

@@ -2,19 +2,20 @@
 -- it was lent when it returned, with the function's own contract of these (`Post`), quoted and not restated. The claim speaks of the number
 -- returned and the values stored (`made`), not of what a definition says that they should be.
 use Prim.Native.Nat.{ℕ, _≤_}
-use mathlib.Core.Path.{_≡_, refl}
+use mathlib.Core.Path.{_≡_, refl, ap, _∙_}
 use mathlib.Core.List.{List, [], _∷_, map}
 use contract.Lifetimes.{Lfts}
 use denote.Ref.{now}
 use borrow.Fn.Kinds.{endedOf}
 use denote.Triple.Clauses.{AtExit}
 use borrow.Fn.World.{ArgsD, ResD}
+use lib.ListN.{length}
 use Rattle.geometry.specs.Cells.{cellOf, rectOf}
 use Rattle.tree.specs.Lists.{All}
-use Rattle.tree.specs.Calls.{insertCall, removeCall, clearCall, pointCall, windowCall, nearestCall}
-use Rattle.index.specs.Answers.{insertAnswer, removeAnswer, clearAnswer, pointAnswer, windowAnswer, nearestAnswer}
+use Rattle.tree.specs.Calls.{insertCall, removeCall, clearCall, pointCall, windowCall, nearestCall, emptyCall}
+use Rattle.index.specs.Answers.{insertAnswer, removeAnswer, clearAnswer, pointAnswer, windowAnswer, nearestAnswer, emptyAnswer}
 use Rattle.index.specs.Changes.{entryOf}
-use Rattle.index.specs.Numbers.{insertTold, removeTold, clearTold, pointTold, windowTold, nearestTold}
+use Rattle.index.specs.Numbers.{insertTold, removeTold, clearTold, pointTold, windowTold, nearestTold, emptyTold}
 use Rattle.index.specs.declared.answer.Inserted.{Inserted}
 use Rattle.index.specs.declared.answer.Inserted.the-variants as I
 use Rattle.index.specs.declared.answer.Removed.{Removed}
@@ -27,12 +28,16 @@ use Rattle.index.specs.declared.answer.WindowFound.{WindowFound}
 use Rattle.index.specs.declared.answer.WindowFound.the-variants as W
 use Rattle.index.specs.declared.answer.NearestFound.{NearestFound}
 use Rattle.index.specs.declared.answer.NearestFound.the-variants as Near
+use Rattle.index.specs.declared.answer.EmptyFound.{EmptyFound}
+use Rattle.index.specs.declared.answer.EmptyFound.the-variants as Empty
 use Rattle.history.specs.Calls.{Made, freshMemory, Linked}
 use Rattle.history.specs.Contract.{Kept}
 use Rattle.history.specs.Claim.{HistoryClaim}
+use Rattle.history.specs.Emptiness.{EmptyAsWindow}
 use Rattle.history.proofs.History.{kept-history}
+use Rattle.history.proofs.Emptiness.{empty-as-window}
 use Rattle.lintzoger.specs.Exports.{stored}
-use Rattle.lintzoger.specs.Seen.{changeSeen, pointSeen, windowSeen, nearestSeen}
+use Rattle.lintzoger.specs.Seen.{changeSeen, pointSeen, windowSeen, nearestSeen, emptySeen}
 use Rattle.lintzoger.proofs.exports.lintzoger_insert as insert-fn
 use Rattle.lintzoger.proofs.exports.lintzoger_insert.Reads as insert
 use Rattle.lintzoger.proofs.exports.lintzoger_insert.Kinds as insert-kinds
@@ -51,6 +56,9 @@ use Rattle.lintzoger.proofs.exports.lintzoger_window.Kinds as window-ki
 use Rattle.lintzoger.proofs.exports.lintzoger_nearest as nearest-fn
 use Rattle.lintzoger.proofs.exports.lintzoger_nearest.Reads as nearest
 use Rattle.lintzoger.proofs.exports.lintzoger_nearest.Kinds as nearest-kinds
+use Rattle.lintzoger.proofs.exports.lintzoger_is_empty as empty-fn
+use Rattle.lintzoger.proofs.exports.lintzoger_is_empty.Reads as empty
+use Rattle.lintzoger.proofs.exports.lintzoger_is_empty.Kinds as empty-kinds
 
 -- A call of `lintzoger_insert`: the index, the work area, x, y, the tag, the place for the entries held.
 pub record Insert : Type 0 where
@@ -100,6 +108,14 @@ pub record Nearest : Type 0 where
   pub exits : AtExit (endedOf 6 nearest-kinds.ps nearest-kinds.r) κs
   pub meets : nearest.Post κs args out exits
 
+-- A call of `lintzoger_is_empty`: the index, to read only, the window's corners, the places for empty and visits.
+pub record Emptiness : Type 0 where
+  pub κs : Lfts 3
+  pub args : ArgsD empty-fn.signature κs
+  pub out : ResD empty-fn.signature κs
+  pub exits : AtExit (endedOf 3 empty-kinds.ps empty-kinds.r) κs
+  pub meets : empty.Post κs args out exits
+
 pub data Step : Type 0 where
   inserts : Insert → Step
   removes : Remove → Step
@@ -107,6 +123,7 @@ pub data Step : Type 0 where
   points : Point → Step
   windows : Window → Step
   nearests : Nearest → Step
+  empties : Emptiness → Step
 
 -- The number and the values stored are those of the answer: one law for each kind of call, by the cases of its answer.
 insert-tells : (r : Inserted) (n held held′ : ℕ) → n ≡ insertTold r .number → held′ ≡ stored (insertTold r) 0 held
@@ -160,6 +177,15 @@ nearest-tells Near.WrongLength n x y tag distance visits x′ y′ tag′ distan
 nearest-tells Near.OffGrid n x y tag distance visits x′ y′ tag′ distance′ visits′ p a b d e f = rw p
 nearest-tells Near.NoTree n x y tag distance visits x′ y′ tag′ distance′ visits′ p a b d e f = rw p
 nearest-tells Near.NothingHeld n x y tag distance visits x′ y′ tag′ distance′ visits′ p a b d e f = rw p
+
+empty-tells : (r : EmptyFound) (n empty visits empty′ visits′ : ℕ) → n ≡ emptyTold r .number
+    → empty′ ≡ stored (emptyTold r) 0 empty → visits′ ≡ stored (emptyTold r) 1 visits
+    → emptySeen n empty′ visits′ ≡ emptyTold r
+empty-tells (Empty.Empty _) n empty visits empty′ visits′ p q a = rw (p, q, a)
+empty-tells (Empty.Occupied _) n empty visits empty′ visits′ p q a = rw (p, q, a)
+empty-tells Empty.WrongLength n empty visits empty′ visits′ p q a = rw p
+empty-tells Empty.BadWindow n empty visits empty′ visits′ p q a = rw p
+empty-tells Empty.NoTree n empty visits empty′ visits′ p q a = rw p
 
 -- What a step was handed, and what came of it: the lists and places as they were at the return, and the number returned.
 abbrev pub made : Step → Made
@@ -228,6 +254,17 @@ made (nearests s) =
       left = [];
       told = nearestSeen (s .out) (now (z .0)) (now (z .1 .0)) (now (z .1 .1 .0)) (now (z .1 .1 .1 .0)) (now (z .1 .1 .1 .1 .0));
     }
+made (empties s) =
+    let a = s .args in
+    let z = s .exits .1 .1 .1 .1 .1 in
+    record {
+      call = emptyCall (rectOf (a .1 .0) (a .1 .1 .0) (a .1 .1 .1 .0) (a .1 .1 .1 .1 .0));
+      before = now (a .0);
+      after = now (a .0);
+      lent = [];
+      left = [];
+      told = emptySeen (s .out) (now (z .0)) (now (z .1 .0));
+    }
 
 -- A step's own contract is what the claim rests on.
 kept : (s : Step) → Kept (made s)
@@ -272,6 +309,13 @@ kept (nearests s) =
       memory = refl;
       list = refl;
     }
+kept (empties s) =
+    let v = s .meets in
+    record {
+      told = empty-tells (emptyAnswer _ _) (s .out) _ _ _ _ (v .number) (v .empty-is) (v .visits-is);
+      memory = refl;
+      list = refl;
+    }
 
 all-kept : (ss : List Step) → All Kept (map made ss)
 unfolding All
@@ -282,3 +326,19 @@ all-kept (s ∷ ss) = (kept s, all-kept ss)
 pub exported-history : (N : ℕ) → 1 ≤ N → N ≤ 256 → (ss : List Step) (m : List ℕ) → Linked (freshMemory N) (map made ss) m
     → HistoryClaim N (map made ss) m
 exported-history N a b ss m l = kept-history N a b (map made ss) m (all-kept ss) l
+
+-- Request A.11: an emptiness query and a window query for C that were handed the same memory and the same corners, whatever
+-- these are, by the numbers that they returned and the values that they stored: the yes exactly where the window query
+-- reports zero matches, and at most its visits.
+pub exported-empty-as-window : (s : Emptiness) (t : Window) → now (s .args .0) ≡ now (t .args .0)
+    → s .args .1 .0 ≡ t .args .1 .0 → s .args .1 .1 .0 ≡ t .args .1 .1 .0
+    → s .args .1 .1 .1 .0 ≡ t .args .1 .1 .1 .0 → s .args .1 .1 .1 .1 .0 ≡ t .args .1 .1 .1 .1 .0
+    → EmptyAsWindow (made (empties s) .told) (made (windows t) .told)
+exported-empty-as-window s t m a b c d =
+    let i = now (t .args .0) in
+    let w = rectOf (t .args .1 .0) (t .args .1 .1 .0) (t .args .1 .1 .1 .0) (t .args .1 .1 .1 .1 .0) in
+    let n = length (now (t .args .1 .1 .1 .1 .1 .0)) in
+    let e : made (empties s) .told ≡ emptyTold (emptyAnswer i w) = rw (← m, ← a, ← b, ← c, ← d) (kept (empties s) .told) in
+    let k = kept (windows t) in
+    let f : made (windows t) .told ≡ windowTold (windowAnswer i w n) = k .told ∙ ap windowTold (k .contract .answer) in
+    rw (e, f) (empty-as-window i w n)

@@ -8,8 +8,8 @@ use lib.ListN.{getD, length}
 use Rattle.geometry.specs.declared.rect.Cell.{Cell}
 use Rattle.geometry.specs.declared.rect.Rect.{Rect}
 use Rattle.plane.specs.Lines.{CellEntry}
-use Rattle.index.specs.Numbers.{Told, insertTold, removeTold, clearTold, pointTold, windowTold, nearestTold}
-use Rattle.index.specs.Answers.{insertAnswer, removeAnswer, clearAnswer, cleared, pointAnswer, windowAnswer, windowList, nearestAnswer}
+use Rattle.index.specs.Numbers.{Told, insertTold, removeTold, clearTold, pointTold, windowTold, nearestTold, emptyTold}
+use Rattle.index.specs.Answers.{insertAnswer, removeAnswer, clearAnswer, cleared, pointAnswer, windowAnswer, windowList, nearestAnswer, emptyAnswer}
 use Rattle.index.specs.Changes.{InsertMemory, workAfter, RemoveMemory}
 
 -- the k-th value, or what was there before
@@ -53,3 +53,8 @@ pub record NearestExported (m : List ℕ) (c : Cell) (x y tag distance visits n 
   pub tag-is : tag' ≡ stored (nearestTold (nearestAnswer m c)) 2 tag
   pub distance-is : distance' ≡ stored (nearestTold (nearestAnswer m c)) 3 distance
   pub visits-is : visits' ≡ stored (nearestTold (nearestAnswer m c)) 4 visits
+
+pub record EmptyExported (m : List ℕ) (w : Rect) (empty visits n empty' visits' : ℕ) : Type 0 where
+  pub number : n ≡ emptyTold (emptyAnswer m w) .number
+  pub empty-is : empty' ≡ stored (emptyTold (emptyAnswer m w)) 0 empty
+  pub visits-is : visits' ≡ stored (emptyTold (emptyAnswer m w)) 1 visits

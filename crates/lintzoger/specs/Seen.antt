@@ -31,3 +31,7 @@ nearestSeen number x y tag distance visits = record {
   number = number;
   values = cond (eqb number 0) (x ∷ y ∷ tag ∷ distance ∷ visits ∷ []) [];
 }
+
+-- an emptiness query: 1 or 0, and the visits
+abbrev pub emptySeen : ℕ → ℕ → ℕ → Told
+emptySeen number empty visits = record { number = number; values = cond (eqb number 0) (empty ∷ visits ∷ []) [] }

@@ -1,10 +1,12 @@
 // The calls for C and Rust: 0 or the number of the refusal is returned, and the values are stored through pointers.
 ghost use Rattle.index.specs.Changes.{entryOf};
 ghost use Rattle.geometry.specs.Cells.{cellOf, rectOf};
-ghost use Rattle.lintzoger.specs.Exports.{InsertExported, RemoveExported, ClearExported, PointExported, WindowExported, NearestExported};
+ghost use Rattle.lintzoger.specs.Exports.{InsertExported, RemoveExported, ClearExported, PointExported, WindowExported, NearestExported, EmptyExported};
+use emptiness::is_empty;
 use geometry::Cell;
 use geometry::Rect;
 use index::Cleared;
+use index::EmptyFound;
 use index::Inserted;
 use index::NearestFound;
 use index::PointFound;
@@ -167,5 +169,35 @@ pub extern "C" fn lintzoger_nearest(
         NearestFound::OffGrid => 3,
         NearestFound::NoTree => 4,
         NearestFound::NothingHeld => 10,
+    }
+}
+
+#[no_mangle]
+pub extern "C" fn lintzoger_is_empty(
+    index: &[u32],
+    llx: u32,
+    lly: u32,
+    urx: u32,
+    ury: u32,
+    empty: &mut u32,
+    visits: &mut u32,
+) -> u32
+    ensures { λ r. ⌜ EmptyExported (now (index .entry)) (rectOf llx lly urx ury)
+        (now (empty .entry)) (now (visits .entry)) r (now (empty .exit)) (now (visits .exit)) ⌝ }
+{
+    match is_empty(index, Rect { llx, lly, urx, ury }) {
+        EmptyFound::Empty { visits: v } => {
+            *empty = 1;
+            *visits = v;
+            0
+        }
+        EmptyFound::Occupied { visits: v } => {
+            *empty = 0;
+            *visits = v;
+            0
+        }
+        EmptyFound::WrongLength => 1,
+        EmptyFound::BadWindow => 3,
+        EmptyFound::NoTree => 4,
     }
 }

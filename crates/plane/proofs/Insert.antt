@@ -19,6 +19,7 @@ use Rattle.plane.specs.Windows.{planeWindow}
 use Rattle.plane.proofs.Rects.{plane-space-laws}
 use Rattle.plane.proofs.Roots.{plane-root-laws}
 use Rattle.plane.proofs.Steps.{plane-steps}
+use Rattle.plane.proofs.Windows.{plane-window-laws}
 
 module _ (fanout : ℕ) (two : 2 ≤ fanout) (N : ℕ) where
   -- an accepted insertion of a cell that is not held: the index after is sound, has room, and holds the entry more
@@ -29,4 +30,6 @@ module _ (fanout : ℕ) (two : 2 ≤ fanout) (N : ℕ) where
 
   -- the claim about any list of calls whose cells are on the grid
   pub plane-claim : (ks : List (Call (planeSpace fanout) (planeWindow fanout))) → All (OnGrid (planeSpace fanout) (planeWindow fanout)) ks → Claim (planeSpace fanout) (planeWindow fanout) (planeRoot fanout) N ks
-  plane-claim ks g = claim (planeSpace fanout) (plane-space-laws fanout) (plane-steps fanout (omega arith)) (planeRoot fanout) (plane-root-laws fanout) two (planeWindow fanout) N ks g
+  plane-claim ks g =
+      claim (planeSpace fanout) (plane-space-laws fanout) (plane-steps fanout (omega arith)) (planeRoot fanout)
+      (plane-root-laws fanout) two (planeWindow fanout) N (plane-window-laws fanout) ks g

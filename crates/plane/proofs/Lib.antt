@@ -18,5 +18,7 @@ pub mod Lower
 pub mod Candidates
 pub mod LeastKey
 pub mod Cases
+pub mod WorkedTrees
 pub mod NearestCases
+pub mod EmptinessCases
 pub mod WorkedLine

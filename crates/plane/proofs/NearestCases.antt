@@ -1,14 +1,12 @@
 -- Request A.1: nearest queries worked out from the definitions, as one table with one theorem.
-use Prim.Native.Nat.{ℕ, _+_}
+use Prim.Native.Nat.{ℕ}
 use mathlib.Core.Path.{_≡_, refl}
 use mathlib.Core.List.{List, [], _∷_, flatMap}
 use mathlib.Core.Option.{none, some}
 use Rattle.polygons.specs.Lists.{least}
 use Rattle.geometry.specs.declared.rect.Cell.{Cell}
-use Rattle.geometry.specs.declared.rect.Rect.{Rect}
 use Rattle.geometry.specs.Cells.{cellOf, rectOf}
 use Rattle.distance.specs.Distance.{gap, squared, clamped, rectDistance}
-use Rattle.tree.specs.Space.{Branch}
 use Rattle.tree.specs.Nodes.{held}
 use Rattle.tree.specs.Tree.{Tree, Index}
 use Rattle.tree.specs.Order.{comesBefore}
@@ -16,17 +14,7 @@ use Rattle.tree.specs.Nearest.{orNearer, nearest, enters, walkNode, walk}
 use Rattle.tree.specs.Calls.{Answer, refusal, nearestAnswer, nearestEnd}
 use Rattle.plane.specs.Lines.{CellEntry}
 use Rattle.plane.specs.Plane.{planeSpace}
-
--- an entry whose tag is 10 + x, as in the tables of the requests
-abbrev entry : ℕ → ℕ → CellEntry
-entry x y = record { cell = cellOf x y; tag = 10 + x }
-
--- a tree of one leaf, and one of a root with two leaves
-abbrev oneLeaf : Rect → List CellEntry → Tree (planeSpace 8)
-oneLeaf root es = record { level = 0; root = root ∷ []; items = es }
-
-abbrev twoLeaves : Rect → Branch (planeSpace 8 .Poly) CellEntry → Branch (planeSpace 8 .Poly) CellEntry → Tree (planeSpace 8)
-twoLeaves root a b = record { level = 1; root = root ∷ []; items = a ∷ b ∷ [] }
+use Rattle.plane.proofs.WorkedTrees.{entry, oneLeaf, twoLeaves, g10With, g10}
 
 -- a row: an index, the cell asked, and the answer
 pub record Row : Type 0 where
@@ -44,20 +32,6 @@ Holds r =
 abbrev pub AllHold : List Row → Type 0
 AllHold [] = Unit {0}
 AllHold (r ∷ l) = Holds r × AllHold l
-
--- the leaf (0,5)-(5,6) of G10 with some of its entries, and the leaf (5,5)-(9,6)
-abbrev leftLeaf : List CellEntry → Branch (planeSpace 8 .Poly) CellEntry
-leftLeaf es = record { poly = rectOf 0 5 5 6 ∷ []; child = es }
-
-abbrev rightLeaf : Branch (planeSpace 8 .Poly) CellEntry
-rightLeaf = record { poly = rectOf 5 5 9 6 ∷ []; child = entry 5 5 ∷ entry 6 5 ∷ entry 7 5 ∷ entry 8 5 ∷ [] }
-
--- G10's tree, with these entries in the left leaf: a removal leaves the polygons
-abbrev g10With : List CellEntry → Tree (planeSpace 8)
-g10With es = twoLeaves (rectOf 0 5 9 6) (leftLeaf es) rightLeaf
-
-abbrev g10 : Tree (planeSpace 8)
-g10 = g10With (entry 0 5 ∷ entry 1 5 ∷ entry 2 5 ∷ entry 3 5 ∷ entry 4 5 ∷ [])
 
 -- a tree, the cell asked, and the entry found, its squared distance and the visits
 abbrev row : Tree (planeSpace 8) → Cell → CellEntry → ℕ → ℕ → Row

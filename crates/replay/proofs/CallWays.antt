@@ -6,10 +6,10 @@ use borrow.Author.Tests.{eq-eqb, ne-eqb}
 use borrow.Rule.Slice.PartMut.{same-len-mid}
 use lib.ListN.{length}
 use Rattle.geometry.specs.Cells.{cellOf, rectOf}
-use Rattle.tree.specs.Calls.{insertCall, removeCall, clearCall, pointCall, windowCall, nearestCall}
-use Rattle.index.specs.Answers.{clearAnswer, cleared, pointAnswer, nearestAnswer}
+use Rattle.tree.specs.Calls.{insertCall, removeCall, clearCall, pointCall, windowCall, nearestCall, emptyCall}
+use Rattle.index.specs.Answers.{clearAnswer, cleared, pointAnswer, nearestAnswer, emptyAnswer}
 use Rattle.index.specs.Changes.{entryOf, InsertCall, RemoveCall}
-use Rattle.index.specs.Numbers.{insertTold, removeTold, clearTold, pointTold, windowTold, nearestTold}
+use Rattle.index.specs.Numbers.{insertTold, removeTold, clearTold, pointTold, windowTold, nearestTold, emptyTold}
 use Rattle.index.specs.Walks.{WindowCall}
 use Rattle.index.specs.declared.answer.Inserted.{Inserted}
 use Rattle.index.specs.declared.answer.Removed.{Removed}
@@ -17,6 +17,7 @@ use Rattle.index.specs.declared.answer.Cleared.{Cleared}
 use Rattle.index.specs.declared.answer.PointFound.{PointFound}
 use Rattle.index.specs.declared.answer.WindowFound.{WindowFound}
 use Rattle.index.specs.declared.answer.NearestFound.{NearestFound}
+use Rattle.index.specs.declared.answer.EmptyFound.{EmptyFound}
 use Rattle.replay.specs.declared.coded.CodedCall.{CodedCall}
 use Rattle.replay.specs.declared.replies.Reply.{Reply}
 use Rattle.history.specs.Calls.{IndexCall}
@@ -60,14 +61,40 @@ module _ (k : CodedCall) (m l m′ l′ : List ℕ) (r : Reply) where
       rw (ne-eqb (k .kind) 0 n, ne-eqb (k .kind) 1 o, ne-eqb (k .kind) 2 p, ne-eqb (k .kind) 3 t, eq-eqb (k .kind) 4 e) in
       subst (λ (x : IndexCall). Replied x m l m′ l′ r) (sym q) (record { told = windowTold a; reply = f; kept = record { result = a; told = refl; contract = g; memory = h } })
 
-  pub replied-nearest : (k .kind ≡ 0 → ⊥) → (k .kind ≡ 1 → ⊥) → (k .kind ≡ 2 → ⊥) → (k .kind ≡ 3 → ⊥) → (k .kind ≡ 4 → ⊥)
+  pub replied-nearest : (k .kind ≡ 0 → ⊥) → (k .kind ≡ 1 → ⊥) → (k .kind ≡ 2 → ⊥) → (k .kind ≡ 3 → ⊥)
+      → (k .kind ≡ 4 → ⊥) → k .kind ≡ 5
       → (a : NearestFound) → a ≡ nearestAnswer m (cellOf (k .a) (k .b)) → m′ ≡ m → l′ ≡ l
       → r ≡ replyOf (nearestTold a) → Replied (callOf k) m l m′ l′ r
   unfolding callOf
-  replied-nearest n o p t u a g h s f =
+  replied-nearest n o p t u e a g h s f =
       let q : callOf k ≡ nearestCall (cellOf (k .a) (k .b)) =
-      rw (ne-eqb (k .kind) 0 n, ne-eqb (k .kind) 1 o, ne-eqb (k .kind) 2 p, ne-eqb (k .kind) 3 t, ne-eqb (k .kind) 4 u) in
+      rw (
+        ne-eqb (k .kind) 0 n,
+        ne-eqb (k .kind) 1 o,
+        ne-eqb (k .kind) 2 p,
+        ne-eqb (k .kind) 3 t,
+        ne-eqb (k .kind) 4 u,
+        eq-eqb (k .kind) 5 e,
+      ) in
       subst (λ (x : IndexCall). Replied x m l m′ l′ r) (sym q) (record { told = nearestTold a; reply = f; kept = record { told = ap nearestTold g; memory = h; list = s } })
+
+  pub replied-empty : (k .kind ≡ 0 → ⊥) → (k .kind ≡ 1 → ⊥) → (k .kind ≡ 2 → ⊥) → (k .kind ≡ 3 → ⊥)
+      → (k .kind ≡ 4 → ⊥) → (k .kind ≡ 5 → ⊥)
+      → (a : EmptyFound) → a ≡ emptyAnswer m (rectOf (k .a) (k .b) (k .c) (k .d)) → m′ ≡ m → l′ ≡ l
+      → r ≡ replyOf (emptyTold a) → Replied (callOf k) m l m′ l′ r
+  unfolding callOf
+  replied-empty n o p t u v a g h s f =
+      let q : callOf k ≡ emptyCall (rectOf (k .a) (k .b) (k .c) (k .d)) =
+      rw (
+        ne-eqb (k .kind) 0 n,
+        ne-eqb (k .kind) 1 o,
+        ne-eqb (k .kind) 2 p,
+        ne-eqb (k .kind) 3 t,
+        ne-eqb (k .kind) 4 u,
+        ne-eqb (k .kind) 5 v,
+      ) in
+      subst (λ (x : IndexCall). Replied x m l m′ l′ r) (sym q)
+      (record { told = emptyTold a; reply = f; kept = record { told = ap emptyTold g; memory = h; list = s } })
 
 -- A call with its part of the lent list, and its answer stored.
 pub one-made : (l : List ℕ) (i : ℕ) (m p a m′ left a′ : List ℕ) (k : CodedCall) (r : Reply) → k ≡ codedAt l i → Replied (callOf k) m (partFor l i p) m′ left r → length m′ ≡ length m

@@ -6,13 +6,14 @@ use native.Mathlib.Omega.{arith}
 use native.Mathlib.Numerals.{towards-suc}
 use lib.ListN.{length, getD, set, take, drop}
 use lib.Seq.{sets, length-sets, sets-eq}
-use Rattle.index.specs.Numbers.{Told, insertTold, removeTold, clearTold, pointTold, windowTold, nearestTold}
+use Rattle.index.specs.Numbers.{Told, insertTold, removeTold, clearTold, pointTold, windowTold, nearestTold, emptyTold}
 use Rattle.index.specs.declared.answer.Inserted.{Inserted}
 use Rattle.index.specs.declared.answer.Removed.{Removed}
 use Rattle.index.specs.declared.answer.Cleared.{Cleared}
 use Rattle.index.specs.declared.answer.PointFound.{PointFound}
 use Rattle.index.specs.declared.answer.WindowFound.{WindowFound}
 use Rattle.index.specs.declared.answer.NearestFound.{NearestFound}
+use Rattle.index.specs.declared.answer.EmptyFound.{EmptyFound}
 use Rattle.replay.specs.declared.replies.Reply.{Reply}
 use Rattle.replay.specs.Replies.{sevenOf, replyOf, replyNumbers, putReply}
 
@@ -34,6 +35,9 @@ window-case a b r e f = f ∙ ap (λ x. replyOf (windowTold x)) (sym e)
 
 pub nearest-case : (a b : NearestFound) (r : Reply) → a ≡ b → r ≡ replyOf (nearestTold b) → r ≡ replyOf (nearestTold a)
 nearest-case a b r e f = f ∙ ap (λ x. replyOf (nearestTold x)) (sym e)
+
+pub empty-case : (a b : EmptyFound) (r : Reply) → a ≡ b → r ≡ replyOf (emptyTold b) → r ≡ replyOf (emptyTold a)
+empty-case a b r e f = f ∙ ap (λ x. replyOf (emptyTold x)) (sym e)
 
 -- a list of seven values
 seven-are : (l : List ℕ) → length l ≡ 7 → l ≡ sevenOf l

@@ -5,7 +5,7 @@ use mathlib.Core.List.{List, [], _∷_, _++_}
 use lib.Dec.{leb, ltb, eqb}
 use lib.ListN.{getD, take, drop, length}
 use Rattle.geometry.specs.Cells.{cellOf, rectOf}
-use Rattle.tree.specs.Calls.{insertCall, removeCall, clearCall, pointCall, windowCall, nearestCall}
+use Rattle.tree.specs.Calls.{insertCall, removeCall, clearCall, pointCall, windowCall, nearestCall, emptyCall}
 use Rattle.index.specs.Changes.{entryOf}
 use Rattle.replay.specs.declared.coded.CodedCall.{CodedCall}
 use Rattle.history.specs.Calls.{IndexCall}
@@ -28,14 +28,19 @@ abbrev pub toAt : List ℕ → ℕ → ℕ
 toAt l i = getD l (7 * i + 2) 0
 
 -- 0 insertion of (a, b) with the tag c, 1 removal of (a, b), 2 clear, 3 point query of (a, b), 4 window query of
--- (a, b)-(c, d), 5 nearest query of (a, b)
+-- (a, b)-(c, d), 5 nearest query of (a, b), 6 emptiness query of (a, b)-(c, d)
 unfoldable pub callOf : CodedCall → IndexCall
 callOf k =
     cond (eqb (k .kind) 0) (insertCall (entryOf (cellOf (k .a) (k .b)) (k .c)))
     (cond (eqb (k .kind) 1) (removeCall (cellOf (k .a) (k .b)))
     (cond (eqb (k .kind) 2) clearCall
     (cond (eqb (k .kind) 3) (pointCall (cellOf (k .a) (k .b)))
-    (cond (eqb (k .kind) 4) (windowCall (rectOf (k .a) (k .b) (k .c) (k .d))) (nearestCall (cellOf (k .a) (k .b)))))))
+    (cond (eqb (k .kind) 4) (windowCall (rectOf (k .a) (k .b) (k .c) (k .d)))
+    (cond (eqb (k .kind) 5) (nearestCall (cellOf (k .a) (k .b))) (emptyCall (rectOf (k .a) (k .b) (k .c) (k .d))))))))
+
+-- the last known kind
+abbrev pub lastKind : ℕ
+lastKind = 6
 
 -- the first n calls of a list
 unfoldable pub callsIn : List ℕ → ℕ → List IndexCall
@@ -48,7 +53,7 @@ unfoldable pub callFits : List ℕ → ℕ → ℕ → ℕ → Bool
 callFits l i lent answers =
     ltb i (length l / 7)
     && ltb i (answers / 8)
-    && leb (getD l (7 * i) 0) 5
+    && leb (getD l (7 * i) 0) lastKind
     && leb (fromAt l i) (toAt l i)
     && leb (toAt l i) lent
 

@@ -4,11 +4,13 @@ ghost use Rattle.replay.specs.Replies.{Replied};
 use crate::coded::CodedCall;
 use crate::replies::Reply;
 use crate::replies::clear_reply;
+use crate::replies::empty_reply;
 use crate::replies::insert_reply;
 use crate::replies::nearest_reply;
 use crate::replies::point_reply;
 use crate::replies::remove_reply;
 use crate::replies::window_reply;
+use emptiness::is_empty;
 use geometry::Cell;
 use geometry::Rect;
 use index::clear;
@@ -42,16 +44,20 @@ pub fn make_call(call: CodedCall, m: &mut [u32], lent: &mut [u32]) -> Reply
         let answer = point(m, cell);
         return point_reply(answer);
     }
+    let rect = Rect {
+        llx: call.a,
+        lly: call.b,
+        urx: call.c,
+        ury: call.d,
+    };
     if call.kind == 4 {
-        let w = Rect {
-            llx: call.a,
-            lly: call.b,
-            urx: call.c,
-            ury: call.d,
-        };
-        let answer = window(m, w, lent);
+        let answer = window(m, rect, lent);
         return window_reply(answer);
     }
-    let answer = nearest(m, cell);
-    nearest_reply(answer)
+    if call.kind == 5 {
+        let answer = nearest(m, cell);
+        return nearest_reply(answer);
+    }
+    let answer = is_empty(m, rect);
+    empty_reply(answer)
 }

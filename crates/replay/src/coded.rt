@@ -5,7 +5,7 @@ ghost use lib.ListN.{length};
 ghost use Rattle.replay.specs.Coded.{codedAt, callFits};
 
 pub struct CodedCall {
-    // 0 insertion, 1 removal, 2 clear, 3 point query, 4 window query, 5 nearest query
+    // 0 insertion, 1 removal, 2 clear, 3 point query, 4 window query, 5 nearest query, 6 emptiness query
     pub kind: u32,
     pub a: u32,
     pub b: u32,
@@ -40,7 +40,7 @@ pub fn fits(calls: &[u32], i: usize, lent: usize, answers: usize) -> bool
         return false;
     }
     let k = 7 * i;
-    if 5 < calls[k] {
+    if 6 < calls[k] {
         return false;
     }
     if calls[k + 2] < calls[k + 1] {

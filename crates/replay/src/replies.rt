@@ -3,9 +3,10 @@ ghost use mathlib.Core.List.{[], _∷_};
 ghost use mathlib.Core.Path.{_≡_};
 ghost use Prim.Native.Nat.{_+_, _*_, _≤_};
 ghost use lib.ListN.{length};
-ghost use Rattle.index.specs.Numbers.{insertTold, removeTold, clearTold, pointTold, windowTold, nearestTold};
+ghost use Rattle.index.specs.Numbers.{insertTold, removeTold, clearTold, pointTold, windowTold, nearestTold, emptyTold};
 ghost use Rattle.replay.specs.Replies.{sevenOf, replyOf, putReply};
 use index::Cleared;
+use index::EmptyFound;
 use index::Inserted;
 use index::NearestFound;
 use index::PointFound;
@@ -125,6 +126,18 @@ pub fn nearest_reply(answer: NearestFound) -> Reply
         NearestFound::OffGrid => refuses(3),
         NearestFound::NoTree => refuses(4),
         NearestFound::NothingHeld => refuses(10),
+    }
+}
+
+pub fn empty_reply(answer: EmptyFound) -> Reply
+    ensures { λ r. ⌜ r ≡ replyOf (emptyTold answer) ⌝ }
+{
+    match answer {
+        EmptyFound::Empty { visits } => accepts(1, visits, 0),
+        EmptyFound::Occupied { visits } => accepts(0, visits, 0),
+        EmptyFound::WrongLength => refuses(1),
+        EmptyFound::BadWindow => refuses(3),
+        EmptyFound::NoTree => refuses(4),
     }
 }
 

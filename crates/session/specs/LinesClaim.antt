@@ -8,7 +8,7 @@ use mathlib.Core.Path.{_≡_}
 use lib.Dec.{eqb}
 use lib.ListN.{getD}
 use Rattle.geometry.specs.Cells.{cellOf, rectOf}
-use Rattle.tree.specs.Calls.{insertCall, removeCall, clearCall, pointCall, windowCall, nearestCall}
+use Rattle.tree.specs.Calls.{insertCall, removeCall, clearCall, pointCall, windowCall, nearestCall, emptyCall}
 use Rattle.index.specs.Changes.{entryOf}
 use Rattle.index.specs.Numbers.{Told}
 use Rattle.history.specs.Calls.{IndexCall, Made}
@@ -33,7 +33,8 @@ unfoldable pub listedTold : Told → ℕ
 listedTold t = cond (eqb (t .number) 0) (getD (t .values) 0 0) 0
 
 -- what is printed for a call of a kind, by what it answered and left in its list: 'I, R and C print 0 and entries held. P prints 1 or 0,
--- visits, then the tag if held. S prints matches and visits, then an E line per entry'. No line makes a nearest query.
+-- visits, then the tag if held. S prints matches and visits, then an E line per entry'. No line makes a nearest query or
+-- an emptiness query.
 abbrev pub textBy : IndexCall → Made → List ℕ
 textBy (insertCall e) d = heldText letterI (d .told)
 textBy (removeCall c) d = heldText letterR (d .told)
@@ -41,6 +42,7 @@ textBy clearCall d = heldText letterC (d .told)
 textBy (pointCall c) d = foundText letterP (d .told)
 textBy (windowCall w) d = foundText letterS (d .told) ++ entriesText (d .left) (listedTold (d .told))
 textBy (nearestCall c) d = []
+textBy (emptyCall w) d = []
 
 -- Commands one after another, the calls they made and the text they printed. 'Other lines .. print `?`'.
 pub data Printed : List Command → List Made → List ℕ → Type 0 where

@@ -15,11 +15,11 @@ use Rattle.tree.specs.Insert.{Outcome, refused, accepted, insert}
 use Rattle.tree.specs.Remove.{other, remove}
 use Rattle.tree.specs.Query.{ofCell, Window, holds}
 use Rattle.tree.specs.Nearest.{nearest, walk}
-use Rattle.tree.specs.Calls.{Call, insertCall, removeCall, clearCall, pointCall, windowCall, nearestCall, Answer, refusal, reports, isAccepted, outcomeAnswer, outcomeIndex, insertion, nearestEnd, answer, after, afterAll, answers}
+use Rattle.tree.specs.Calls.{Call, insertCall, removeCall, clearCall, pointCall, windowCall, nearestCall, emptyCall, Answer, refusal, reports, isAccepted, outcomeAnswer, outcomeIndex, insertion, nearestEnd, answer, after, afterAll, answers}
 use Rattle.tree.specs.Record.{recorded, recordOf}
 use Rattle.tree.specs.Claim.{Reported, ReportedAll, IndexClaim, OnGrid, Claim}
 use Rattle.tree.proofs.Counts.{countOf-both, countOf-append, countOf-keep, countOf-every}
-use Rattle.tree.proofs.Laws.{Laws, Steps, RootLaws}
+use Rattle.tree.proofs.Laws.{Laws, Steps, RootLaws, WindowLaws}
 use Rattle.tree.proofs.Insert.{Inserted, insert-accepted}
 use Rattle.tree.proofs.RemoveIndex.{remove-entries, remove-nodes, remove-sound}
 use Rattle.tree.proofs.Depth.{within-parent, equal-depth, equally-deep}
@@ -27,6 +27,7 @@ use Rattle.tree.proofs.Visits.{visits-height}
 use Rattle.tree.proofs.NearestLeast.{nearest-is}
 use Rattle.tree.proofs.NearestSame.{nearest-same}
 use Rattle.tree.proofs.NearestWalk.{walk-nearest, walk-few}
+use Rattle.tree.proofs.Emptiness.{empty-exact, empty-few}
 use Rattle.tree.proofs.Leaves.{leaves-cover, one-leaf, cell-once}
 
 module _ (S : Space) (W : Laws S) (T : Steps S) (R : Root S) (X : RootLaws S R) (wide : 2 ≤ S .most) (Win : Window S) (N : ℕ) where
@@ -54,6 +55,7 @@ module _ (S : Space) (W : Laws S) (T : Steps S) (R : Root S) (X : RootLaws S R) 
   refused-step i r (pointCall c) n s = record { state = s; report = tt }
   refused-step i r (windowCall w) n s = record { state = s; report = tt }
   refused-step i r (nearestCall c) n s = record { state = s; report = tt }
+  refused-step i r (emptyCall w) n s = record { state = s; report = tt }
 
   inserted-state : (i j : Index S) (r : List (EntryOf S)) (e : EntryOf S) → State i r → Inserted S W T R X wide N i e j → State j (r ++ (e ∷ []))
   inserted-state i j r e s h = record {
@@ -98,6 +100,7 @@ module _ (S : Space) (W : Laws S) (T : Steps S) (R : Root S) (X : RootLaws S R) 
   call-step i r (pointCall c) on s = record { state = s; report = tt }
   call-step i r (windowCall w) on s = record { state = s; report = tt }
   call-step i r (nearestCall c) on s = nearest-step i r c s (nearest S c i) (walk S c i .entered)
+  call-step i r (emptyCall w) on s = record { state = s; report = tt }
 
   -- A list of calls.
   pub after-state : (i : Index S) (r : List (EntryOf S)) (ks : List (Call S Win)) → All (OnGrid S Win) ks → State i r → State (afterAll S R N Win i ks) (recordOf r ks (map isAccepted (answers S R N Win i ks)))
@@ -115,8 +118,8 @@ module _ (S : Space) (W : Laws S) (T : Steps S) (R : Root S) (X : RootLaws S R) 
       (t .report, all-reported (after S R N Win i k) (recorded r k (isAccepted (answer S R N Win i k))) ks (on .1) (t .state))
 
   -- What follows for the index.
-  pub index-claim : (i : Index S) (r : List (EntryOf S)) → State i r → IndexClaim S R N i r
-  index-claim i r s = record {
+  pub index-claim : WindowLaws S Win → (i : Index S) (r : List (EntryOf S)) → State i r → IndexClaim S Win R N i r
+  index-claim Y i r s = record {
     sound = s .sound;
     room = s .room;
     entries-same = s .same;
@@ -130,13 +133,15 @@ module _ (S : Space) (W : Laws S) (T : Steps S) (R : Root S) (X : RootLaws S R) 
     walk-nearest = λ c. walk-nearest S W c R i (s .sound);
     nearest-is = λ c e h. nearest-same S W c (entries S i) r (s .same) e (nearest-is S c (entries S i) e h);
     walk-few = λ c. walk-few S c i;
+    empty-exact = empty-exact S W R i (s .sound) Win Y;
+    empty-few = empty-few S W R i (s .sound) Win Y;
   }
 
   -- For every list of calls from the empty index, with any N.
-  pub claim : (ks : List (Call S Win)) → All (OnGrid S Win) ks → Claim S Win R N ks
-  claim ks on =
+  pub claim : WindowLaws S Win → (ks : List (Call S Win)) → All (OnGrid S Win) ks → Claim S Win R N ks
+  claim Y ks on =
       let start : State none [] = record { sound = tt; room = omega arith; same = λ q. refl } in
-      record { index = index-claim _ _ (after-state none [] ks on start); reported = all-reported none [] ks on start }
+      record { index = index-claim Y _ _ (after-state none [] ks on start); reported = all-reported none [] ks on start }
 
   -- A list after a list: the second starts where the first ended.
   pub after-append : (i : Index S) (ks ms : List (Call S Win)) → afterAll S R N Win i (ks ++ ms) ≡ afterAll S R N Win (afterAll S R N Win i ks) ms

@@ -25,6 +25,7 @@ pub mod Order
 pub mod NearestLeast
 pub mod NearestSame
 pub mod NearestWalk
+pub mod Emptiness
 pub mod Claim
 pub mod Remove
 pub mod RemoveIndex

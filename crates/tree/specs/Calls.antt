@@ -13,6 +13,7 @@ use Rattle.tree.specs.Insert.{Outcome, refused, accepted, insert}
 use Rattle.tree.specs.Remove.{remove}
 use Rattle.tree.specs.Query.{Window, holds, entryAt, visits, matches, windowVisits}
 use Rattle.tree.specs.Nearest.{nearest, walk}
+use Rattle.tree.specs.Emptiness.{isEmpty, emptyVisits}
 
 -- "insertions, removals, clears and queries", with their arguments other than lent lists.
 pub data Call (S : Space) (Win : Window S) : Type 0 where
@@ -22,16 +23,18 @@ pub data Call (S : Space) (Win : Window S) : Type 0 where
   pointCall : S .Cell → Call S Win
   windowCall : Win .W → Call S Win
   nearestCall : S .Cell → Call S Win
+  emptyCall : Win .W → Call S Win
 
 -- An answer: a refusal by its number; "Insertion, removal and clearing report the entries held after the call"; a point
 -- query the entry, if held, and visits; a window query the matches in order and visits; a nearest query "the entry, the
--- squared distance and the number of nodes entered".
+-- squared distance and the number of nodes entered"; an emptiness query "a yes or no for a window" and visits.
 pub data Answer (S : Space) : Type 0 where
   refusal : ℕ → Answer S
   reports : ℕ → Answer S
   pointAnswer : Option (EntryOf S) → ℕ → Answer S
   windowAnswer : List (EntryOf S) → ℕ → Answer S
   nearestAnswer : EntryOf S → ℕ → ℕ → Answer S
+  emptyAnswer : Bool → ℕ → Answer S
 
 -- Whether the call was accepted.
 abbrev pub isAccepted : {S : Space} → Answer S → Bool
@@ -40,6 +43,7 @@ isAccepted (reports n) = true
 isAccepted (pointAnswer e v) = true
 isAccepted (windowAnswer es v) = true
 isAccepted (nearestAnswer e d v) = true
+isAccepted (emptyAnswer b v) = true
 
 module _ (S : Space) where
   -- The answer and the index after, from how a call that may change the index ends. A refused call leaves "index" as it was.
@@ -74,6 +78,7 @@ module _ (S : Space) where
       answer i (pointCall c) = pointAnswer (entryAt S c i) (visits S c i)
       answer i (windowCall w) = windowAnswer (matches S Win w i) (windowVisits S Win w i)
       answer i (nearestCall c) = nearestEnd c (nearest S c i) (walk S c i .entered)
+      answer i (emptyCall w) = emptyAnswer (isEmpty S Win w i) (emptyVisits S Win w i)
 
       -- The index after a call.
       unfoldable pub after : Index S → Call S Win → Index S
@@ -83,6 +88,7 @@ module _ (S : Space) where
       after i (pointCall c) = i
       after i (windowCall w) = i
       after i (nearestCall c) = i
+      after i (emptyCall w) = i
 
       -- A list of calls, "each call handed the memory that the last one left": the index after all, and each call's answer.
       unfoldable pub afterAll : Index S → List (Call S Win) → Index S

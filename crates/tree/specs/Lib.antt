@@ -14,6 +14,7 @@ pub mod Remove
 pub mod Query
 pub mod Order
 pub mod Nearest
+pub mod Emptiness
 pub mod BoxSpace
 pub mod Calls
 pub mod Record

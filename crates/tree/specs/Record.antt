@@ -7,7 +7,7 @@ use Rattle.tree.specs.Space.{Space}
 use Rattle.tree.specs.Nodes.{EntryOf}
 use Rattle.tree.specs.Remove.{other}
 use Rattle.tree.specs.Query.{Window}
-use Rattle.tree.specs.Calls.{Call, insertCall, removeCall, clearCall, pointCall, windowCall, nearestCall}
+use Rattle.tree.specs.Calls.{Call, insertCall, removeCall, clearCall, pointCall, windowCall, nearestCall, emptyCall}
 
 module _ {S : Space} {Win : Window S} where
   -- "The record is fed each call's kind, its arguments other than lent lists, and whether it was accepted; it never looks at the memory."
@@ -22,6 +22,7 @@ module _ {S : Space} {Win : Window S} where
   recorded r (pointCall c) true = r
   recorded r (windowCall w) true = r
   recorded r (nearestCall c) true = r
+  recorded r (emptyCall w) true = r
   recorded r k false = r
 
   -- The record after a list of calls, each with whether it was accepted.

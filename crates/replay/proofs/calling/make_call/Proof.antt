@@ -1,6 +1,6 @@
 -- `calling::make_call` meets its contract; the laws that it needs are in CallWays.
 use native.Mathlib.Omega.{arith}
-use Rattle.replay.proofs.CallWays.{replied-insert, replied-remove, replied-clear, replied-point, replied-window, replied-nearest}
+use Rattle.replay.proofs.CallWays.{replied-insert, replied-remove, replied-clear, replied-point, replied-window, replied-nearest, replied-empty}
 use borrow.Author.Needs.{needs}
 use Rattle.replay.proofs.calling.make_call.Statement.{statement}
 use Rattle.replay.proofs.calling.make_call.Tie as tie
@@ -83,6 +83,18 @@ same-length-8 c = search needs
 returns-6 : tie.Need-returns-6
 returns-6 c = search (replied-nearest, arith)
 
+is-empty-requires : tie.Need-is-empty-requires
+is-empty-requires c κs = search needs
+
+empty-reply-requires : tie.Need-empty-reply-requires
+empty-reply-requires c κs = search needs
+
+same-length-9 : tie.Need-same-length-9
+same-length-9 c = search needs
+
+returns-7 : tie.Need-returns-7
+returns-7 c = search (replied-empty, arith)
+
 pub make-call-spec : {M : Type 1} → statement M
 make-call-spec =
     tie.close
@@ -112,4 +124,8 @@ make-call-spec =
     nearest-requires
     nearest-reply-requires
     same-length-8
-    returns-6)
+    returns-6
+    is-empty-requires
+    empty-reply-requires
+    same-length-9
+    returns-7)

@@ -1,0 +1,135 @@
+-- The answer of an accepted emptiness query, on any memory, and beside a window query.
+use Prim.Native.Nat.{ℕ, _*_, _≤_}
+use mathlib.Core.Bool.{Bool, true, false, cond, false≢true}
+use mathlib.Core.List.{List, [], _∷_}
+use mathlib.Core.Option.{Option, none, some}
+use mathlib.Core.Path.{_≡_, refl, sym, ap, _∙_}
+use lib.Dec.{leb, eqb}
+use lib.ListN.{length}
+use Rattle.geometry.specs.declared.rect.Rect.{Rect}
+use Rattle.geometry.specs.Cells.{valid}
+use Rattle.tree.specs.Lists.{countOf}
+use Rattle.tree.specs.Tree.{entries}
+use Rattle.tree.specs.Query as query
+use Rattle.tree.specs.Emptiness as tree
+use Rattle.tree.proofs.Emptiness.{empty-exact, empty-few}
+use Rattle.plane.specs.Lines.{CellEntry}
+use Rattle.plane.specs.Plane.{planeSpace, planeRoot}
+use Rattle.plane.specs.Windows.{planeWindow}
+use Rattle.plane.proofs.Rects.{plane-space-laws}
+use Rattle.plane.proofs.Windows.{plane-window-laws}
+use Rattle.memory.specs.Layout.{rightLength}
+use Rattle.memory.specs.Reading.{reading}
+use Rattle.memory.specs.Fanout.{fanout}
+use Rattle.index.specs.Answers.{PlaneIndex, matchesIn, windowRead, windowAnswer, emptyEnd, emptyRead, emptyAnswer}
+use Rattle.index.specs.Numbers.{windowTold, emptyTold}
+use Rattle.index.specs.declared.answer.WindowFound.the-variants as W
+use Rattle.index.specs.declared.answer.EmptyFound.the-variants as E
+use Rattle.history.specs.Calls.{accepted}
+use Rattle.history.specs.Emptiness.{EmptyExact, EmptyAsWindow}
+use Rattle.history.proofs.Visits.{reads-sound, reads-right}
+
+-- a refused call is not accepted
+never : {A : Type 0} → false ≡ true → A
+never f = absurd (false≢true f)
+
+-- of the plane
+abbrev isEmpty : Rect → PlaneIndex → Bool
+isEmpty w i = tree.isEmpty (planeSpace fanout) (planeWindow fanout) w i
+
+abbrev emptyVisits : Rect → PlaneIndex → ℕ
+emptyVisits w i = tree.emptyVisits (planeSpace fanout) (planeWindow fanout) w i
+
+abbrev windowVisits : Rect → PlaneIndex → ℕ
+windowVisits w i = query.windowVisits (planeSpace fanout) (planeWindow fanout) w i
+
+module _ (m : List ℕ) (w : Rect) (i : PlaneIndex) (e : reading fanout m ≡ some i) where
+  exact : isEmpty w i ≡ eqb (length (matchesIn w i)) 0
+  exact =
+      empty-exact (planeSpace fanout) (plane-space-laws fanout) (planeRoot fanout) i (reads-sound m i e)
+      (planeWindow fanout) (plane-window-laws fanout) w
+
+  few : emptyVisits w i ≤ windowVisits w i
+  few =
+      empty-few (planeSpace fanout) (plane-space-laws fanout) (planeRoot fanout) i (reads-sound m i e)
+      (planeWindow fanout) (plane-window-laws fanout) w
+
+  -- an emptiness query of a valid window is accepted on every memory that holds an index
+  pub empty-accepts : valid w ≡ true → accepted (emptyTold (emptyAnswer m w)) ≡ true
+  unfolding emptyAnswer emptyRead emptyEnd
+  empty-accepts g = rw (reads-right m i e, g, e) (go (isEmpty w i))
+    where
+      go : (b : Bool) → accepted (emptyTold (emptyEnd b (emptyVisits w i))) ≡ true
+      go true = refl
+      go false = refl
+
+  -- An accepted one is exact for r, if as many entries of i as of r pass any test.
+  pub tells-empty : (r : List CellEntry)
+      → ((q : CellEntry → Bool) → countOf q (entries (planeSpace fanout) i) ≡ countOf q r)
+      → accepted (emptyTold (emptyAnswer m w)) ≡ true → EmptyExact m w r (emptyTold (emptyAnswer m w))
+  unfolding emptyAnswer emptyRead emptyEnd
+  tells-empty r same f = rw e (go (rightLength m) (valid w) (isEmpty w i) refl (rw e at f))
+    where
+      inside : CellEntry → Bool
+      inside = query.matching (planeSpace fanout) (planeWindow fanout) w
+
+      go : (a b t : Bool) → isEmpty w i ≡ t
+          → accepted (emptyTold (cond a (cond b (emptyEnd t (emptyVisits w i)) E.BadWindow) E.WrongLength)) ≡ true
+          → EmptyExact m w r (emptyTold (cond a (cond b (emptyEnd t (emptyVisits w i)) E.BadWindow) E.WrongLength))
+      go false b t h f = never f
+      go true false t h f = never f
+      go true true t h f = record {
+        empty = t;
+        visits = emptyVisits w i;
+        told = told t;
+        none-inside = sym h ∙ exact ∙ ap (λ n. eqb n 0) (same inside);
+        index = i;
+        reads = e;
+        no-match = sym h ∙ exact;
+        exact = refl;
+        few = few;
+      }
+        where
+          told : (t : Bool) → emptyTold (emptyEnd t (emptyVisits w i)) .values ≡ cond t 1 0 ∷ emptyVisits w i ∷ []
+          told true = refl
+          told false = refl
+
+-- An accepted one on any memory: that memory holds an index, and its answer is exact for the entries of that index.
+pub empty-on-index : (m : List ℕ) (w : Rect) → accepted (emptyTold (emptyAnswer m w)) ≡ true
+    → (i : PlaneIndex) × (reading fanout m ≡ some i)
+    × EmptyExact m w (entries (planeSpace fanout) i) (emptyTold (emptyAnswer m w))
+empty-on-index m w f =
+    let h = index-held (rightLength m) (valid w) (reading fanout m) refl (unfold emptyAnswer in f) in
+    (h .0, h .1, tells-empty m w (h .0) (h .1) (entries (planeSpace fanout) (h .0)) (λ q. refl) f)
+  where
+    index-held : (a b : Bool) (o : Option PlaneIndex) → reading fanout m ≡ o
+        → accepted (emptyTold (cond a (cond b (emptyRead w o) E.BadWindow) E.WrongLength)) ≡ true
+        → (i : PlaneIndex) × (reading fanout m ≡ some i)
+    index-held false b o e f = never f
+    index-held true false o e f = never f
+    index-held true true none e f = never (unfold emptyRead in f)
+    index-held true true (some i) e f = (i, e)
+
+-- Beside a window query of the same memory and window, with a result list of any length.
+pub empty-as-window : (m : List ℕ) (w : Rect) (len : ℕ)
+    → EmptyAsWindow (emptyTold (emptyAnswer m w)) (windowTold (windowAnswer m w len))
+unfolding emptyAnswer windowAnswer emptyRead windowRead emptyEnd
+empty-as-window m w len = go (rightLength m) (valid w) (reading fanout m) refl
+  where
+    -- both accept, or the window query lacks room
+    accept : (i : PlaneIndex) → reading fanout m ≡ some i → (t : Bool) → isEmpty w i ≡ t → (l : Bool)
+        → EmptyAsWindow (emptyTold (emptyEnd t (emptyVisits w i)))
+        (windowTold
+        (cond l (W.Found (length (matchesIn w i)) (windowVisits w i)) (W.ShortList (length (matchesIn w i)))))
+    accept i e true h true = record { number = refl; yes = λ f. rw (← (exact m w i e), h); few = λ f. few m w i e }
+    accept i e false h true = record { number = refl; yes = λ f. rw (← (exact m w i e), h); few = λ f. few m w i e }
+    accept i e true h false = record { number = refl; yes = λ f. rw (← (exact m w i e), h); few = λ f. never f }
+    accept i e false h false = record { number = refl; yes = λ f. rw (← (exact m w i e), h); few = λ f. never f }
+
+    go : (a b : Bool) (o : Option PlaneIndex) → reading fanout m ≡ o
+        → EmptyAsWindow (emptyTold (cond a (cond b (emptyRead w o) E.BadWindow) E.WrongLength))
+        (windowTold (cond a (cond b (windowRead w len o) W.BadWindow) W.WrongLength))
+    go false b o e = record { number = refl; yes = λ f. never f; few = λ f. never f }
+    go true false o e = record { number = refl; yes = λ f. never f; few = λ f. never f }
+    go true true none e = record { number = refl; yes = λ f. never f; few = λ f. never f }
+    go true true (some i) e = accept i e (isEmpty w i) refl (leb (3 * length (matchesIn w i)) len)
