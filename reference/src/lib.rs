@@ -1,6 +1,6 @@
-//! The second implementation of document 01 and of document 02's requests A.1 to A.4, written from
-//! their sentences and as plain as possible, and the declarations of the proved library that the
-//! tests compare it with.
+//! The second implementation of document 01 and of document 02's requests A.1 to A.4 and A.11,
+//! written from their sentences and as plain as possible, and the declarations of the proved library
+//! that the tests compare it with.
 
 pub mod bands;
 pub mod drawing;

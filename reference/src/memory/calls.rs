@@ -1,4 +1,4 @@
-//! Clearing and the three queries on lent numbers. A refused call changes nothing that is lent,
+//! Clearing and the four queries on lent numbers. A refused call changes nothing that is lent,
 //! but for the matches that refusal 9 reports.
 
 use super::layout::parts_of;
@@ -49,6 +49,16 @@ pub fn nearest(
     visits: &mut u32,
 ) -> Result<(), Refusal> {
     Reading::of(index).nearest(cell, near, tag, distance, visits)
+}
+
+/// Stores 1 to empty where no entry is in the window, else 0, and the visits. Refusals 1, 3 and 4.
+pub fn is_empty(
+    index: &[u32],
+    window: [u32; 4],
+    empty: &mut u32,
+    visits: &mut u32,
+) -> Result<(), Refusal> {
+    Reading::of(index).is_empty(window, empty, visits)
 }
 
 /// A lent index that was read, for several calls on it: the index or refusal 1 or 4.
@@ -124,6 +134,20 @@ impl Reading {
         *near = answer.entry.cell;
         *tag = answer.entry.tag;
         *distance = answer.distance;
+        *visits = answer.visits as u32;
+        Ok(())
+    }
+
+    /// As the call `is_empty`.
+    pub fn is_empty(
+        &self,
+        [llx, lly, urx, ury]: [u32; 4],
+        empty: &mut u32,
+        visits: &mut u32,
+    ) -> Result<(), Refusal> {
+        let window = Rectangle::new(llx, lly, urx, ury);
+        let answer = self.after_test(window.is_valid())?.is_empty(window)?;
+        *empty = u32::from(answer.is_empty);
         *visits = answer.visits as u32;
         Ok(())
     }

@@ -9,7 +9,7 @@ mod read;
 mod refusal;
 mod sound;
 
-pub use calls::{clear, nearest, point, window, Reading};
+pub use calls::{clear, is_empty, nearest, point, window, Reading};
 pub use changes::{insert, remove};
 pub use image::image;
 pub use read::{read, read_back};

@@ -1,5 +1,6 @@
 //! The index: a tree of at most N nodes, and the calls with their refusals in number order.
 
+use super::emptiness::{is_empty, stopping_walk};
 use super::nearest::{nearest, squared_distance, walk};
 use super::{insert, query, remove, Entry, Refusal, Tree, MOST_NODES};
 use crate::geometry::{is_cell, Cell, Rectangle};
@@ -30,6 +31,13 @@ pub struct WindowAnswer {
 pub struct NearestAnswer {
     pub entry: Entry,
     pub distance: u64,
+    pub visits: usize,
+}
+
+/// An emptiness query gives 'a yes or no for a window' and the visits of its walk.
+#[derive(Clone, Copy, Debug, PartialEq, Eq)]
+pub struct EmptinessAnswer {
+    pub is_empty: bool,
     pub visits: usize,
 }
 
@@ -109,9 +117,7 @@ impl Index {
     /// 'Writes x, y, tag for each matching entry in depth-first order, leaves the rest of the
     /// list.' Refusals 3 and 9.
     pub fn window(&self, window: Rectangle, list: &mut [u32]) -> Result<WindowAnswer, Refusal> {
-        if !window.is_valid() {
-            return Err(Refusal::Invalid);
-        }
+        test_window(window)?;
         let found = self
             .tree()
             .map_or_else(Vec::new, |tree| query::matches(tree, window));
@@ -143,6 +149,18 @@ impl Index {
         })
     }
 
+    /// The yes or no by a look at all entries; the walk gives the visits alone. Refusal 3.
+    pub fn is_empty(&self, window: Rectangle) -> Result<EmptinessAnswer, Refusal> {
+        test_window(window)?;
+        let entries = self.tree().map_or_else(Vec::new, Tree::entries);
+        Ok(EmptinessAnswer {
+            is_empty: is_empty(&entries, window),
+            visits: self
+                .tree()
+                .map_or(0, |tree| stopping_walk(tree, window).visits),
+        })
+    }
+
     fn entry_of(&self, cell: Cell) -> Option<Entry> {
         self.tree().and_then(|tree| query::entry_of(tree, cell))
     }
@@ -154,9 +172,10 @@ impl Index {
 
 /// Refusal 3: 'coordinate over 65535.'
 fn test_cell(cell: Cell) -> Result<(), Refusal> {
-    if is_cell(cell) {
-        Ok(())
-    } else {
-        Err(Refusal::Invalid)
-    }
+    is_cell(cell).then_some(()).ok_or(Refusal::Invalid)
+}
+
+/// Refusal 3: 'window with ll >= ur in a dimension or ur over 65536.'
+fn test_window(window: Rectangle) -> Result<(), Refusal> {
+    window.is_valid().then_some(()).ok_or(Refusal::Invalid)
 }
