@@ -1,6 +1,6 @@
 /*
  * The index of calibration cells in lent memory: insertion, removal, clearing
- * and the three queries.
+ * and the four queries.
  *
  * A cell is a pair (x, y), each from 0 to 65535. An entry is a cell and a tag,
  * which is any 32-bit number; a cell has at most one entry. A window has a lower
@@ -112,6 +112,15 @@ uint32_t lintzoger_nearest(const uint32_t *index, size_t index_len,
                            uint32_t x, uint32_t y,
                            uint32_t *near_x, uint32_t *near_y, uint32_t *tag,
                            uint64_t *distance, uint32_t *visits);
+
+/* Finds out whether the window is empty. Stores 1 to *empty if no entry is in the
+   window, else 0; and to *visits the number of nodes that the search enters: of
+   those whose polygon shares a cell with the window, in the tree's order, up to
+   the leaf with the first entry in the window. Refuses with 1, 3 and 4: nothing is
+   stored. */
+uint32_t lintzoger_is_empty(const uint32_t *index, size_t index_len,
+                            uint32_t llx, uint32_t lly, uint32_t urx, uint32_t ury,
+                            uint32_t *empty, uint32_t *visits);
 
 #ifdef __cplusplus
 }

@@ -84,6 +84,19 @@ static void print_nearest(uint32_t x, uint32_t y) {
     }
 }
 
+/* Prints what an emptiness query answers. */
+static void print_is_empty(uint32_t llx, uint32_t lly, uint32_t urx, uint32_t ury) {
+    uint32_t empty, visits;
+    uint32_t answer = lintzoger_is_empty(index_numbers, index_len, llx, lly, urx, ury,
+                                         &empty, &visits);
+    printf("empty (%" PRIu32 ",%" PRIu32 ")-(%" PRIu32 ",%" PRIu32 "): ", llx, lly, urx, ury);
+    if (answer != 0) {
+        printf("refused %" PRIu32 "\n", answer);
+    } else {
+        printf("%s, visits %" PRIu32 "\n", empty == 1 ? "yes" : "no", visits);
+    }
+}
+
 int main(void) {
     print_point(20, 12);
     print_point(15, 11);
@@ -103,10 +116,20 @@ int main(void) {
     print_nearest(20, 12);
     print_nearest(65536, 0);
 
+    /* The first leaf has an entry in the window (20,10)-(22,13), so the second is not entered. Both
+       are entered for (11,10)-(30,12), as the first has none there. */
+    print_is_empty(20, 10, 22, 13);
+    print_is_empty(11, 10, 30, 12);
+    print_is_empty(11, 10, 20, 13);
+    print_is_empty(10, 20, 30, 30);
+    print_is_empty(40, 0, 65536, 65536);
+    print_is_empty(10, 10, 10, 13);
+
     /* A number that nothing uses must be zero. */
     index_numbers[63] = 1;
     print_point(20, 12);
     print_nearest(20, 12);
+    print_is_empty(20, 10, 22, 13);
 
     uint32_t held;
     uint32_t answer = lintzoger_clear(index_numbers, index_len, &held);
@@ -117,5 +140,6 @@ int main(void) {
     }
     print_point(20, 12);
     print_nearest(20, 12);
+    print_is_empty(0, 0, 65536, 65536);
     return 0;
 }
