@@ -48,6 +48,16 @@ extern "C" {
         distance: *mut u64,
         visits: *mut u32,
     ) -> u32;
+    fn lintzoger_is_empty(
+        index: *const u32,
+        index_len: usize,
+        llx: u32,
+        lly: u32,
+        urx: u32,
+        ury: u32,
+        empty: *mut u32,
+        visits: *mut u32,
+    ) -> u32;
 }
 
 // In each wrapper the pointers come from slices and references that live through the call, and the
@@ -127,4 +137,14 @@ pub fn nearest(
             visits,
         )
     }
+}
+
+pub fn is_empty(
+    index: &[u32],
+    [llx, lly, urx, ury]: [u32; 4],
+    empty: &mut u32,
+    visits: &mut u32,
+) -> u32 {
+    let (index, index_len) = (index.as_ptr(), index.len());
+    unsafe { lintzoger_is_empty(index, index_len, llx, lly, urx, ury, empty, visits) }
 }

@@ -37,6 +37,11 @@ fn nearest() {
 }
 
 #[test]
+fn empty() {
+    check_example("empty", env!("LINTZOGER_ARCHIVE"));
+}
+
+#[test]
 fn session() {
     check_example("session", env!("LINTZOGER_ARCHIVE"));
 }

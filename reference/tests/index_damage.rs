@@ -15,6 +15,9 @@ use reference::tree::Tree;
 use support::tally::Tally;
 use support::{say, seed};
 
+/// The kinds of emptiness queries that accepted images must reach.
+const EMPTINESS: [&str; 2] = ["emptiness yes, visits", "emptiness no, more visits"];
+
 /// Changes at each of the places, one at a time.
 fn change_singly(
     tree: Option<&Tree>,
@@ -49,8 +52,10 @@ fn every_number_of_random_images() {
     }
     say(&format!("every number, random images: {tally}"));
     tally.require(400_000, &["images refused", "nearest refused 4"]);
+    tally.require(400_000, &["emptiness refused 4"]);
     tally.require(5_000, &["images accepted"]);
     tally.require(1_000, &["nearest, another cell's entry"]);
+    tally.require(1_000, &EMPTINESS);
 }
 
 /// Built trees, with a gap or two and without.
@@ -190,6 +195,8 @@ fn random_damage() {
     }
     say(&format!("random damage: {tally}"));
     tally.require(150_000, &["images refused", "nearest refused 4"]);
+    tally.require(150_000, &["emptiness refused 4"]);
     tally.require(5_000, &["images accepted"]);
     tally.require(1_000, &["nearest, another cell's entry"]);
+    tally.require(1_000, &EMPTINESS);
 }

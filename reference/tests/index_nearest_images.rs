@@ -5,53 +5,21 @@ mod memory_support;
 mod support;
 
 use memory_support::built::{built_trees, chain, chain_of_sixteens};
+use memory_support::cases::{queried, run};
 use memory_support::changes::any_cell;
-use memory_support::histories::random_history;
-use memory_support::images::{any_image, any_tree, nodes, small_grid};
+use memory_support::images::{any_image, large_image, nodes, small_grid, tree_of_case, GRID};
 use memory_support::lent::Lent;
 use memory_support::loose::loose_tree;
 use memory_support::nearest::{NearestOutput, FOUND, TIES};
 use memory_support::queries::{cells_of, corner_cells, with_margin, Queried};
 use memory_support::ragged::ragged;
 use memory_support::tall::{cell_outside, tall_tree};
-use memory_support::trees::tree_of;
-use memory_support::wheel::wheel_tree;
 use memory_support::MOST_PARTS;
 use reference::geometry::Rectangle;
 use reference::memory::is_sound;
 use reference::random::Random;
 use reference::tree::Tree;
 use std::fmt::Arguments;
-use support::tally::Tally;
-use support::{say, seed};
-
-const GRID: Rectangle = Rectangle {
-    ll: [0, 0],
-    ur: [65536, 65536],
-};
-
-/// So many cases, each with a generator of its own. Says what they reached.
-fn run(
-    name: &str,
-    group: u64,
-    cases: u64,
-    ask: impl Fn(u64, &mut Random, &mut Tally, Arguments),
-) -> Tally {
-    let seed = seed();
-    let mut tally = Tally::default();
-    for case in 0..cases {
-        let mut random = Random::for_case(seed, group, case);
-        let place = format_args!("LINTZOGER_SEED={seed}, {name} {case}");
-        ask(case, &mut random, &mut tally, place);
-    }
-    say(&format!("nearest, {name}s: {tally}"));
-    tally
-}
-
-/// The tree's image at any parts.
-fn queried<'a>(n: usize, tree: &Tree, random: &mut Random, tally: &'a mut Tally) -> Queried<'a> {
-    Queried::new(&any_image(n, Some(tree), random), tally)
-}
 
 /// The cells of the entries, and at the corners of all rectangles and of the grid.
 fn ask_at_corners(queried: &mut Queried, tree: &Tree, place: Arguments) {
@@ -148,11 +116,7 @@ fn ragged_trees() {
 fn random_images() {
     let tally = run("random image", 2304, 600, |case, random, tally, place| {
         let n = random.between(1, 40) as usize;
-        let tree = match case % 4 {
-            0 => random_history(n, random),
-            1 => Some(wheel_tree(1 + case as usize / 4 % 3, random)),
-            _ => any_tree(n, random),
-        };
+        let tree = tree_of_case(case, n, random);
         let n = n.max(nodes(tree.as_ref()));
         let image = any_image(n, tree.as_ref(), random);
         ask_nearby(&mut Queried::new(&image, tally), 60, random, place);
@@ -202,12 +166,7 @@ fn tall_trees() {
 #[test]
 fn large_images() {
     let tally = run("large image", 2307, 8, |case, random, tally, place| {
-        let n = random.pick(&[64, 200, 255, 256]);
-        let tree = match case % 2 {
-            0 => random_history(n, random),
-            _ => Some(tree_of(5, n, GRID, random)),
-        };
-        let image = any_image(n, tree.as_ref(), random);
+        let image = large_image(case, random);
         ask_nearby(&mut Queried::new(&image, tally), 400, random, place);
     });
     tally.require(100, &["nearest queries", "nearest, nodes passed over"]);

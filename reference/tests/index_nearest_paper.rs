@@ -4,33 +4,14 @@ mod memory_support;
 mod support;
 
 use memory_support::built::scattered;
-use memory_support::images::first_parts;
 use memory_support::length_of;
 use memory_support::lent::Lent;
 use memory_support::nearest::NearestOutput;
 use memory_support::session::Session;
-use memory_support::work::Dirt;
+use memory_support::small::{g10, image_of, index_of};
 use reference::geometry::Cell;
-use reference::memory::image;
-use reference::tree::Tree;
 use support::build::{leaf, tag, tree};
-use support::checked::Command::{Insert, Remove};
-
-/// An index of n parts with these cells, inserted in this order; the tags follow from the cells.
-fn index_of(n: usize, cells: &[Cell]) -> Session {
-    let mut index = Session::fresh(n, Dirt::Noise, format!("{cells:?}"));
-    for &cell in cells {
-        index.expect(Insert(cell, tag(cell)), 0);
-    }
-    index
-}
-
-/// The image of a tree that is built by hand.
-fn image_of(tree: Tree) -> Session {
-    let nodes = tree.nodes();
-    let image = image(nodes, Some(&tree), &first_parts(nodes));
-    Session::of_image(&image, Dirt::Noise, format!("{tree:?}"))
-}
+use support::checked::Command::Remove;
 
 /// The query is answered with the entry of this cell, the squared distance and the visits.
 fn expect(index: &mut Session, asked: Cell, near: Cell, distance: u64, visits: u32) {
@@ -141,12 +122,6 @@ fn a_tie_between_leaves() {
         let mut index = image_of(tree([4, 0, 6, 6], branches.to_vec()));
         expect(&mut index, [0, 0], [4, 3], 25, 3);
     }
-}
-
-/// G10's nine cells in the leaves (0,5)-(5,6) and (5,5)-(9,6).
-fn g10() -> Session {
-    let cells: Vec<Cell> = (0..9).map(|x| [x, 5]).collect();
-    index_of(3, &cells)
 }
 
 #[test]

@@ -4,60 +4,35 @@
 mod memory_support;
 mod support;
 
+use memory_support::changes::change_small_grids;
 use memory_support::nearest::{FOUND, TIES};
 use memory_support::queries::{cells_of, with_margin};
 use memory_support::session::Session;
 use memory_support::work::DIRTS;
-use reference::geometry::{Cell, Rectangle};
+use reference::geometry::Cell;
 use reference::random::Random;
 use reference::tree::Entry;
-use support::checked::Command;
 use support::streams::Stream;
 use support::tally::Tally;
 use support::{say, seed};
 
-/// The side of a small grid.
-const SIDE: u32 = 12;
-
-/// The next change of a small grid: more insertions than removals while it is filled.
-fn next_change(held: &[Entry], square: Rectangle, fills: bool, random: &mut Random) -> Command {
-    let inserts = random.one_in(4) != fills;
-    if !inserts && !held.is_empty() {
-        return Command::Remove(random.pick(held).cell);
-    }
-    let cell = [0, 1].map(|d| random.between(square.ll[d], square.ur[d] - 1));
-    Command::Insert(cell, random.number() as u32)
-}
-
-/// So many changes; after each one that is accepted, every cell of the square and of a margin is
-/// asked for.
-fn every_cell(session: &mut Session, square: Rectangle, changes: usize, random: &mut Random) {
-    for i in 0..changes {
-        let fills = i * 3 < changes * 2;
-        let change = next_change(session.held(), square, fills, random);
-        if session.apply(change) == 0 {
-            for cell in cells_of(with_margin(square)) {
-                session.nearest(cell);
-            }
-        }
-    }
-}
-
-/// Small grids at both ends of the grid and between, for some N.
+/// Small grids for some N: after each accepted change, every cell of the square and of a margin.
 #[test]
 fn every_cell_of_small_grids() {
-    let seed = seed();
     let mut all = Tally::default();
     for n in [1, 2, 3, 5, 9, 16] {
-        for (case, corner) in [[0, 0], [65536 - SIDE; 2], [40, 3]].into_iter().enumerate() {
-            let mut random = Random::for_case(seed, 2000 + n as u64, case as u64);
-            let [x, y] = corner;
-            let square = Rectangle::new(x, y, x + SIDE, y + SIDE);
-            let label = format!("LINTZOGER_SEED={seed}, small grid, N = {n}, {corner:?}");
-            let mut session = Session::fresh(n, DIRTS[case], label);
-            every_cell(&mut session, square, 60 + 20 * n, &mut random);
-            all.add_all(&session.tally);
-        }
+        let changes = 60 + 20 * n;
+        all.add_all(&change_small_grids(
+            n,
+            12,
+            changes,
+            2000,
+            |session, square| {
+                for cell in cells_of(with_margin(square)) {
+                    session.nearest(cell);
+                }
+            },
+        ));
     }
     say(&format!("nearest, every cell of small grids: {all}"));
     all.require(200_000, &["nearest queries"]);

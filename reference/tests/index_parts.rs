@@ -88,7 +88,7 @@ fn every_reference() {
         tally.add_all(&damaged.tally);
     }
     say(&format!("every reference: {tally}"));
-    tally.require(50_000, &["images refused"]);
+    tally.require(50_000, &["images refused", "emptiness refused 4"]);
 }
 
 /// Each of the 256 bits, also those of parts that the index does not have.

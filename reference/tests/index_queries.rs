@@ -4,10 +4,13 @@ mod memory_support;
 mod support;
 
 use memory_support::built::{built_trees, chain, chain_of_sixteens};
+use memory_support::emptiness::ANSWERED;
 use memory_support::histories::{history, random_history, WHOLE};
 use memory_support::images::{any_image, any_tree, first_parts, last_parts, nodes, small_grid};
 use memory_support::outcome::ACCEPTED;
-use memory_support::queries::{any_window, corner_cells, edge_windows, with_margin, Queried, LONG};
+use memory_support::queries::{
+    any_window, corner_cells, edge_windows, windows_of, with_margin, Queried, LONG,
+};
 use memory_support::trees::tree_of;
 use reference::geometry::Rectangle;
 use reference::memory::image;
@@ -66,6 +69,7 @@ fn built() {
     }
     say(&format!("built images: {tally}"));
     tally.require(10, &ACCEPTED);
+    tally.require(10, &ANSWERED);
     tally.require(10, &["window refused 9"]);
 }
 
@@ -86,6 +90,7 @@ fn every_cell_of_small_grids() {
     }
     say(&format!("small grids: {tally}"));
     tally.require(100, &ACCEPTED);
+    tally.require(100, &ANSWERED[1..]);
     tally.require(100, &["window refused 9"]);
 }
 
@@ -100,11 +105,9 @@ fn every_window_of_tiny_grids() {
         let image = any_image(6, Some(&tree), &mut random);
         let mut queried = Queried::new(&image, &mut tally);
         let place = format_args!("LINTZOGER_SEED={seed}, case {case}");
-        for (llx, urx) in (0..7).flat_map(|a| (a + 1..8).map(move |b| (a, b))) {
-            for (lly, ury) in (0..7).flat_map(|a| (a + 1..8).map(move |b| (a, b))) {
-                let matches = queried.window([llx, lly, urx, ury], 3 * 40, place);
-                queried.window([llx, lly, urx, ury], 3 * matches, place);
-            }
+        for window in windows_of(Rectangle::new(0, 0, 7, 7)) {
+            let matches = queried.window(window, 3 * 40, place);
+            queried.window(window, 3 * matches, place);
         }
     }
     say(&format!("tiny grids: {tally}"));
@@ -117,6 +120,7 @@ fn every_window_of_tiny_grids() {
             "window with more matches",
         ],
     );
+    tally.require(100, &ANSWERED);
 }
 
 /// All entries of a full index and about half of them, with lists of every length from 0 to enough
@@ -188,6 +192,7 @@ fn random_images() {
     }
     say(&format!("random images: {tally}"));
     tally.require(10, &ACCEPTED);
+    tally.require(10, &ANSWERED);
 }
 
 /// Full and tall indexes: a history of N = 256, and chains with polygons of sixteen.

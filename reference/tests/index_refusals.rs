@@ -38,6 +38,9 @@ fn call_all(index: &[u32], tally: &mut Tally) {
         let output = lent.window(&reading, window, length, place);
         assert_eq!(output.answer != 1, is_right(index.len()), "{place}");
         tally.count(output.kind());
+        let output = lent.is_empty(&reading, window, place);
+        assert_eq!(output.answer != 1, is_right(index.len()), "{place}");
+        tally.count(output.kind());
     }
     let output = lent.clear(place);
     assert_eq!(output.answer != 1, is_right(index.len()), "{place}");
@@ -70,6 +73,8 @@ fn lengths() {
             "window refused 1",
             "nearest refused 1",
             "nearest refused 10",
+            "emptiness refused 1",
+            "emptiness yes, no visit",
             "clear refused 1",
             "clear accepted, empty index",
             "clear accepted, sound tree",
@@ -106,12 +111,15 @@ fn invalid_arguments() {
                     assert_eq!(output.answer, 3, "{place}: {window:?}");
                     tally.count(output.kind());
                 }
+                let output = lent.is_empty(&reading, window, place);
+                assert_eq!(output.answer, 3, "{place}: {window:?}");
+                tally.count(output.kind());
             }
         }
     }
     say(&format!("invalid arguments: {tally}"));
-    let refused = ["point refused 3", "window refused 3", "nearest refused 3"];
-    tally.require(500, &refused);
+    tally.require(500, &["point refused 3", "window refused 3"]);
+    tally.require(500, &["nearest refused 3", "emptiness refused 3"]);
 }
 
 /// 4 before 9.
@@ -158,6 +166,8 @@ fn clearing() {
             assert_eq!((point.held, point.visits), (0, 0), "{place}");
             let nearest = lent.nearest(&lent.reading(), [3, 4], place);
             assert_eq!(nearest.answer, 10, "{place}");
+            let output = lent.is_empty(&lent.reading(), [0, 0, 65536, 65536], place);
+            assert_eq!((output.empty, output.visits), (1, 0), "{place}");
         }
     }
     say(&format!("clearing: {tally}"));

@@ -64,7 +64,7 @@ fn run(plan: &Plan) -> Tally {
 
 /// Outcomes that every N has. Refusal 8 is apart: five streams need not fill 256 parts, and
 /// `full_indexes` fills them.
-const ALWAYS: [&str; 20] = [
+const ALWAYS: [&str; 23] = [
     "insert accepted, index was empty",
     "insert accepted, no split",
     "insert refused 2",
@@ -84,15 +84,19 @@ const ALWAYS: [&str; 20] = [
     "window with more matches",
     "window refused 3",
     "window refused 9",
+    "emptiness yes, no visit",
+    "emptiness yes, visits",
+    "emptiness refused 3",
     "commands",
 ];
 
 /// Outcomes of trees that are split.
-const SPLIT: [&str; 4] = [
+const SPLIT: [&str; 5] = [
     "insert accepted, new root",
     "insert accepted, one node more",
     "remove accepted, one node less",
     "point held, more visits",
+    "emptiness no, nodes not entered",
 ];
 
 /// Outcomes of trees with three levels.

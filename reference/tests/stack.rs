@@ -178,6 +178,14 @@ impl Measured {
         entries.map(|e| [e[0], e[1]]).collect()
     }
 
+    fn is_empty(&mut self, window: [u32; 4]) {
+        let index = &self.index;
+        let call = || proved_index::is_empty(index, window, &mut 0, &mut 0);
+        let (answer, used) = measured(call);
+        assert_eq!(answer, 0, "is_empty {window:?}");
+        self.note("emptiness", used);
+    }
+
     fn remove(&mut self, cell: Cell) {
         let index = &mut self.index;
         let (answer, used) = measured(|| proved_index::remove(index, cell, &mut 0));
@@ -190,8 +198,11 @@ impl Measured {
         for cell in self.window(GRID) {
             self.point(cell);
             self.nearest([cell[1], cell[0]]);
-            self.window([cell[0], cell[1], cell[0] + 1, cell[1] + 1]);
+            let alone = [cell[0], cell[1], cell[0] + 1, cell[1] + 1];
+            self.window(alone);
+            self.is_empty(alone);
         }
+        self.is_empty(GRID);
         for cell in self.window(GRID) {
             self.remove(cell);
         }
@@ -200,7 +211,7 @@ impl Measured {
 }
 
 /// The kinds of calls that each index is measured with, apart from insertions.
-const OTHERS: [&str; 4] = ["remove", "point", "window", "nearest"];
+const OTHERS: [&str; 5] = ["remove", "point", "window", "nearest", "emptiness"];
 
 /// Prints what the calls used. Each of the kinds was called, and no call used more than the bound.
 fn check(name: &str, most: &Most, insertions: [&'static str; 2], bound: usize) {

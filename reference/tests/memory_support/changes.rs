@@ -4,10 +4,11 @@ use super::session::Session;
 use super::trees::cell_of;
 use super::work::{Dirt, DIRTS};
 use crate::support::checked::Command;
+use crate::support::seed;
 use crate::support::tally::Tally;
-use reference::geometry::Cell;
+use reference::geometry::{Cell, Rectangle};
 use reference::random::Random;
-use reference::tree::Tree;
+use reference::tree::{Entry, Tree};
 
 /// A cell in a polygon of the tree, near it, or anywhere.
 pub fn any_cell(tree: Option<&Tree>, random: &mut Random) -> Cell {
@@ -86,6 +87,44 @@ pub fn change_singly(image: &[u32], dirt: Dirt, label: &str) -> Tally {
             one.apply(Command::Insert(beside, 4));
             tally.add_all(&one.tally);
         }
+    }
+    tally
+}
+
+/// The next change of a small grid: more insertions than removals while it is filled.
+fn next_change(held: &[Entry], square: Rectangle, fills: bool, random: &mut Random) -> Command {
+    let inserts = random.one_in(4) != fills;
+    if !inserts && !held.is_empty() {
+        return Command::Remove(random.pick(held).cell);
+    }
+    let cell = [0, 1].map(|d| random.between(square.ll[d], square.ur[d] - 1));
+    Command::Insert(cell, random.number() as u32)
+}
+
+/// Squares of that side at both ends of the grid and between, each in a fresh index of n parts with
+/// so many changes; after each one that is accepted, `ask` gets the index and the square.
+pub fn change_small_grids(
+    n: usize,
+    side: u32,
+    changes: usize,
+    group: u64,
+    ask: impl Fn(&mut Session, Rectangle),
+) -> Tally {
+    let (seed, last) = (seed(), 65536 - side);
+    let mut tally = Tally::default();
+    for (case, [x, y]) in [[0, 0], [last, last], [40, 3]].into_iter().enumerate() {
+        let mut random = Random::for_case(seed, group + n as u64, case as u64);
+        let square = Rectangle::new(x, y, x + side, y + side);
+        let label = format!("LINTZOGER_SEED={seed}, small grid, N = {n}, {:?}", [x, y]);
+        let mut session = Session::fresh(n, DIRTS[case], label);
+        for i in 0..changes {
+            let fills = i * 3 < changes * 2;
+            let change = next_change(session.held(), square, fills, &mut random);
+            if session.apply(change) == 0 {
+                ask(&mut session, square);
+            }
+        }
+        tally.add_all(&session.tally);
     }
     tally
 }

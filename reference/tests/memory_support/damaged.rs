@@ -63,6 +63,8 @@ impl Damaged {
         }
         let output = self.lent.window(&reading, self.window, 12, place);
         self.tally.count(output.kind());
+        let emptiness = self.lent.is_empty(&reading, self.window, place);
+        emptiness.compare(&output, &mut self.tally, place);
         let output = self.lent.nearest(&reading, self.cells[1], place);
         self.tally.count(output.kind());
         is_accepted

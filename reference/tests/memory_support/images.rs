@@ -2,10 +2,17 @@
 
 use super::histories::random_history;
 use super::trees::{random_tree, tree_of};
+use super::wheel::wheel_tree;
 use reference::geometry::Rectangle;
 use reference::memory::image;
 use reference::random::Random;
 use reference::tree::Tree;
+
+/// The whole grid.
+pub const GRID: Rectangle = Rectangle {
+    ll: [0, 0],
+    ur: [65536, 65536],
+};
 
 /// The number of nodes; none is the empty index.
 pub fn nodes(tree: Option<&Tree>) -> usize {
@@ -46,6 +53,26 @@ pub fn any_tree(n: usize, random: &mut Random) -> Option<Tree> {
     } else {
         Some(random_tree(n, random))
     }
+}
+
+/// A tree of any kind for the case: a history, one with arms around the middle of each node, or one
+/// made directly. Most have at most n nodes.
+pub fn tree_of_case(case: u64, n: usize, random: &mut Random) -> Option<Tree> {
+    match case % 4 {
+        0 => random_history(n, random),
+        1 => Some(wheel_tree(1 + case as usize / 4 % 3, random)),
+        _ => any_tree(n, random),
+    }
+}
+
+/// The image of a large tree for the case, full or with gaps.
+pub fn large_image(case: u64, random: &mut Random) -> Vec<u32> {
+    let n = random.pick(&[64, 200, 255, 256]);
+    let tree = match case % 2 {
+        0 => random_history(n, random),
+        _ => Some(tree_of(5, n, GRID, random)),
+    };
+    any_image(n, tree.as_ref(), random)
 }
 
 /// A small rectangle at an end of the grid or between, and the image of a random tree that has it as

@@ -1,5 +1,6 @@
 //! Calls on a lent index, made to both implementations and compared.
 
+use super::emptiness::EmptinessOutput;
 use super::guard::{fill, guarded, GUARD};
 use super::nearest::NearestOutput;
 use super::outcome::{ClearOutput, HeldOutput, PointOutput, WindowOutput};
@@ -128,6 +129,23 @@ impl Lent {
         } = &mut proved;
         proved.answer = proved_index::nearest(self.index(), cell, near, tag, distance, visits);
         self.check(&second, &proved, format_args!("{place}: nearest {cell:?}"));
+        second.check_untouched(place);
+        second
+    }
+
+    pub fn is_empty(
+        &self,
+        reading: &Reading,
+        window: [u32; 4],
+        place: Arguments,
+    ) -> EmptinessOutput {
+        let (mut second, mut proved) = (EmptinessOutput::before(), EmptinessOutput::before());
+        let EmptinessOutput { empty, visits, .. } = &mut second;
+        second.answer = number(reading.is_empty(window, empty, visits));
+        let EmptinessOutput { empty, visits, .. } = &mut proved;
+        proved.answer = proved_index::is_empty(self.index(), window, empty, visits);
+        let call = format_args!("{place}: is_empty {window:?}");
+        self.check(&second, &proved, call);
         second.check_untouched(place);
         second
     }

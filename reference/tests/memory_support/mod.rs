@@ -5,9 +5,11 @@
 #![allow(dead_code)]
 
 pub mod built;
+pub mod cases;
 pub mod changes;
 pub mod damage;
 pub mod damaged;
+pub mod emptiness;
 pub mod gaps;
 pub mod guard;
 pub mod histories;
@@ -19,6 +21,7 @@ pub mod outcome;
 pub mod queries;
 pub mod ragged;
 pub mod session;
+pub mod small;
 pub mod steep;
 pub mod tall;
 pub mod trees;

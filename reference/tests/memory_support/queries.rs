@@ -1,5 +1,6 @@
 //! Many queries of one sound index.
 
+use super::changes::any_cell;
 use super::lent::Lent;
 use crate::support::tally::Tally;
 use reference::geometry::{Cell, Rectangle};
@@ -47,11 +48,19 @@ impl<'a> Queried<'a> {
         output.count(cell, &entries, nodes, self.tally);
     }
 
-    /// Returns the matches.
+    /// The emptiness query of the same window is made with it. Returns the matches.
     pub fn window(&mut self, window: [u32; 4], length: usize, place: Arguments) -> usize {
         let output = self.lent.window(&self.reading, window, length, place);
         self.tally.count(output.kind());
+        let emptiness = self.lent.is_empty(&self.reading, window, place);
+        emptiness.compare(&output, self.tally, place);
         output.matches as usize
+    }
+
+    /// The emptiness query, with the window query of the same window.
+    pub fn is_empty(&mut self, window: [u32; 4], place: Arguments) {
+        let held = self.reading.index().map_or(0, |index| index.held());
+        self.window(window, 3 * held, place);
     }
 
     /// The window with lists of every length from 0 to enough plus one. Returns the matches.
@@ -80,6 +89,29 @@ pub fn cells_of(square: Rectangle) -> impl Iterator<Item = Cell> {
     columns.flat_map(move |x| rows.clone().map(move |y| [x, y]))
 }
 
+/// Every window in the square.
+pub fn windows_of(square: Rectangle) -> impl Iterator<Item = [u32; 4]> {
+    let [columns, rows] = [0, 1].map(|d| ranges(square.ll[d], square.ur[d]));
+    let with = move |(llx, urx)| {
+        rows.clone()
+            .into_iter()
+            .map(move |(lly, ury)| [llx, lly, urx, ury])
+    };
+    columns.into_iter().flat_map(with)
+}
+
+/// Every range that is not empty, by its ends.
+fn ranges(first: u32, end: u32) -> Vec<(u32, u32)> {
+    let from = first..end;
+    from.flat_map(|a| (a + 1..=end).map(move |b| (a, b)))
+        .collect()
+}
+
+/// The rectangle's numbers, as the calls take a window.
+pub fn numbers_of(r: Rectangle) -> [u32; 4] {
+    [r.ll[0], r.ll[1], r.ur[0], r.ur[1]]
+}
+
 /// The rectangle with a margin of one, on the grid.
 pub fn with_margin(r: Rectangle) -> Rectangle {
     Rectangle {
@@ -102,8 +134,7 @@ pub fn edge_windows(r: Rectangle) -> Vec<[u32; 4]> {
             windows.push(r.with_range(d, to, to + 1));
         }
     }
-    let numbers = |r: Rectangle| [r.ll[0], r.ll[1], r.ur[0], r.ur[1]];
-    windows.into_iter().map(numbers).collect()
+    windows.into_iter().map(numbers_of).collect()
 }
 
 /// The cells at the corners of a rectangle, inside and outside.
@@ -133,9 +164,19 @@ pub fn any_window(near: Rectangle, random: &mut Random) -> [u32; 4] {
     ])
 }
 
+/// A window at a cell in a polygon of the tree, near one or anywhere: that cell alone, with a few
+/// others, or up to another such cell.
+pub fn window_at(tree: Option<&Tree>, random: &mut Random) -> [u32; 4] {
+    let [a, b] = [(); 2].map(|()| any_cell(tree, random));
+    let few = a.map(|v| (v + random.between(0, 6)).min(65535));
+    let other = random.pick(&[a, few, few, b]);
+    let [ll, last] = [u32::min, u32::max].map(|of| [0, 1].map(|d| of(a[d], other[d])));
+    [ll[0], ll[1], last[0] + 1, last[1] + 1]
+}
+
 /// Windows that are refused with 3.
 pub fn invalid_windows(r: Rectangle) -> Vec<[u32; 4]> {
-    let [llx, lly, urx, ury] = [r.ll[0], r.ll[1], r.ur[0], r.ur[1]];
+    let [llx, lly, urx, ury] = numbers_of(r);
     let mut windows = vec![
         [llx, lly, llx, ury],
         [llx, lly, urx, lly],

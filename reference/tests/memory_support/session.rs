@@ -1,9 +1,12 @@
 //! A lent index and the calls made on it one after another. Each call is made to both
 //! implementations and compared: the answer, what it stores and writes, the tree read back.
 
+use super::emptiness::EmptinessOutput;
 use super::length_of;
 use super::lent::Lent;
 use super::nearest::NearestOutput;
+use super::outcome::WindowOutput;
+use super::queries::numbers_of;
 use super::work::{Dirt, Work};
 use crate::support::checked::Command;
 use crate::support::tally::Tally;
@@ -172,11 +175,13 @@ impl Session {
         output.answer
     }
 
+    /// The emptiness query of the same window is made with it.
     fn window(&mut self, window: Rectangle, length: usize, place: Arguments) -> u32 {
-        let Rectangle { ll, ur } = window;
-        let numbers = [ll[0], ll[1], ur[0], ur[1]];
-        let output = self.lent.window(&self.reading, numbers, length, place);
+        let window = numbers_of(window);
+        let output = self.lent.window(&self.reading, window, length, place);
         self.tally.count(output.kind());
+        let emptiness = self.lent.is_empty(&self.reading, window, place);
+        emptiness.compare(&output, &mut self.tally, place);
         output.answer
     }
 
@@ -198,6 +203,17 @@ impl Session {
         output.check(cell, record, nodes, place);
         output.count(cell, record, nodes, &mut self.tally);
         output
+    }
+
+    /// An emptiness query and the window query of the same window, with a list that is long enough.
+    /// They are no commands of a stream.
+    pub fn is_empty(&mut self, window: [u32; 4]) -> (EmptinessOutput, WindowOutput) {
+        let place = format_args!("{}, after command {}", self.label, self.commands);
+        let (lent, reading, length) = (&self.lent, &self.reading, 3 * self.record.len());
+        let beside = lent.window(reading, window, length, place);
+        let output = lent.is_empty(reading, window, place);
+        output.compare(&beside, &mut self.tally, place);
+        (output, beside)
     }
 
     /// An insertion with a work area of another length, which is refused with 2.
