@@ -4,23 +4,18 @@
 mod memory_support;
 mod support;
 
-use memory_support::built::{built_trees, chain, chain_of_sixteens};
-use memory_support::cases::{queried, run};
+use memory_support::built::{chain, chain_of_sixteens};
+use memory_support::cases;
 use memory_support::damage::random_changes;
 use memory_support::emptiness::{EmptinessOutput, ANSWERED};
-use memory_support::images::{
-    any_image, any_tree, large_image, nodes, small_grid, tree_of_case, GRID,
-};
+use memory_support::images::{any_image, any_tree, GRID};
 use memory_support::lent::Lent;
-use memory_support::loose::loose_tree;
 use memory_support::queries::{
     edge_windows, invalid_windows, numbers_of, window_at, windows_of, with_margin, Queried,
 };
-use memory_support::ragged::ragged;
-use memory_support::tall::{cell_outside, tall_tree};
+use memory_support::tall::cell_outside;
 use memory_support::MOST_PARTS;
 use reference::geometry::Rectangle;
-use reference::memory::is_sound;
 use reference::random::Random;
 use std::fmt::Arguments;
 
@@ -39,124 +34,86 @@ fn ask_all(queried: &mut Queried, square: Rectangle, place: Arguments) {
     }
 }
 
-/// Every tree that is built by hand: windows along all sides of all rectangles, and others.
+/// Windows along all sides of all rectangles, and others.
 #[test]
 fn built() {
-    let trees = built_trees();
-    let tally = run(
-        "built tree",
-        2600,
-        trees.len() as u64,
-        |case, random, tally, place| {
-            let (name, tree) = &trees[case as usize];
-            let place = format_args!("{place}, {name}");
-            let mut queried = queried(tree.nodes() + 2, tree, random, tally);
-            for window in tree.polygons().concat().into_iter().flat_map(edge_windows) {
-                queried.is_empty(window, place);
-            }
-            ask_nearby(&mut queried, 300, random, place);
-        },
-    );
+    let tally = cases::built(2600, |queried, tree, random, place| {
+        for window in tree.polygons().concat().into_iter().flat_map(edge_windows) {
+            queried.is_empty(window, place);
+        }
+        ask_nearby(queried, 300, random, place);
+    });
     tally.require(10, &ANSWERED);
 }
 
-/// Random trees on small grids: every window of the root's rectangle and of a margin.
+/// Every window of the root's rectangle and of a margin.
 #[test]
 fn every_window_of_small_grids() {
-    let tally = run("small grid", 2601, 400, |_, random, tally, place| {
-        let (square, image) = small_grid(12, [1, 6], random);
-        ask_all(&mut Queried::new(&image, tally), with_margin(square), place);
+    let tally = cases::small_grids(2601, 400, 6, |queried, square, place| {
+        ask_all(queried, with_margin(square), place);
     });
     tally.require(2_000, &ANSWERED);
 }
 
-/// Trees made without care. A sound one has the right answer for every window, another is refused.
+/// A sound tree has the right answer for every window, another is refused.
 #[test]
 fn loose_trees() {
-    let tally = run("loose tree", 2602, 1000, |_, random, tally, place| {
-        let side = random.between(3, 6);
-        let tree = loose_tree(side, random);
-        if is_sound(&tree) {
-            let square = Rectangle::new(0, 0, side + 1, side + 1);
-            let mut queried = queried(tree.nodes(), &tree, random, tally);
-            ask_all(&mut queried, square, place);
-        } else {
-            let lent = Lent::new(&any_image(tree.nodes(), Some(&tree), random));
-            let output = lent.is_empty(&lent.reading(), [1, 2, 3, 4], place);
-            assert_eq!(output, EmptinessOutput::refused(4), "{place}");
-            tally.count(output.kind());
-        }
-    });
+    let refuse = |lent: &Lent, place: Arguments| {
+        let output = lent.is_empty(&lent.reading(), [1, 2, 3, 4], place);
+        assert_eq!(output, EmptinessOutput::refused(4), "{place}");
+        output.kind()
+    };
+    let tally = cases::loose_trees(2602, 1000, 6, ask_all, refuse);
     tally.require(1_000, &ANSWERED);
     tally.require(100, &["emptiness refused 4"]);
 }
 
-/// Leaves whose polygons are up to sixteen bars, with rows of other leaves between them.
 #[test]
 fn ragged_trees() {
-    let tally = run("ragged tree", 2603, 400, |case, random, tally, place| {
-        let tree = ragged(1 + case as usize % 3, random).tree;
-        let mut queried = queried(tree.nodes(), &tree, random, tally);
-        ask_nearby(&mut queried, 40, random, place);
-    });
-    tally.require(50, &ANSWERED);
+    let ask = |queried: &mut Queried, random: &mut Random, place: Arguments| {
+        ask_nearby(queried, 40, random, place);
+    };
+    cases::ragged_trees(2603, ask).require(50, &ANSWERED);
 }
 
-/// Histories, and trees made directly: of any kind, and with arms around the middle of each node.
 #[test]
 fn random_images() {
-    let tally = run("random image", 2604, 600, |case, random, tally, place| {
-        let n = random.between(1, 40) as usize;
-        let tree = tree_of_case(case, n, random);
-        let n = n.max(nodes(tree.as_ref()));
-        let image = any_image(n, tree.as_ref(), random);
-        ask_nearby(&mut Queried::new(&image, tally), 60, random, place);
-    });
-    tally.require(500, &ANSWERED);
+    let ask = |queried: &mut Queried, random: &mut Random, place: Arguments| {
+        ask_nearby(queried, 60, random, place);
+    };
+    cases::random_images(2604, ask).require(500, &ANSWERED);
 }
 
 /// One-branch nodes: all are entered or none is. A chain has the cells (7,9), (1006,1008) and
 /// (500,500) in the rectangle (7,9)-(1007,1009).
 #[test]
 fn chains() {
-    run(
-        "chain",
-        2605,
-        MOST_PARTS as u64,
-        |case, random, tally, place| {
-            let levels = case as usize + 1;
-            let lent = Lent::new(&any_image(MOST_PARTS, Some(&chain(levels)), random));
-            let reading = lent.reading();
-            for (window, stored) in [
-                (numbers_of(GRID), [0, levels as u32]),
-                ([8, 0, 500, 65536], [1, levels as u32]),
-                ([0, 0, 7, 65536], [1, 0]),
-            ] {
-                let output = lent.is_empty(&reading, window, place);
-                let expected = (0, stored);
-                let given = (output.answer, [output.empty, output.visits]);
-                assert_eq!(given, expected, "{place}: {window:?}");
-                tally.count(output.kind());
-            }
-            let tree = chain_of_sixteens(levels, random);
-            ask_nearby(
-                &mut queried(MOST_PARTS, &tree, random, tally),
-                2,
-                random,
-                place,
-            );
-        },
-    );
+    let cases = MOST_PARTS as u64;
+    cases::run("chain", 2605, cases, |case, random, tally, place| {
+        let levels = case as usize + 1;
+        let lent = Lent::new(&any_image(MOST_PARTS, Some(&chain(levels)), random));
+        let reading = lent.reading();
+        for (window, stored) in [
+            (numbers_of(GRID), [0, levels as u32]),
+            ([8, 0, 500, 65536], [1, levels as u32]),
+            ([0, 0, 7, 65536], [1, 0]),
+        ] {
+            let output = lent.is_empty(&reading, window, place);
+            let given = (output.answer, [output.empty, output.visits]);
+            assert_eq!(given, (0, stored), "{place}: {window:?}");
+            tally.count(output.kind());
+        }
+        let tree = chain_of_sixteens(levels, random);
+        let mut queried = cases::queried(MOST_PARTS, &tree, random, tally);
+        ask_nearby(&mut queried, 2, random, place);
+    });
 }
 
-/// Polygons that become smaller from level to level; a small tree below them.
+/// Also cells just outside of the polygon of a level.
 #[test]
 fn tall_trees() {
-    let tally = run("tall tree", 2606, 24, |_, random, tally, place| {
-        let levels = random.pick(&[10, 100, 200, 230, 236]);
-        let tree = tall_tree(levels, 20, random);
-        let mut queried = queried(MOST_PARTS, &tree, random, tally);
-        ask_nearby(&mut queried, 20, random, place);
+    let tally = cases::tall_trees(2606, |queried, levels, random, place| {
+        ask_nearby(queried, 20, random, place);
         for _ in 0..20 {
             let level = random.between(0, levels as u32 - 3) as usize;
             let [x, y] = cell_outside(level, random);
@@ -167,21 +124,19 @@ fn tall_trees() {
     tally.require(10, &["emptiness no, nodes not entered"]);
 }
 
-/// Many parts, full and with gaps.
 #[test]
 fn large_images() {
-    let tally = run("large image", 2607, 8, |case, random, tally, place| {
-        let image = large_image(case, random);
-        ask_nearby(&mut Queried::new(&image, tally), 400, random, place);
-    });
-    tally.require(20, &ANSWERED[1..]);
+    let ask = |queried: &mut Queried, random: &mut Random, place: Arguments| {
+        ask_nearby(queried, 400, random, place);
+    };
+    cases::large_images(2607, ask).require(20, &ANSWERED[1..]);
 }
 
 /// A damaged image is refused with 4 for every window, also one that shares no cell with the root's
 /// rectangle, and with 3 before it for what is no window.
 #[test]
 fn damaged_images() {
-    let tally = run("damaged image", 2608, 3000, |_, random, tally, place| {
+    let tally = cases::run("damaged image", 2608, 3000, |_, random, tally, place| {
         let n = random.between(1, 12) as usize;
         let tree = any_tree(n, random);
         let mut lent = Lent::new(&any_image(n, tree.as_ref(), random));

@@ -4,19 +4,16 @@
 mod memory_support;
 mod support;
 
-use memory_support::built::{built_trees, chain, chain_of_sixteens};
-use memory_support::cases::{queried, run};
+use memory_support::built::{chain, chain_of_sixteens};
+use memory_support::cases;
 use memory_support::changes::any_cell;
-use memory_support::images::{any_image, large_image, nodes, small_grid, tree_of_case, GRID};
+use memory_support::images::{any_image, GRID};
 use memory_support::lent::Lent;
-use memory_support::loose::loose_tree;
 use memory_support::nearest::{NearestOutput, FOUND, TIES};
 use memory_support::queries::{cells_of, corner_cells, with_margin, Queried};
-use memory_support::ragged::ragged;
-use memory_support::tall::{cell_outside, tall_tree};
+use memory_support::tall::cell_outside;
 use memory_support::MOST_PARTS;
 use reference::geometry::Rectangle;
-use reference::memory::is_sound;
 use reference::random::Random;
 use reference::tree::Tree;
 use std::fmt::Arguments;
@@ -48,79 +45,51 @@ fn ask_all(queried: &mut Queried, square: Rectangle, place: Arguments) {
 
 #[test]
 fn built() {
-    let trees = built_trees();
-    let tally = run(
-        "built tree",
-        2300,
-        trees.len() as u64,
-        |case, random, tally, place| {
-            let (name, tree) = &trees[case as usize];
-            let place = format_args!("{place}, {name}");
-            let mut queried = queried(tree.nodes() + 2, tree, random, tally);
-            ask_at_corners(&mut queried, tree, place);
-            ask_nearby(&mut queried, 300, random, place);
-        },
-    );
+    let tally = cases::built(2300, |queried, tree, random, place| {
+        ask_at_corners(queried, tree, place);
+        ask_nearby(queried, 300, random, place);
+    });
     tally.require(10, &FOUND);
     tally.require(10, &TIES[..1]);
 }
 
-/// Random trees on small grids: every cell of the root's rectangle and of a margin.
+/// Every cell of the root's rectangle and of a margin.
 #[test]
 fn every_cell_of_small_grids() {
-    let tally = run("small grid", 2301, 1500, |_, random, tally, place| {
-        let (square, image) = small_grid(12, [1, 9], random);
-        ask_all(&mut Queried::new(&image, tally), with_margin(square), place);
+    let tally = cases::small_grids(2301, 1500, 9, |queried, square, place| {
+        ask_all(queried, with_margin(square), place);
     });
     tally.require(500, &FOUND);
     tally.require(100, &TIES[..2]);
 }
 
-/// Trees made without care. A sound one has the right answer for every cell, another is refused.
+/// A sound tree has the right answer for every cell, another is refused.
 #[test]
 fn loose_trees() {
-    let tally = run("loose tree", 2302, 3000, |_, random, tally, place| {
-        let side = random.between(3, 8);
-        let tree = loose_tree(side, random);
-        if is_sound(&tree) {
-            let mut queried = queried(tree.nodes(), &tree, random, tally);
-            ask_all(
-                &mut queried,
-                Rectangle::new(0, 0, side + 1, side + 1),
-                place,
-            );
-        } else {
-            let lent = Lent::new(&any_image(tree.nodes(), Some(&tree), random));
-            let output = lent.nearest(&lent.reading(), [1, 2], place);
-            assert_eq!(output, NearestOutput::refused(4), "{place}");
-            tally.count(output.kind());
-        }
-    });
+    let refuse = |lent: &Lent, place: Arguments| {
+        let output = lent.nearest(&lent.reading(), [1, 2], place);
+        assert_eq!(output, NearestOutput::refused(4), "{place}");
+        output.kind()
+    };
+    let tally = cases::loose_trees(2302, 3000, 8, ask_all, refuse);
     tally.require(100, &FOUND);
     tally.require(100, &["nearest refused 4"]);
 }
 
-/// Leaves whose polygons are up to sixteen bars, with rows of other leaves between them.
 #[test]
 fn ragged_trees() {
-    let tally = run("ragged tree", 2303, 400, |case, random, tally, place| {
-        let tree = ragged(1 + case as usize % 3, random).tree;
-        let mut queried = queried(tree.nodes(), &tree, random, tally);
-        ask_nearby(&mut queried, 40, random, place);
-    });
-    tally.require(500, &FOUND[1..]);
+    let ask = |queried: &mut Queried, random: &mut Random, place: Arguments| {
+        ask_nearby(queried, 40, random, place);
+    };
+    cases::ragged_trees(2303, ask).require(500, &FOUND[1..]);
 }
 
-/// Histories, and trees made directly: of any kind, and with arms around the middle of each node.
 #[test]
 fn random_images() {
-    let tally = run("random image", 2304, 600, |case, random, tally, place| {
-        let n = random.between(1, 40) as usize;
-        let tree = tree_of_case(case, n, random);
-        let n = n.max(nodes(tree.as_ref()));
-        let image = any_image(n, tree.as_ref(), random);
-        ask_nearby(&mut Queried::new(&image, tally), 60, random, place);
-    });
+    let ask = |queried: &mut Queried, random: &mut Random, place: Arguments| {
+        ask_nearby(queried, 60, random, place);
+    };
+    let tally = cases::random_images(2304, ask);
     tally.require(500, &FOUND);
     tally.require(50, &TIES[..1]);
 }
@@ -128,32 +97,24 @@ fn random_images() {
 /// One-branch nodes: each is entered.
 #[test]
 fn chains() {
-    run(
-        "chain",
-        2305,
-        MOST_PARTS as u64,
-        |case, random, tally, place| {
-            let levels = case as usize + 1;
-            for tree in [chain(levels), chain_of_sixteens(levels, random)] {
-                let lent = Lent::new(&any_image(MOST_PARTS, Some(&tree), random));
-                let cell = any_cell(Some(&tree), random);
-                let output = lent.nearest(&lent.reading(), cell, place);
-                let expected = (0, levels as u32);
-                assert_eq!((output.answer, output.visits), expected, "{place}");
-                tally.count(output.kind());
-            }
-        },
-    );
+    let cases = MOST_PARTS as u64;
+    cases::run("chain", 2305, cases, |case, random, tally, place| {
+        let levels = case as usize + 1;
+        for tree in [chain(levels), chain_of_sixteens(levels, random)] {
+            let lent = Lent::new(&any_image(MOST_PARTS, Some(&tree), random));
+            let cell = any_cell(Some(&tree), random);
+            let output = lent.nearest(&lent.reading(), cell, place);
+            let expected = (0, levels as u32);
+            assert_eq!((output.answer, output.visits), expected, "{place}");
+            tally.count(output.kind());
+        }
+    });
 }
 
-/// Polygons that become smaller from level to level; a small tree below them.
 #[test]
 fn tall_trees() {
-    let tally = run("tall tree", 2306, 24, |_, random, tally, place| {
-        let levels = random.pick(&[10, 100, 200, 230, 236]);
-        let tree = tall_tree(levels, 20, random);
-        let mut queried = queried(MOST_PARTS, &tree, random, tally);
-        ask_nearby(&mut queried, 20, random, place);
+    let tally = cases::tall_trees(2306, |queried, levels, random, place| {
+        ask_nearby(queried, 20, random, place);
         for _ in 0..20 {
             let level = random.between(0, levels as u32 - 3) as usize;
             queried.nearest(cell_outside(level, random), place);
@@ -162,12 +123,11 @@ fn tall_trees() {
     tally.require(100, &["nearest queries", "nearest, nodes passed over"]);
 }
 
-/// Many parts, full and with gaps.
 #[test]
 fn large_images() {
-    let tally = run("large image", 2307, 8, |case, random, tally, place| {
-        let image = large_image(case, random);
-        ask_nearby(&mut Queried::new(&image, tally), 400, random, place);
-    });
+    let ask = |queried: &mut Queried, random: &mut Random, place: Arguments| {
+        ask_nearby(queried, 400, random, place);
+    };
+    let tally = cases::large_images(2307, ask);
     tally.require(100, &["nearest queries", "nearest, nodes passed over"]);
 }
