@@ -1,6 +1,6 @@
 //! Indexes and the calls that are timed on them.
 
-use reference::geometry::Cell;
+use reference::geometry::{Cell, Rectangle};
 use reference::memory::image;
 use reference::random::Random;
 use reference::tree::{Entry, Index, Refusal, Tree};
@@ -31,6 +31,14 @@ impl Points {
         match self {
             Points::Random | Points::Sorted => 65534,
             Points::Crowded => (1..).find(|s| s * s >= 12 * n as u32).unwrap_or(1),
+        }
+    }
+
+    /// How far the windows reach from their middle.
+    fn reach(self) -> u32 {
+        match self {
+            Points::Random | Points::Sorted => 3000,
+            Points::Crowded => 3,
         }
     }
 
@@ -67,6 +75,8 @@ pub struct Input {
     pub changed: Vec<u32>,
     pub work: Vec<u32>,
     pub list: Vec<u32>,
+    /// A list for window queries of which the matches alone count.
+    pub unread: Vec<u32>,
     /// What the last call stored; a nearest query also stores a cell and a distance.
     pub stored: [u32; 3],
     pub near: Cell,
@@ -79,6 +89,8 @@ pub struct Input {
     pub asked: Vec<Cell>,
     /// Windows around held cells.
     pub windows: Vec<[u32; 4]>,
+    /// Windows without entries that share cells with two levels of nodes or more; perhaps none.
+    pub empty_windows: Vec<[u32; 4]>,
     /// Cells whose insertion is accepted without a split, and with one; perhaps none.
     pub fitting: Vec<Cell>,
     pub splitting: Vec<Cell>,
@@ -95,9 +107,11 @@ impl Input {
         let entries = tree.entries();
         // From a copy, so that the other input stays that of earlier versions.
         let mut copy = random.clone();
-        let asked = (0..CALLS).map(|_| points.cell(index.n(), &mut copy));
+        let asked: Vec<Cell> = (0..CALLS)
+            .map(|_| points.cell(index.n(), &mut copy))
+            .collect();
         let held: Vec<Cell> = (0..CALLS).map(|_| random.pick(&entries).cell).collect();
-        let reach = if points == Points::Crowded { 3 } else { 3000 };
+        let reach = points.reach();
         let [fitting, splitting, refused] = [Outcome::Fits, Outcome::Splits, Outcome::TooManyNodes]
             .map(|outcome| cells_with(index, points, outcome, random));
         let pairs = fitting.iter().zip(&refused).take(CALLS / 2);
@@ -109,10 +123,12 @@ impl Input {
             changed: memory.clone(),
             work: vec![0; memory.len()],
             list: vec![0; 3 * entries.len()],
+            unread: vec![0; 3 * entries.len()],
             stored: [0; 3],
             near: [0, 0],
             distance: 0,
-            asked: asked.collect(),
+            asked,
+            empty_windows: empty_windows(index, points, &mut copy),
             index: memory,
             entries,
             held,
@@ -124,6 +140,25 @@ fn around(cell: Cell, reach: u32) -> [u32; 4] {
     let [llx, lly] = cell.map(|v| v.saturating_sub(reach));
     let [urx, ury] = cell.map(|v| (v + reach + 1).min(65536));
     [llx, lly, urx, ury]
+}
+
+/// Windows without entries that nodes below the root meet, of the usual size or smaller; no window
+/// where they are too rare.
+fn empty_windows(index: &Index, points: Points, random: &mut Random) -> Vec<[u32; 4]> {
+    let mut windows = Vec::new();
+    for _ in 0..4000 {
+        let reach = random.between(0, points.reach());
+        let window = around(points.cell(index.n(), random), reach);
+        let [llx, lly, urx, ury] = window;
+        let answer = index.is_empty(Rectangle::new(llx, lly, urx, ury));
+        if answer.is_ok_and(|answer| answer.is_empty && answer.visits > 1) {
+            windows.push(window);
+        }
+        if windows.len() == CALLS {
+            return windows;
+        }
+    }
+    Vec::new()
 }
 
 /// What an insertion does.

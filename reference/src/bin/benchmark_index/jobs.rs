@@ -23,107 +23,119 @@ pub struct Job {
 }
 
 impl Job {
+    /// Calls that are accepted on the index as the call before left it.
+    const fn new(name: &'static str, [proved, second]: [Call; 2], against: [f64; 2]) -> Job {
+        Job {
+            name,
+            proved,
+            second,
+            changes: false,
+            may_refuse: false,
+            against,
+        }
+    }
+
+    /// Calls that change the index.
+    const fn changing(name: &'static str, calls: [Call; 2], against: [f64; 2]) -> Job {
+        Job {
+            changes: true,
+            ..Job::new(name, calls, against)
+        }
+    }
+
     /// There are arguments for it.
     pub fn has_input(&self, input: &Input) -> bool {
         match self.name {
             "insert" => !input.fitting.is_empty(),
             "split" => !input.splitting.is_empty(),
             "half" => !input.half_refused.is_empty(),
+            "empty" => !input.empty_windows.is_empty(),
             _ => true,
         }
     }
 }
 
-pub const JOBS: [Job; 10] = [
-    Job {
-        name: "point",
-        proved: |input, i| proved_point(input, input.held[i]),
-        second: |input, i| second_point(input, input.held[i]),
-        changes: false,
-        may_refuse: false,
-        against: [0.0, 0.0],
-    },
-    Job {
-        name: "window",
-        proved: proved_window,
-        second: second_window,
-        changes: false,
-        may_refuse: false,
-        against: [0.0, 0.0],
-    },
-    Job {
-        name: "nearest",
-        proved: proved_nearest,
-        second: second_nearest,
-        changes: false,
-        may_refuse: false,
-        against: [1.0, 0.0],
-    },
-    Job {
-        name: "look",
-        proved: proved_nearest,
-        second: look_at_all,
-        changes: false,
-        may_refuse: false,
-        against: [0.0, 0.0],
-    },
-    Job {
-        name: "soundness",
-        proved: |input, _| proved_point(input, OFF),
-        second: |input, _| second_point(input, OFF),
-        changes: false,
-        may_refuse: false,
-        against: [0.0, 0.0],
-    },
-    Job {
-        name: "insert",
-        proved: |input, i| proved_insert(input, input.fitting[i]),
-        second: |input, i| second_insert(input, input.fitting[i]),
-        changes: true,
-        may_refuse: false,
-        against: INSERTION,
-    },
-    Job {
-        name: "split",
-        proved: |input, i| proved_insert(input, input.splitting[i]),
-        second: |input, i| second_insert(input, input.splitting[i]),
-        changes: true,
-        may_refuse: false,
-        against: INSERTION,
-    },
-    Job {
-        name: "half",
-        proved: |input, i| proved_insert(input, input.half_refused[i]),
-        second: |input, i| second_insert(input, input.half_refused[i]),
-        changes: true,
-        may_refuse: true,
-        against: INSERTION,
-    },
-    Job {
-        name: "remove",
-        proved: |input, i| {
-            proved_index::remove(&mut input.changed, input.held[i], &mut input.stored[0])
-        },
-        second: |input, i| {
-            let held = &mut input.stored[0];
-            number(memory::remove(&mut input.changed, input.held[i], held))
-        },
-        changes: true,
-        may_refuse: false,
-        against: [1.0, 2.0],
-    },
-    Job {
-        name: "clear",
-        proved: |input, _| proved_index::clear(&mut input.changed, &mut input.stored[0]),
-        second: |input, _| number(memory::clear(&mut input.changed, &mut input.stored[0])),
-        changes: false,
-        may_refuse: false,
-        against: [0.0, 0.0],
-    },
-];
-
-/// An insertion is set against two point queries and six passes.
+/// What a job is set against: nothing, a point query, or for an insertion two point queries and six
+/// passes, for a removal a point query and two passes.
+const NOTHING: [f64; 2] = [0.0, 0.0];
+const POINT: [f64; 2] = [1.0, 0.0];
 const INSERTION: [f64; 2] = [2.0, 6.0];
+const REMOVAL: [f64; 2] = [1.0, 2.0];
+
+pub const JOBS: [Job; 13] = [
+    Job::new(
+        "point",
+        [
+            |input, i| proved_point(input, input.held[i]),
+            |input, i| second_point(input, input.held[i]),
+        ],
+        NOTHING,
+    ),
+    Job::new("window", [proved_window, second_window], NOTHING),
+    Job::new("nearest", [proved_nearest, second_nearest], POINT),
+    Job::new("look", [proved_nearest, look_at_all], NOTHING),
+    Job::new(
+        "emptiness",
+        [
+            |input, i| proved_is_empty(input, input.windows[i]),
+            |input, i| second_is_empty(input, input.windows[i]),
+        ],
+        POINT,
+    ),
+    Job::new(
+        "occupied",
+        [
+            |input, i| is_yes(input, input.windows[i]),
+            |input, i| has_no_match(input, input.windows[i]),
+        ],
+        NOTHING,
+    ),
+    Job::new(
+        "empty",
+        [
+            |input, i| is_yes(input, input.empty_windows[i]),
+            |input, i| has_no_match(input, input.empty_windows[i]),
+        ],
+        NOTHING,
+    ),
+    Job::new(
+        "soundness",
+        [
+            |input, _| proved_point(input, OFF),
+            |input, _| second_point(input, OFF),
+        ],
+        NOTHING,
+    ),
+    Job::changing(
+        "insert",
+        [
+            |input, i| proved_insert(input, input.fitting[i]),
+            |input, i| second_insert(input, input.fitting[i]),
+        ],
+        INSERTION,
+    ),
+    Job::changing(
+        "split",
+        [
+            |input, i| proved_insert(input, input.splitting[i]),
+            |input, i| second_insert(input, input.splitting[i]),
+        ],
+        INSERTION,
+    ),
+    Job {
+        may_refuse: true,
+        ..Job::changing(
+            "half",
+            [
+                |input, i| proved_insert(input, input.half_refused[i]),
+                |input, i| second_insert(input, input.half_refused[i]),
+            ],
+            INSERTION,
+        )
+    },
+    Job::changing("remove", [proved_remove, second_remove], REMOVAL),
+    Job::new("clear", [proved_clear, second_clear], NOTHING),
+];
 
 /// A cell that no tree of this program has in its root's rectangle: the queries of it do little but
 /// the soundness test.
@@ -193,6 +205,29 @@ fn look_at_all(input: &mut Input, i: usize) -> u32 {
     0
 }
 
+fn proved_is_empty(input: &mut Input, window: [u32; 4]) -> u32 {
+    let [empty, visits, _] = &mut input.stored;
+    proved_index::is_empty(&input.index, window, empty, visits)
+}
+
+fn second_is_empty(input: &mut Input, window: [u32; 4]) -> u32 {
+    let [empty, visits, _] = &mut input.stored;
+    number(memory::is_empty(&input.index, window, empty, visits))
+}
+
+/// The yes or no by the emptiness query, without its visits.
+fn is_yes(input: &mut Input, window: [u32; 4]) -> u32 {
+    proved_index::is_empty(&input.index, window, &mut input.stored[0], &mut 0)
+}
+
+/// The same yes or no by the window query: no matches.
+fn has_no_match(input: &mut Input, window: [u32; 4]) -> u32 {
+    let (list, mut matches) = (&mut input.unread, 0);
+    let answer = proved_index::window(&input.index, window, list, &mut matches, &mut 0);
+    input.stored[0] = u32::from(matches == 0);
+    answer
+}
+
 fn proved_insert(input: &mut Input, cell: Cell) -> u32 {
     let (index, work, held) = (&mut input.changed, &mut input.work, &mut input.stored[0]);
     proved_index::insert(index, work, cell, TAG, held)
@@ -201,4 +236,21 @@ fn proved_insert(input: &mut Input, cell: Cell) -> u32 {
 fn second_insert(input: &mut Input, cell: Cell) -> u32 {
     let (index, work, held) = (&mut input.changed, &mut input.work, &mut input.stored[0]);
     number(memory::insert(index, work, cell, TAG, held))
+}
+
+fn proved_remove(input: &mut Input, i: usize) -> u32 {
+    proved_index::remove(&mut input.changed, input.held[i], &mut input.stored[0])
+}
+
+fn second_remove(input: &mut Input, i: usize) -> u32 {
+    let held = &mut input.stored[0];
+    number(memory::remove(&mut input.changed, input.held[i], held))
+}
+
+fn proved_clear(input: &mut Input, _: usize) -> u32 {
+    proved_index::clear(&mut input.changed, &mut input.stored[0])
+}
+
+fn second_clear(input: &mut Input, _: usize) -> u32 {
+    number(memory::clear(&mut input.changed, &mut input.stored[0]))
 }
