@@ -6,10 +6,10 @@
 //! The jobs 'nearest' and 'look' are the same nearest queries. The first is also set against a point
 //! query. In the second a look at all entries in a plain list, which tests nothing, has the place of
 //! the second implementation.
-//! The job 'emptiness' are the emptiness queries of the windows of the job 'window', also set against
-//! a point query. In 'occupied', the same queries, and 'empty', those of windows that have no entry
-//! though nodes below the root share cells with them, the proved window query of the same windows has
-//! the place of the second implementation: its matches tell the same yes or no.
+//! The job 'emptiness' asks for the windows of the job 'window', and is also set against a point
+//! query. 'occupied' asks for the same windows, 'empty' for windows that have no entry though nodes
+//! below the root share cells with them; in both the proved window query of the same windows has the
+//! place of the second implementation, as its matches tell the same yes or no.
 //! The times are illustrations, the ratios are the figures.
 
 mod input;
