@@ -1,4 +1,4 @@
-/* Before a wheel run: is anything calibrated in the run's range of wheel speed and line pressure? */
+/* The bench's map of a calibration: a grey square where nothing is calibrated. */
 
 #include "lintzoger.h"
 
@@ -6,60 +6,72 @@
 #include <stdio.h>
 
 #define PARTS 3
+#define SQUARES 10 /* squares of wheel speed in a row of the map */
+#define ROWS 3     /* rows of line pressure */
+#define WIDTH 100  /* counts of wheel speed in a square */
+#define HEIGHT 40  /* counts of line pressure in a square */
 
 static uint32_t points[LINTZOGER_INDEX_LEN(PARTS)]; /* zeros: a fresh, empty index */
 static uint32_t work[LINTZOGER_INDEX_LEN(PARTS)];
 static const size_t len = LINTZOGER_INDEX_LEN(PARTS);
 
-/* A range of counts, both ends included. */
-typedef struct {
-    uint32_t first, last;
-} range;
-
-/* Prints whether the run has a calibrated point, and warns if not. */
-static void before_run(range speed, range pressure) {
+/* Prints one square: '.' for grey, '#' where a point is calibrated. Adds the nodes that the search
+   entered; answers 0, or the number of the refusal. */
+static uint32_t paint(uint32_t x, uint32_t y, uint32_t *entered) {
     uint32_t empty, visits;
-    /* A window's upper right corner is excluded, so it is one past the last count. */
-    uint32_t answer = lintzoger_is_empty(points, len, speed.first, pressure.first,
-                                         speed.last + 1, pressure.last + 1, &empty, &visits);
-    printf("speed %" PRIu32 " to %" PRIu32 ", ", speed.first, speed.last);
-    printf("pressure %" PRIu32 " to %" PRIu32 ": ", pressure.first, pressure.last);
+    uint32_t answer =
+        lintzoger_is_empty(points, len, x, y, x + WIDTH, y + HEIGHT, &empty, &visits);
     if (answer != 0) {
-        printf("refused %" PRIu32 "\n", answer);
-    } else if (empty == 1) {
-        printf("WARNING, nothing is calibrated; nodes entered %" PRIu32 "\n", visits);
-    } else {
-        printf("calibrated; nodes entered %" PRIu32 "\n", visits);
+        return answer;
     }
+    putchar(empty == 1 ? '.' : '#');
+    *entered += visits;
+    return 0;
+}
+
+/* Prints the map, the highest pressure first, and the nodes entered for all its squares. */
+static uint32_t paint_map(const char *title) {
+    uint32_t entered = 0;
+    printf("%s\n", title);
+    for (uint32_t row = ROWS; row > 0; row--) {
+        printf("pressure from %3" PRIu32 "  ", (row - 1) * HEIGHT);
+        for (uint32_t square = 0; square < SQUARES; square++) {
+            uint32_t answer = paint(square * WIDTH, (row - 1) * HEIGHT, &entered);
+            if (answer != 0) {
+                return answer;
+            }
+        }
+        printf("\n");
+    }
+    printf("nodes entered: %" PRIu32 "\n", entered);
+    return 0;
 }
 
 int main(void) {
-    const range low = {40, 60}, high = {70, 90};
-    before_run((range){100, 300}, low);
+    uint32_t held, entered = 0;
 
-    /* Nine points at one pressure. The ninth splits the leaf: speeds up to 500 on the left, the
-       others on the right. */
-    for (uint32_t speed = 100; speed <= 900; speed += 100) {
-        uint32_t held;
-        if (lintzoger_insert(points, len, work, len, speed, 50, 1000 + speed, &held) != 0) {
+    if (paint_map("fresh index") != 0) {
+        return 1;
+    }
+
+    /* Nine points at one pressure. The ninth splits the leaf. */
+    for (uint32_t speed = 50; speed <= 850; speed += 100) {
+        if (lintzoger_insert(points, len, work, len, speed, 60, 1000 + speed, &held) != 0) {
             return 1;
         }
     }
-
-    before_run((range){100, 300}, low);
-    before_run((range){100, 900}, low);   /* the search stops in the left leaf */
-    before_run((range){510, 590}, low);   /* between two points */
-    before_run((range){100, 900}, high);  /* no node has a cell there */
-    before_run((range){0, 65535}, low);   /* all speeds */
-    before_run((range){0, 65536}, low);   /* off the grid */
-    before_run((range){300, 200}, low);   /* no range */
-
-    /* The left leaf keeps its cells when a point is removed: it is entered, then the right one. */
-    uint32_t held;
-    if (lintzoger_remove(points, len, 500, 50, &held) != 0) {
+    if (paint_map("nine points") != 0) {
         return 1;
     }
-    before_run((range){450, 550}, low);
-    before_run((range){450, 650}, low);
+
+    /* The leaf keeps its cells: its square is searched, and is grey. */
+    if (lintzoger_remove(points, len, 450, 60, &held) != 0) {
+        return 1;
+    }
+    if (paint_map("one removed") != 0) {
+        return 1;
+    }
+
+    printf("beside the grid: refused %" PRIu32 "\n", paint(65500, 0, &entered));
     return 0;
 }

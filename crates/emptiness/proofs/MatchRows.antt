@@ -9,7 +9,8 @@ use Rattle.tree.specs.Lists.{notEmpty}
 use Rattle.tree.specs.Nodes.{Item}
 use Rattle.tree.specs.Query.{matching}
 use Rattle.tree.specs.Emptiness.{ToMatch, nodeToMatch}
-use Rattle.tree.proofs.Emptiness.{kept-any, toBranch, stays-found, few-below}
+use Rattle.tree.proofs.Any.{kept-any}
+use Rattle.tree.proofs.Emptiness.{toBranch, stays-found, few-below}
 use Rattle.plane.specs.Plane.{planeSpace}
 use Rattle.plane.specs.Windows.{planeWindow}
 use Rattle.memory.specs.Layout.{part, polygonIn, childrenIn}

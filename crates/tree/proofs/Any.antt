@@ -6,7 +6,7 @@ use mathlib.Core.List.{List, [], _∷_, _++_, flatMap}
 use mathlib.Core.Option.{bind, Option, none, some}
 use native.Mathlib.Omega.{arith}
 use Rattle.polygons.specs.Lists.{any}
-use Rattle.tree.specs.Lists.{All}
+use Rattle.tree.specs.Lists.{All, keep, notEmpty}
 use Rattle.tree.specs.Search.{Focus, pushed, first}
 
 pub any-append : {A : Type 0} (t : A → Bool) (l m : List A) → any t (l ++ m) ≡ any t l || any t m
@@ -42,6 +42,16 @@ any-left t true [] = refl
 any-left t false [] = refl
 any-left t true (a ∷ l) = ap (λ x. t a || x) (any-left t true l)
 any-left t false (a ∷ l) = any-left t false l
+
+-- some element passes exactly if one is kept
+pub kept-any : {A : Type 0} (t : A → Bool) (l : List A) → notEmpty (keep t l) ≡ any t l
+unfolding keep any
+kept-any t [] = refl
+kept-any t (a ∷ l) = go (t a) (kept-any t l)
+  where
+    go : (b : Bool) → notEmpty (keep t l) ≡ any t l → notEmpty (cond b (a ∷ keep t l) (keep t l)) ≡ b || any t l
+    go true e = refl
+    go false e = e
 
 -- no element passes, or the first that does is found
 pub first-none : {A : Type 0} (t : A → Bool) (l : List A) → first t l ≡ none → All (λ a. t a ≡ false) l

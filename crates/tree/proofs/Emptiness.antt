@@ -2,13 +2,13 @@
 use Prim.Native.Nat.{ℕ, zero, suc, _+_, _≤_}
 use mathlib.Core.Bool.{Bool, true, false, not, cond, _||_, or-assoc, false≢true}
 use mathlib.Core.Path.{_≡_, refl, sym, ap, _∙_}
-use mathlib.Core.List.{List, [], _∷_, _++_, flatMap, foldl}
+use mathlib.Core.List.{List, [], _∷_, flatMap, foldl}
 use mathlib.Core.Option.{none, some}
 use native.Mathlib.Omega.{arith}
-use lib.Dec.{eqb, eqb·suc-zero}
+use lib.Dec.{eqb}
 use lib.ListN.{length}
 use Rattle.polygons.specs.Lists.{any}
-use Rattle.tree.specs.Lists.{keep, total, notEmpty}
+use Rattle.tree.specs.Lists.{total, notEmpty}
 use Rattle.tree.specs.Space.{Space}
 use Rattle.tree.specs.Nodes.{EntryOf, Item}
 use Rattle.tree.specs.Root.{Root}
@@ -16,26 +16,10 @@ use Rattle.tree.specs.Tree.{Index, Sound}
 use Rattle.tree.specs.Query.{Window, matching, matches, windowVisits}
 use Rattle.tree.specs.Emptiness.{ToMatch, atStart, nodeToMatch, walkToMatch, isEmpty, emptyVisits}
 use Rattle.tree.specs.Walk.{nodeWalkVisits, walkVisits, nodeWalkEntries, walkEntries}
+use Rattle.tree.proofs.Any.{kept-any}
 use Rattle.tree.proofs.Laws.{Laws, WindowLaws}
+use Rattle.tree.proofs.Lists.{notEmpty-append, not-notEmpty}
 use Rattle.tree.proofs.Walk.{window-visits, window-entries}
-
--- some entry passes exactly if one is kept
-pub kept-any : {A : Type 0} (t : A → Bool) (l : List A) → notEmpty (keep t l) ≡ any t l
-unfolding keep any
-kept-any t [] = refl
-kept-any t (a ∷ l) = go (t a) (kept-any t l)
-  where
-    go : (b : Bool) → notEmpty (keep t l) ≡ any t l → notEmpty (cond b (a ∷ keep t l) (keep t l)) ≡ b || any t l
-    go true e = refl
-    go false e = e
-
-notEmpty-append : {A : Type 0} (l m : List A) → notEmpty (l ++ m) ≡ notEmpty l || notEmpty m
-notEmpty-append [] m = refl
-notEmpty-append (a ∷ l) m = refl
-
-not-notEmpty : {A : Type 0} (l : List A) → not (notEmpty l) ≡ eqb (length l) 0
-not-notEmpty [] = refl
-not-notEmpty (a ∷ l) = sym (eqb·suc-zero (length l))
 
 module _ (S : Space) (Win : Window S) (w : Win .W) where
   abbrev meetsW : S .Poly → Bool

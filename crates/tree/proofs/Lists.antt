@@ -1,11 +1,12 @@
--- Lemmas on flatMap, keep, All and Pairs.
+-- Lemmas on flatMap, keep, All, Pairs and notEmpty.
 use Prim.Native.Nat.{ℕ, zero, suc, _≤_, _<_}
-use mathlib.Core.Bool.{Bool, true, false, cond}
-use mathlib.Core.Path.{_≡_, refl, ap, _∙_}
+use mathlib.Core.Bool.{Bool, true, false, not, cond, _||_}
+use mathlib.Core.Path.{_≡_, refl, sym, ap, _∙_}
 use mathlib.Core.List.{map, List, [], _∷_, _++_, append-assoc, append-nil, flatMap}
+use lib.Dec.{eqb, eqb·suc-zero}
 use lib.ListN.{length, getD, length-append}
 use native.Mathlib.Omega.{arith}
-use Rattle.tree.specs.Lists.{keep, All, Pairs}
+use Rattle.tree.specs.Lists.{keep, All, Pairs, notEmpty}
 
 module _ {A B : Type 0} where
   pub flatMap-append : (f : A → List B) (l m : List A) → flatMap f (l ++ m) ≡ flatMap f l ++ flatMap f m
@@ -195,3 +196,13 @@ pub all-of : {A : Type 0} (P : A → Type 0) (l : List A) (d : A) → ((i : ℕ)
 unfolding All
 all-of P [] d f = tt
 all-of P (a ∷ l) d f = (f zero (omega arith), all-of P l d (λ i h. f (suc i) (omega arith)))
+
+-- a list put together has an element if one of its parts has
+pub notEmpty-append : {A : Type 0} (l m : List A) → notEmpty (l ++ m) ≡ notEmpty l || notEmpty m
+notEmpty-append [] m = refl
+notEmpty-append (a ∷ l) m = refl
+
+-- a list without elements has length 0
+pub not-notEmpty : {A : Type 0} (l : List A) → not (notEmpty l) ≡ eqb (length l) 0
+not-notEmpty [] = refl
+not-notEmpty (a ∷ l) = sym (eqb·suc-zero (length l))

@@ -91,7 +91,19 @@ match-below-requires : (t : ℕ) → lts.Need-match-below-requires (claims t) (o
 match-below-requires t c κs = (omega arith, (search (child-walkable, walk-child), search (match-room, walk-child)))
 
 returns-2 : (t : ℕ) → lts.Need-returns-2 (claims t) (of-level t) own.Post Inv-loop μ-loop
-returns-2 t c = search (match-stop, walk-child)
+returns-2 t c =
+    let d = c .before .before .before in
+    match-stop _ _ _ _ _ _ _ _ _ _
+    (d .before .before .before .before .before .loop .inv)
+    (search needs)
+    (d .before .child .result)
+    (search walk-child)
+    _
+    (d .polygon-meets .ensures)
+    (c .before .before .if2 .taken)
+    _
+    (c .before .match-below .ensures)
+    (c .if3 .taken)
 
 add-low : (t : ℕ) → lts.Need-add-low (claims t) (of-level t) own.Post Inv-loop μ-loop
 add-low t c = search (child-fits, walk-child)
@@ -103,7 +115,17 @@ loop-less : (t : ℕ) → lts.Need-loop-less (claims t) (of-level t) own.Post In
 loop-less t c = search needs
 
 loop-again : (t : ℕ) → lts.Need-loop-again (claims t) (of-level t) own.Post Inv-loop μ-loop
-loop-again t c = ⊎-elim (λ x. search (match-on, walk-child)) (λ x. search (match-miss, walk-child)) (c .if2 .came)
+loop-again t c =
+    let d = c .before in
+    let inv = d .before .before .before .before .before .loop .inv in
+    ⊎-elim
+    (λ x.
+    match-on _ _ _ _ _ _ _ _ _ _ inv (search needs) (d .before .child .result) (search walk-child)
+    _ (d .polygon-meets .ensures) (x .0 .taken) _ (x .1 .ensures) _ (x .2 .left) (x .3))
+    (λ x.
+    match-miss _ _ _ _ _ _ _ _ _ _ inv (search needs) (d .before .child .result) (search walk-child)
+    _ (d .polygon-meets .ensures) _ (x .0 .left) (x .1))
+    (c .if2 .came)
 
 returns-3 : (t : ℕ) → lts.Need-returns-3 (claims t) (of-level t) own.Post Inv-loop μ-loop
 returns-3 t c = search match-end
