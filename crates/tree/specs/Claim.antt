@@ -46,11 +46,14 @@ module _ (S : Space) where
       -- the tree is sound and has at most N nodes
       pub sound : Sound S R i
       pub room : nodeCount S i ≤ N
-      -- "The entries held are exactly those .. as document 01's record gives them": every test is passed by as many, and each cell is held at most once
+      -- "The entries held are exactly those .. as document 01's record gives them": every test is passed by as many, and
+      -- each cell is held at most once
       pub entries-same : (q : EntryOf S → Bool) → countOf q (entries S i) ≡ countOf q r
       pub entries-once : (c : S .Cell) → countOf (ofCell S c) (entries S i) ≡ cond (holds S c i) 1 0
       -- "no cell lies in the polygons of two different nodes of equal depth"
-      pub separate : (d j k : ℕ) (p q : S .Poly) (c : S .Cell) → nth (polygonsAt S d i) j ≡ some p → nth (polygonsAt S d i) k ≡ some q → S .has p c ≡ true → S .has q c ≡ true → j ≡ k
+      pub separate : (d j k : ℕ) (p q : S .Poly) (c : S .Cell)
+          → nth (polygonsAt S d i) j ≡ some p → nth (polygonsAt S d i) k ≡ some q
+          → S .has p c ≡ true → S .has q c ≡ true → j ≡ k
       -- "every child stays within its parent"
       pub within : All (λ e. (c : S .Cell) → S .has (e .below) c ≡ true → S .has (e .parent) c ≡ true) (edges S i)
       -- "all leaves are equally deep"
