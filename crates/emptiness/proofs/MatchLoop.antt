@@ -5,18 +5,23 @@ use mathlib.Core.Bool.{Bool, true, false}
 use mathlib.Core.List.{List, [], _∷_, _++_}
 use native.Mathlib.Omega.{arith}
 use native.Mathlib.Numerals.{add-one}
-use lib.ListN.{length, drop, drop-of-length-le}
+use lib.ListN.{drop}
 use Rattle.geometry.specs.declared.rect.Rect.{Rect}
 use Rattle.tree.specs.Emptiness.{ToMatch}
+use Rattle.tree.proofs.Emptiness.{toBranch}
 use Rattle.plane.specs.Lines.{CellEntry}
+use Rattle.plane.specs.Plane.{planeSpace}
+use Rattle.plane.specs.Windows.{planeWindow}
 use Rattle.memory.specs.Layout.{part, polygonIn, childrenIn}
+use Rattle.memory.specs.Fanout.{fanout}
 use Rattle.layout.specs.Nodes.{childAt, countAt}
 use Rattle.index.specs.Walks.{meetsTest, insideTest, visitsBelow, matchesBelow, Walkable}
 use Rattle.index.proofs.WalkRows.{RowWalkable}
-use Rattle.index.proofs.WalkLoop.{AtChild, child-start, child-miss, child-hit, child-walkable, next-child, children-count}
+use Rattle.index.proofs.FoldRows.{fold-none}
+use Rattle.index.proofs.WalkLoop.{AtChild, nothing-left, child-start, child-miss, child-hit, child-walkable, next-child}
 use Rattle.emptiness.specs.declared.below.Walked.{Walked}
 use Rattle.emptiness.specs.Below.{toMatchBelow, walked}
-use Rattle.emptiness.proofs.MatchRows.{toMatchRow, childToMatch, row-walk, row-none, row-found, node-walk, walk-bound, child-passed, child-entered}
+use Rattle.emptiness.proofs.MatchRows.{toMatchRow, childToMatch, row-walk, row-found, node-walk, walk-bound, child-passed, child-entered}
 
 -- no match after v nodes
 abbrev pub noMatch : ℕ → ToMatch
@@ -55,11 +60,10 @@ module _ (w : Rect) (level : ℕ) (m : List ℕ) (lo k v n : ℕ) where
   module _ (i low so : ℕ) (x : MatchLoop w level m lo k v n i low so) where
     pub match-end : n ≤ i → record { found = false; visits = so } ≡ walked (toMatchBelow w level m lo k v)
     match-end h =
-        let c = children-count level m lo k (x .at .walkable) in
-        let d = x .at .count in
-        let s : length (childrenIn (part m k)) ≤ i = omega arith in
-        let e : drop i (childrenIn (part m k)) ≡ [] = drop-of-length-le (childrenIn (part m k)) {i = i} s in
-        ap walked (sym (row-none w (level - 1) m low k (noMatch so))
+        let e = nothing-left (meetsTest w) (insideTest w) level m lo k n i low (x .vs) (x .es) (x .at) h in
+        let t = toBranch (planeSpace fanout) (planeWindow fanout) w (level - 1) in
+        let f = fold-none (level - 1) t m low k (noMatch so) in
+        ap walked (sym f
         ∙ ap (λ (ks : List ℕ). toMatchRow w (level - 1) m low k ks (noMatch so)) (sym e) ∙ x .whole)
 
     module _ (h : i < n) (j : ℕ) (g : j ≡ childAt m k i) (b : Bool) (e : b ≡ meetsTest w (polygonIn (part m j))) where

@@ -2,7 +2,7 @@
 use Prim.Native.Nat.{ℕ, suc, _+_, _≤_}
 use mathlib.Core.Path.{_≡_, refl, sym, ap, _∙_}
 use mathlib.Core.Bool.{Bool, true, false, cond}
-use mathlib.Core.List.{List, [], _∷_, foldl}
+use mathlib.Core.List.{List, _∷_}
 use mathlib.Core.Option.{Option, none, some}
 use Rattle.geometry.specs.declared.rect.Rect.{Rect}
 use Rattle.tree.specs.Lists.{notEmpty}
@@ -16,21 +16,16 @@ use Rattle.plane.specs.Windows.{planeWindow}
 use Rattle.memory.specs.Layout.{part, polygonIn, childrenIn}
 use Rattle.memory.specs.Reading.{readRow, readNode}
 use Rattle.memory.specs.Fanout.{fanout}
-use Rattle.memory.proofs.ReadingLaws.{row-parts, leaf-parts, node-parts}
+use Rattle.memory.proofs.ReadingLaws.{leaf-parts, node-parts}
 use Rattle.index.specs.Walks.{meetsTest, insideTest, visitsBelow, visitsFrom, leafEntries, Walkable}
-use Rattle.index.proofs.CheckLaws.{node-polygon}
 use Rattle.index.proofs.WalkRows.{RowWalkable}
+use Rattle.index.proofs.FoldRows.{foldRow, rowFold, fold-first}
 use Rattle.emptiness.specs.Below.{toMatchFrom, toMatchBelow}
 
 module _ (w : Rect) where
-  -- a row of children that was read, from how far the walk has come
-  unfoldable pub rowToMatch : (n : ℕ) → ToMatch → Option (List (Item (planeSpace fanout) (suc n))) → ToMatch
-  rowToMatch n u none = u
-  rowToMatch n u (some bs) = foldl (toBranch (planeSpace fanout) (planeWindow fanout) w n) u bs
-
-  -- a row of children by their parts
-  unfoldable pub toMatchRow : ℕ → List ℕ → ℕ → ℕ → List ℕ → ToMatch → ToMatch
-  toMatchRow n m lo hi ks u = rowToMatch n u (readRow (readNode fanout n m) lo hi ks)
+  -- a row of children by their parts, from how far the walk has come
+  abbrev pub toMatchRow : ℕ → List ℕ → ℕ → ℕ → List ℕ → ToMatch → ToMatch
+  toMatchRow n m lo hi ks u = foldRow n (toBranch (planeSpace fanout) (planeWindow fanout) w n) m lo hi ks u
 
   -- the child at part j
   unfoldable pub childToMatch : ℕ → List ℕ → ℕ → ℕ → ToMatch → ToMatch
@@ -39,25 +34,21 @@ module _ (w : Rect) where
 
   pub row-walk : (n : ℕ) (m : List ℕ) (lo hi j : ℕ) (ks : List ℕ) (u : ToMatch) → RowWalkable n m lo hi (j ∷ ks)
       → toMatchRow n m lo hi (j ∷ ks) u ≡ toMatchRow n m (j + 1) hi ks (childToMatch n m lo j u)
-  unfolding toMatchRow rowToMatch childToMatch toMatchBelow toMatchFrom meetsTest
+  unfolding childToMatch toMatchBelow toMatchFrom meetsTest
   row-walk n m lo hi j ks u v =
-      let r = row-parts (readNode fanout n m) lo hi j ks (v .row) (v .reads) in
-      let q = node-polygon n m lo j (r .first) (r .head) in
-      let e : readRow (readNode fanout n m) lo hi (j ∷ ks) ≡ some (r .first ∷ r .others)
-      = v .reads ∙ ap some (sym (r .whole)) in
-      rw (e, r .head, r .tail, ← q)
-
-  pub row-none : (n : ℕ) (m : List ℕ) (lo hi : ℕ) (u : ToMatch) → toMatchRow n m lo hi [] u ≡ u
-  unfolding toMatchRow rowToMatch readRow
-  row-none n m lo hi u = refl
+      let r = fold-first n (toBranch (planeSpace fanout) (planeWindow fanout) w n) m lo hi j ks v in
+      let e : toBranch (planeSpace fanout) (planeWindow fanout) w n u (r .child) ≡ childToMatch n m lo j u
+      = rw (r .reads, ← (r .polygon)) in
+      r .folds u ∙ ap (toMatchRow n m (j + 1) hi ks) e
 
   -- where a match was met, nothing more is entered
   pub row-found : (n : ℕ) (m : List ℕ) (lo hi : ℕ) (ks : List ℕ) (u : ToMatch) → u .found ≡ true
       → toMatchRow n m lo hi ks u ≡ u
-  unfolding toMatchRow rowToMatch
+  unfolding foldRow rowFold
   row-found n m lo hi ks u h = go (readRow (readNode fanout n m) lo hi ks)
     where
-      go : (o : Option (List (Item (planeSpace fanout) (suc n)))) → rowToMatch n u o ≡ u
+      go : (o : Option (List (Item (planeSpace fanout) (suc n))))
+          → rowFold n (toBranch (planeSpace fanout) (planeWindow fanout) w n) u o ≡ u
       go none = refl
       go (some bs) = stays-found (planeSpace fanout) (planeWindow fanout) w n u bs h
 
@@ -84,7 +75,7 @@ module _ (w : Rect) where
   pub node-walk : (n : ℕ) (m : List ℕ) (lo k v : ℕ) → Walkable (suc n) m lo k
       → toMatchBelow w (suc n) m lo k v
       ≡ toMatchRow n m lo k (childrenIn (part m k)) (record { found = false; entered = suc v })
-  unfolding toMatchBelow toMatchFrom nodeToMatch toMatchRow rowToMatch
+  unfolding toMatchBelow toMatchFrom nodeToMatch foldRow rowFold
   node-walk n m lo k v x =
       let p = node-parts fanout n m lo k (x .node) (x .reads) in
       rw (x .reads, p .row)

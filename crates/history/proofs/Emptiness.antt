@@ -27,7 +27,7 @@ use Rattle.index.specs.declared.answer.WindowFound.the-variants as W
 use Rattle.index.specs.declared.answer.EmptyFound.the-variants as E
 use Rattle.history.specs.Calls.{accepted}
 use Rattle.history.specs.Emptiness.{EmptyExact, EmptyAsWindow}
-use Rattle.history.proofs.Visits.{reads-sound, reads-right}
+use Rattle.history.proofs.Visits.{reads-sound, reads-right, index-held}
 
 -- a refused call is not accepted
 never : {A : Type 0} → false ≡ true → A
@@ -98,17 +98,11 @@ module _ (m : List ℕ) (w : Rect) (i : PlaneIndex) (e : reading fanout m ≡ so
 pub empty-on-index : (m : List ℕ) (w : Rect) → accepted (emptyTold (emptyAnswer m w)) ≡ true
     → (i : PlaneIndex) × (reading fanout m ≡ some i)
     × EmptyExact m w (entries (planeSpace fanout) i) (emptyTold (emptyAnswer m w))
+unfolding emptyAnswer emptyRead
 empty-on-index m w f =
-    let h = index-held (rightLength m) (valid w) (reading fanout m) refl (unfold emptyAnswer in f) in
+    let h = index-held emptyTold (emptyRead w) E.BadWindow E.WrongLength
+    (rightLength m) (valid w) (reading fanout m) refl refl refl f in
     (h .0, h .1, tells-empty m w (h .0) (h .1) (entries (planeSpace fanout) (h .0)) (λ q. refl) f)
-  where
-    index-held : (a b : Bool) (o : Option PlaneIndex) → reading fanout m ≡ o
-        → accepted (emptyTold (cond a (cond b (emptyRead w o) E.BadWindow) E.WrongLength)) ≡ true
-        → (i : PlaneIndex) × (reading fanout m ≡ some i)
-    index-held false b o e f = never f
-    index-held true false o e f = never f
-    index-held true true none e f = never (unfold emptyRead in f)
-    index-held true true (some i) e f = (i, e)
 
 -- Beside a window query of the same memory and window, with a result list of any length.
 pub empty-as-window : (m : List ℕ) (w : Rect) (len : ℕ)

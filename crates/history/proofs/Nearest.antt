@@ -25,7 +25,7 @@ use Rattle.index.specs.Numbers.{nearestTold}
 use Rattle.index.specs.declared.answer.NearestFound.the-variants as Near
 use Rattle.history.specs.Calls.{accepted}
 use Rattle.history.specs.Claim.{NearestExact}
-use Rattle.history.proofs.Visits.{reads-sound, reads-right}
+use Rattle.history.proofs.Visits.{reads-sound, reads-right, index-held}
 
 -- a nearest query of a cell on the grid is accepted on every memory that holds an index with an entry
 pub nearest-accepts : (m : List ℕ) (c : Cell) (i : PlaneIndex) → reading fanout m ≡ some i → 1 ≤ length (entries (planeSpace fanout) i)
@@ -67,13 +67,8 @@ tells-nearest m c i r e same f =
 -- An accepted one on any memory: that memory holds an index, and its answer is exact for the entries of that index.
 pub nearest-on-index : (m : List ℕ) (c : Cell) → accepted (nearestTold (nearestAnswer m c)) ≡ true
     → (i : PlaneIndex) × (reading fanout m ≡ some i) × NearestExact m c (entries (planeSpace fanout) i) (nearestTold (nearestAnswer m c))
+unfolding nearestAnswer nearestRead
 nearest-on-index m c f =
-    let h = index-held (rightLength m) (onGrid c) (reading fanout m) refl (unfold nearestAnswer in f) in
+    let h = index-held nearestTold (nearestRead c) Near.OffGrid Near.WrongLength
+    (rightLength m) (onGrid c) (reading fanout m) refl refl refl f in
     (h .0, h .1, tells-nearest m c (h .0) (entries (planeSpace fanout) (h .0)) (h .1) (λ q. refl) f)
-  where
-    index-held : (a b : Bool) (o : Option PlaneIndex) → reading fanout m ≡ o
-        → accepted (nearestTold (cond a (cond b (nearestRead c o) Near.OffGrid) Near.WrongLength)) ≡ true → (i : PlaneIndex) × (reading fanout m ≡ some i)
-    index-held false b o e f = absurd (false≢true f)
-    index-held true false o e f = absurd (false≢true f)
-    index-held true true none e f = absurd (false≢true (unfold nearestRead in f))
-    index-held true true (some i) e f = (i, e)

@@ -3,7 +3,7 @@ use Prim.Native.Nat.{ℕ}
 use mathlib.Core.Bool.{Bool, true, false, cond, false≢true}
 use mathlib.Core.List.{List}
 use mathlib.Core.Option.{Option, none, some}
-use mathlib.Core.Path.{_≡_, refl}
+use mathlib.Core.Path.{_≡_, refl, sym, _∙_}
 use Rattle.geometry.specs.declared.rect.Cell.{Cell}
 use Rattle.geometry.specs.Cells.{onGrid}
 use Rattle.tree.specs.Tree.{Sound}
@@ -17,7 +17,7 @@ use Rattle.memory.specs.Reading.{reading}
 use Rattle.memory.proofs.ReadingLaws.{read-empty, read-sound}
 use Rattle.memory.specs.Fanout.{fanout}
 use Rattle.index.specs.Answers.{PlaneIndex, pointEnd, pointRead, pointAnswer}
-use Rattle.index.specs.Numbers.{pointTold}
+use Rattle.index.specs.Numbers.{Told, pointTold}
 use Rattle.index.specs.declared.answer.PointFound.the-variants as P
 use Rattle.history.specs.Calls.{accepted}
 use Rattle.history.specs.Claim.{visitsTold, VisitsExact}
@@ -31,6 +31,16 @@ reads-sound m (some t) e = read-sound fanout m t e .sound
 pub reads-right : (m : List ℕ) (i : PlaneIndex) → reading fanout m ≡ some i → rightLength m ≡ true
 reads-right m none e = read-empty fanout m e .0
 reads-right m (some t) e = read-sound fanout m t e .right
+
+-- A call that tests a length and its argument before it reads the memory, and that refuses where one fails or nothing reads:
+-- where it is accepted, the memory holds an index.
+pub index-held : {A : Type 0} (told : A → Told) (read : Option PlaneIndex → A) (bad wrong : A) (a b : Bool) (o : Option PlaneIndex)
+    → accepted (told wrong) ≡ false → accepted (told bad) ≡ false → accepted (told (read none)) ≡ false
+    → accepted (told (cond a (cond b (read o) bad) wrong)) ≡ true → (i : PlaneIndex) × (o ≡ some i)
+index-held told read bad wrong false b o p q r f = absurd (false≢true (sym p ∙ f))
+index-held told read bad wrong true false o p q r f = absurd (false≢true (sym q ∙ f))
+index-held told read bad wrong true true none p q r f = absurd (false≢true (sym r ∙ f))
+index-held told read bad wrong true true (some i) p q r f = (i, refl)
 
 -- the visits told of a point query's end, which accepts
 visits-end : (o : Option CellEntry) (v : ℕ) → visitsTold (pointTold (pointEnd o v)) ≡ v

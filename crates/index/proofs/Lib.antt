@@ -7,6 +7,7 @@ pub mod ClearWays
 pub mod WalkParts
 pub mod WalkNode
 pub mod WalkRows
+pub mod FoldRows
 pub mod ChildLaws
 pub mod ChildLoop
 pub mod PathWalk

@@ -58,7 +58,7 @@ module _ (t : List Rect → Bool) (u : CellEntry → Bool) where
       }
 
   module _ (level : ℕ) (m : List ℕ) (lo k n i low vs : ℕ) (es : List CellEntry) (a : AtChild t u level m lo k n i low vs es) where
-    nothing-left : n ≤ i → drop i (childrenIn (part m k)) ≡ []
+    pub nothing-left : n ≤ i → drop i (childrenIn (part m k)) ≡ []
     nothing-left h =
         let c = children-count level m lo k (a .walkable) in
         let d = a .count in

@@ -28,7 +28,8 @@ pub extern "C" fn lintzoger_insert(
     tag: u32,
     held: &mut u32,
 ) -> u32
-    ensures { λ r. ⌜ InsertExported (now (index .entry)) (now (work .entry)) (entryOf (cellOf x y) tag) (now (held .entry)) r (now (index .exit)) (now (work .exit)) (now (held .exit)) ⌝ }
+    ensures { λ r. ⌜ InsertExported (now (index .entry)) (now (work .entry)) (entryOf (cellOf x y) tag) (now (held .entry)) r
+        (now (index .exit)) (now (work .exit)) (now (held .exit)) ⌝ }
 {
     match insert(index, work, Cell { x, y }, tag) {
         Inserted::Accepted(n) => {
@@ -83,7 +84,9 @@ pub extern "C" fn lintzoger_point(
     visits: &mut u32,
     tag: &mut u32,
 ) -> u32
-    ensures { λ r. ⌜ PointExported (now (index .entry)) (cellOf x y) (now (held .entry)) (now (visits .entry)) (now (tag .entry)) r (now (held .exit)) (now (visits .exit)) (now (tag .exit)) ⌝ }
+    ensures { λ r. ⌜ PointExported (now (index .entry)) (cellOf x y)
+        (now (held .entry)) (now (visits .entry)) (now (tag .entry)) r
+        (now (held .exit)) (now (visits .exit)) (now (tag .exit)) ⌝ }
 {
     match point(index, Cell { x, y }) {
         PointFound::Held { tag: t, visits: v } => {
@@ -114,7 +117,9 @@ pub extern "C" fn lintzoger_window(
     matches: &mut u32,
     visits: &mut u32,
 ) -> u32
-    ensures { λ r. ⌜ WindowExported (now (index .entry)) (rectOf llx lly urx ury) (now (list .entry)) (now (matches .entry)) (now (visits .entry)) r (now (list .exit)) (now (matches .exit)) (now (visits .exit)) ⌝ }
+    ensures { λ r. ⌜ WindowExported (now (index .entry)) (rectOf llx lly urx ury)
+        (now (list .entry)) (now (matches .entry)) (now (visits .entry)) r
+        (now (list .exit)) (now (matches .exit)) (now (visits .exit)) ⌝ }
 {
     match window(index, Rect { llx, lly, urx, ury }, list) {
         WindowFound::Found {

@@ -5,13 +5,14 @@ use mathlib.Core.Bool.{Bool, true, false}
 use mathlib.Core.List.{List, [], _∷_, _++_}
 use mathlib.Core.Option.{Option}
 use native.Mathlib.Omega.{arith}
-use lib.ListN.{drop, drop-of-length-le}
+use lib.ListN.{drop}
 use Rattle.polygons.specs.Rules.{leastDistance}
 use Rattle.geometry.specs.declared.rect.Cell.{Cell}
 use Rattle.distance.specs.Distance.{rectDistance}
 use Rattle.tree.specs.Nodes.{Item}
 use Rattle.tree.specs.Nearest.{enters}
 use Rattle.tree.specs.Walk.{nodeWalkVisits}
+use Rattle.tree.proofs.NearestWalk.{toBranch}
 use Rattle.plane.specs.Lines.{CellEntry}
 use Rattle.plane.specs.Plane.{planeSpace}
 use Rattle.memory.specs.Layout.{part, polygonIn, childrenIn, itemCount, entriesIn}
@@ -19,12 +20,13 @@ use Rattle.memory.specs.Fanout.{fanout}
 use Rattle.layout.specs.Nodes.{childAt, countAt}
 use Rattle.index.specs.Walks.{anyPolygon, anyEntry, visitsBelow, visitsFrom, entriesBelow, Walkable}
 use Rattle.index.proofs.WalkRows.{RowWalkable}
-use Rattle.index.proofs.WalkLoop.{AtChild, child-start, child-hit, child-walkable, child-polygon, next-child, children-count}
+use Rattle.index.proofs.FoldRows.{fold-none}
+use Rattle.index.proofs.WalkLoop.{AtChild, nothing-left, child-start, child-hit, child-walkable, child-polygon, next-child}
 use Rattle.nearest.specs.declared.near.Near.{Near}
 use Rattle.nearest.specs.Near.{MetBy, nearestAmong, nearBy, bestOf, GoodNear, nearOf, metOf, withNode, entersNear}
 use Rattle.nearest.specs.Below.{walkBelow, nearBelow, GoodPolygonPart, NearWalk}
 use Rattle.nearest.proofs.NearMet.{good-near, met-near, good-entered, visits-entered, met-entered, enters-is}
-use Rattle.nearest.proofs.NearRows.{walkRow, childWalk, row-walk, row-none, child-passed, child-entered, leaf-walk, node-walk, walk-bound}
+use Rattle.nearest.proofs.NearRows.{walkRow, childWalk, row-walk, child-passed, child-entered, leaf-walk, node-walk, walk-bound}
 use Rattle.nearest.proofs.NearSound.{SoundRow, row-sound, first-sound, rest-sound, polygon-sound}
 
 -- a node that is entered is one of those counted
@@ -87,11 +89,10 @@ module _ (c : Cell) (level : ℕ) (m : List ℕ) (lo k n : ℕ) (r₀ : Near) wh
   module _ (i low : ℕ) (r : Near) (x : NearLoop c level m lo k n r₀ i low r) where
     pub near-end : (met : Near) → (level ≡ 0 → ⊥) → GoodNear c met → r₀ ≡ withNode met → n ≤ i → r ≡ nearBelow c level m lo k met
     near-end met ne g e h =
-        let a = children-count level m lo k (x .at .walkable) in
-        let b = x .at .count in
-        let d : drop i (childrenIn (part m k)) ≡ [] = drop-of-length-le (childrenIn (part m k)) {i = i} (omega arith) in
+        let d = nothing-left anyPolygon anyEntry level m lo k n i low (x .vs) (x .es) (x .at) h in
         let w : metOf c r ≡ walkRow c (level - 1) m lo k (childrenIn (part m k)) (metOf c r₀)
-        = sym (row-none c (level - 1) m low k (metOf c r)) ∙ ap (λ (ks : List ℕ). walkRow c (level - 1) m low k ks (metOf c r)) (sym d) ∙ x .whole in
+        = sym (fold-none (level - 1) (toBranch (planeSpace fanout) c (level - 1)) m low k (metOf c r))
+        ∙ ap (λ (ks : List ℕ). walkRow c (level - 1) m low k ks (metOf c r)) (sym d) ∙ x .whole in
         x .good ∙ ap (nearOf c) (w ∙ whole-node level ne (x .at .walkable) met g e)
       where
         whole-node : (level : ℕ) → (level ≡ 0 → ⊥) → Walkable level m lo k → (met : Near) → GoodNear c met → r₀ ≡ withNode met

@@ -1,9 +1,8 @@
 -- The walk below a node, child by child.
 use Prim.Native.Nat.{ℕ, suc, _+_, _≤_}
-use mathlib.Core.Path.{_≡_, refl, sym, ap, _∙_}
+use mathlib.Core.Path.{_≡_, refl, ap, _∙_}
 use mathlib.Core.Bool.{true, false, cond}
-use mathlib.Core.List.{List, [], _∷_, foldl}
-use mathlib.Core.Option.{Option, none, some}
+use mathlib.Core.List.{List, _∷_}
 use native.Mathlib.Omega.{arith}
 use Rattle.geometry.specs.declared.rect.Cell.{Cell}
 use Rattle.tree.specs.Nodes.{Item}
@@ -13,24 +12,18 @@ use Rattle.tree.proofs.NearestWalk.{toBranch, below-few}
 use Rattle.tree.proofs.Walk.{walk-every}
 use Rattle.plane.specs.Plane.{planeSpace}
 use Rattle.memory.specs.Layout.{part, polygonIn, childrenIn, itemCount, entriesIn}
-use Rattle.memory.specs.Reading.{readRow, readNode}
 use Rattle.memory.specs.Fanout.{fanout}
-use Rattle.memory.proofs.ReadingLaws.{row-parts, leaf-parts, node-parts}
+use Rattle.memory.proofs.ReadingLaws.{leaf-parts, node-parts}
 use Rattle.index.specs.Walks.{anyPolygon, visitsBelow, visitsFrom, Walkable}
-use Rattle.index.proofs.CheckLaws.{node-polygon}
 use Rattle.index.proofs.WalkRows.{RowWalkable}
+use Rattle.index.proofs.FoldRows.{foldRow, rowFold, fold-first}
 use Rattle.nearest.specs.Near.{MetBy, nearestAmong}
 use Rattle.nearest.specs.Below.{walkFrom, walkBelow}
 
 module _ (c : Cell) where
-  -- a row of children that was read, from what was met so far
-  unfoldable pub rowWalk : (n : ℕ) → MetBy c → Option (List (Item (planeSpace fanout) (suc n))) → MetBy c
-  rowWalk n u none = u
-  rowWalk n u (some bs) = foldl (toBranch (planeSpace fanout) c n) u bs
-
-  -- a row of children by their parts
-  unfoldable pub walkRow : ℕ → List ℕ → ℕ → ℕ → List ℕ → MetBy c → MetBy c
-  walkRow n m lo hi ks u = rowWalk n u (readRow (readNode fanout n m) lo hi ks)
+  -- a row of children by their parts, from what was met so far
+  abbrev pub walkRow : ℕ → List ℕ → ℕ → ℕ → List ℕ → MetBy c → MetBy c
+  walkRow n m lo hi ks u = foldRow n (toBranch (planeSpace fanout) c n) m lo hi ks u
 
   -- the child at part j
   unfoldable pub childWalk : ℕ → List ℕ → ℕ → ℕ → MetBy c → MetBy c
@@ -38,16 +31,11 @@ module _ (c : Cell) where
 
   pub row-walk : (n : ℕ) (m : List ℕ) (lo hi j : ℕ) (ks : List ℕ) (u : MetBy c) → RowWalkable n m lo hi (j ∷ ks)
       → walkRow n m lo hi (j ∷ ks) u ≡ walkRow n m (j + 1) hi ks (childWalk n m lo j u)
-  unfolding walkRow rowWalk childWalk walkBelow walkFrom
+  unfolding childWalk walkBelow walkFrom
   row-walk n m lo hi j ks u v =
-      let r = row-parts (readNode fanout n m) lo hi j ks (v .row) (v .reads) in
-      let q = node-polygon n m lo j (r .first) (r .head) in
-      let e : readRow (readNode fanout n m) lo hi (j ∷ ks) ≡ some (r .first ∷ r .others) = v .reads ∙ ap some (sym (r .whole)) in
-      rw (e, r .head, r .tail, ← q)
-
-  pub row-none : (n : ℕ) (m : List ℕ) (lo hi : ℕ) (u : MetBy c) → walkRow n m lo hi [] u ≡ u
-  unfolding walkRow rowWalk readRow
-  row-none n m lo hi u = refl
+      let r = fold-first n (toBranch (planeSpace fanout) c n) m lo hi j ks v in
+      let e : toBranch (planeSpace fanout) c n u (r .child) ≡ childWalk n m lo j u = rw (r .reads, ← (r .polygon)) in
+      r .folds u ∙ ap (walkRow n m (j + 1) hi ks) e
 
   pub child-passed : (n : ℕ) (m : List ℕ) (lo j : ℕ) (u : MetBy c) → enters (planeSpace fanout) c (polygonIn (part m j)) (u .best) ≡ false → childWalk n m lo j u ≡ u
   unfolding childWalk
@@ -68,7 +56,7 @@ module _ (c : Cell) where
   -- a routing node
   pub node-walk : (n : ℕ) (m : List ℕ) (lo k : ℕ) (u : MetBy c) → Walkable (suc n) m lo k
       → walkBelow c (suc n) m lo k u ≡ walkRow n m lo k (childrenIn (part m k)) (enter (planeSpace fanout) c u)
-  unfolding walkBelow walkFrom walkNode walkRow rowWalk
+  unfolding walkBelow walkFrom walkNode foldRow rowFold
   node-walk n m lo k u x =
       let p = node-parts fanout n m lo k (x .node) (x .reads) in
       rw (x .reads, p .row)
