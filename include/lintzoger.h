@@ -34,6 +34,10 @@
  * LINTZOGER_SHORT_LIST, and the work area, which is all zeros after
  * LINTZOGER_OVER_LIMIT and LINTZOGER_TOO_MANY_NODES.
  *
+ * Two indexes that hold the same entries answer each query alike, in whatever
+ * order the entries came and whatever N each has. Only the visits may differ, and
+ * the order in which a window query writes the entries.
+ *
  * No pointer is null, and what a call writes to shares no memory with anything
  * else that is lent to it.
  */
@@ -66,7 +70,8 @@ extern "C" {
    The work area is as long as the index and may hold anything before the call;
    afterwards it is all zeros. Refuses with
      1 to 5: index, work and *held are as they were;
-     7, 8:   index and *held are as they were, work is all zeros. */
+     7, 8:   index and *held are as they were, work is all zeros. In another order
+             the same entries may be accepted. */
 uint32_t lintzoger_insert(uint32_t *index, size_t index_len,
                           uint32_t *work, size_t work_len,
                           uint32_t x, uint32_t y, uint32_t tag,
@@ -94,8 +99,11 @@ uint32_t lintzoger_point(const uint32_t *index, size_t index_len,
 /* Writes x, y, tag of each entry in the window to list, in the tree's order.
    Stores the number of these entries to *matches, and to *visits the number of
    nodes whose polygon shares a cell with the window. The list past 3 * *matches
-   stays as it was. Refuses with 1, 3 and 4, where nothing is written or stored,
-   and with 9, where *matches alone is stored. */
+   stays as it was. The tree's order depends on the order in which the entries
+   came. So two indexes with the same entries may list them in different orders,
+   with different visits: sort the lists before comparing them. Refuses with 1, 3
+   and 4, where nothing is written or stored, and with 9, where *matches alone is
+   stored. */
 uint32_t lintzoger_window(const uint32_t *index, size_t index_len,
                           uint32_t llx, uint32_t lly, uint32_t urx, uint32_t ury,
                           uint32_t *list, size_t list_len,

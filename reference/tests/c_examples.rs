@@ -42,6 +42,11 @@ fn empty() {
 }
 
 #[test]
+fn same_points() {
+    check_example("same_points", env!("LINTZOGER_ARCHIVE"));
+}
+
+#[test]
 fn session() {
     check_example("session", env!("LINTZOGER_ARCHIVE"));
 }

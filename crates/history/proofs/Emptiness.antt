@@ -8,7 +8,7 @@ use lib.Dec.{leb, eqb}
 use lib.ListN.{length}
 use Rattle.geometry.specs.declared.rect.Rect.{Rect}
 use Rattle.geometry.specs.Cells.{valid}
-use Rattle.tree.specs.Lists.{countOf}
+use Rattle.tree.specs.Lists.{Bag}
 use Rattle.tree.specs.Tree.{entries}
 use Rattle.tree.specs.Query as query
 use Rattle.tree.specs.Emptiness as tree
@@ -44,8 +44,9 @@ abbrev windowVisits : Rect → PlaneIndex → ℕ
 windowVisits w i = query.windowVisits (planeSpace fanout) (planeWindow fanout) w i
 
 module _ (m : List ℕ) (w : Rect) (i : PlaneIndex) (e : reading fanout m ≡ some i) where
-  exact : isEmpty w i ≡ eqb (length (matchesIn w i)) 0
-  exact =
+  -- the yes exactly where the index has no match
+  pub yes-exact : isEmpty w i ≡ eqb (length (matchesIn w i)) 0
+  yes-exact =
       empty-exact (planeSpace fanout) (plane-space-laws fanout) (planeRoot fanout) i (reads-sound m i e)
       (planeWindow fanout) (plane-window-laws fanout) w
 
@@ -65,7 +66,7 @@ module _ (m : List ℕ) (w : Rect) (i : PlaneIndex) (e : reading fanout m ≡ so
 
   -- An accepted one is exact for r, if as many entries of i as of r pass any test.
   pub tells-empty : (r : List CellEntry)
-      → ((q : CellEntry → Bool) → countOf q (entries (planeSpace fanout) i) ≡ countOf q r)
+      → Bag (entries (planeSpace fanout) i) r
       → accepted (emptyTold (emptyAnswer m w)) ≡ true → EmptyExact m w r (emptyTold (emptyAnswer m w))
   unfolding emptyAnswer emptyRead emptyEnd
   tells-empty r same f = rw e (go (rightLength m) (valid w) (isEmpty w i) refl (rw e at f))
@@ -82,10 +83,10 @@ module _ (m : List ℕ) (w : Rect) (i : PlaneIndex) (e : reading fanout m ≡ so
         empty = t;
         visits = emptyVisits w i;
         told = told t;
-        none-inside = sym h ∙ exact ∙ ap (λ n. eqb n 0) (same inside);
+        none-inside = sym h ∙ yes-exact ∙ ap (λ n. eqb n 0) (same inside);
         index = i;
         reads = e;
-        no-match = sym h ∙ exact;
+        no-match = sym h ∙ yes-exact;
         exact = refl;
         few = few;
       }
@@ -115,10 +116,10 @@ empty-as-window m w len = go (rightLength m) (valid w) (reading fanout m) refl
         → EmptyAsWindow (emptyTold (emptyEnd t (emptyVisits w i)))
         (windowTold
         (cond l (W.Found (length (matchesIn w i)) (windowVisits w i)) (W.ShortList (length (matchesIn w i)))))
-    accept i e true h true = record { number = refl; yes = λ f. rw (← (exact m w i e), h); few = λ f. few m w i e }
-    accept i e false h true = record { number = refl; yes = λ f. rw (← (exact m w i e), h); few = λ f. few m w i e }
-    accept i e true h false = record { number = refl; yes = λ f. rw (← (exact m w i e), h); few = λ f. never f }
-    accept i e false h false = record { number = refl; yes = λ f. rw (← (exact m w i e), h); few = λ f. never f }
+    accept i e true h true = record { number = refl; yes = λ f. rw (← (yes-exact m w i e), h); few = λ f. few m w i e }
+    accept i e false h true = record { number = refl; yes = λ f. rw (← (yes-exact m w i e), h); few = λ f. few m w i e }
+    accept i e true h false = record { number = refl; yes = λ f. rw (← (yes-exact m w i e), h); few = λ f. never f }
+    accept i e false h false = record { number = refl; yes = λ f. rw (← (yes-exact m w i e), h); few = λ f. never f }
 
     go : (a b : Bool) (o : Option PlaneIndex) → reading fanout m ≡ o
         → EmptyAsWindow (emptyTold (cond a (cond b (emptyRead w o) E.BadWindow) E.WrongLength))

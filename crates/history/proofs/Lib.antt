@@ -5,6 +5,9 @@ pub mod States
 pub mod Visits
 pub mod Nearest
 pub mod Emptiness
+pub mod SameAnswers
 pub mod History
+pub mod SameLists
 pub mod Shipped
+pub mod SamePoints
 pub mod Sample

@@ -8,7 +8,7 @@ use native.Mathlib.Omega.{arith}
 use lib.ListN.{length}
 use Rattle.geometry.specs.declared.rect.Cell.{Cell}
 use Rattle.geometry.specs.Cells.{onGrid}
-use Rattle.tree.specs.Lists.{countOf}
+use Rattle.tree.specs.Lists.{Bag}
 use Rattle.tree.specs.Tree.{entries}
 use Rattle.tree.specs.Nearest.{nearestOf, nearest, walk}
 use Rattle.tree.proofs.NearestLeast.{nearest-is, nearest-some}
@@ -40,7 +40,7 @@ nearest-accepts m c i e n g = rw (reads-right m i e, g, e) (go (entries (planeSp
 
 -- An accepted one on a memory that holds the index i is exact for r, if as many entries of i as of r pass any test.
 pub tells-nearest : (m : List ℕ) (c : Cell) (i : PlaneIndex) (r : List CellEntry) → reading fanout m ≡ some i
-    → ((q : CellEntry → Bool) → countOf q (entries (planeSpace fanout) i) ≡ countOf q r)
+    → Bag (entries (planeSpace fanout) i) r
     → accepted (nearestTold (nearestAnswer m c)) ≡ true → NearestExact m c r (nearestTold (nearestAnswer m c))
 unfolding nearestAnswer nearestRead nearestEnd
 tells-nearest m c i r e same f =

@@ -1,6 +1,6 @@
 -- Demand 3 of the shipped functions themselves. A step is a call of one of them that has returned: its lifetimes, its arguments, its
 -- result and the lists it was lent when it returned, with the function's own contract of these (`Post`), quoted and not restated.
-use Prim.Native.Nat.{ℕ, _≤_}
+use Prim.Native.Nat.{ℕ, _*_, _≤_}
 use mathlib.Core.Bool.{true}
 use mathlib.Core.Option.{some}
 use mathlib.Core.Path.{_≡_, refl, sym, ap, _∙_}
@@ -21,6 +21,7 @@ use Rattle.memory.specs.Fanout.{fanout}
 use Rattle.index.specs.Answers.{PlaneIndex}
 use Rattle.index.specs.Changes.{entryOf}
 use Rattle.index.specs.declared.answer.PointFound.{PointFound}
+use Rattle.index.specs.declared.answer.WindowFound.{WindowFound}
 use Rattle.index.specs.declared.answer.NearestFound.{NearestFound}
 use Rattle.index.specs.declared.answer.EmptyFound.{EmptyFound}
 use Rattle.index.specs.Numbers.{insertTold, removeTold, clearTold, pointTold, windowTold, nearestTold, emptyTold}
@@ -32,6 +33,7 @@ use Rattle.history.proofs.History.{kept-history, call-visits}
 use Rattle.history.proofs.Visits.{point-accepts}
 use Rattle.history.proofs.Nearest.{nearest-accepts, nearest-on-index}
 use Rattle.history.proofs.Emptiness.{empty-accepts, empty-on-index, empty-as-window as as-window}
+use Rattle.history.proofs.SameAnswers.{window-accepts}
 use Rattle.index.proofs.clear as clear-fn
 use Rattle.index.proofs.clear.Reads as clear
 use Rattle.index.proofs.clear.Kinds as clear-kinds
@@ -179,7 +181,7 @@ made (empties s) = record {
 }
 
 -- A step's own contract is what the claim rests on.
-kept : (s : Step) → Kept (made s)
+pub kept : (s : Step) → Kept (made s)
 kept (inserts s) = record { result = s .out; told = refl; contract = s .meets }
 kept (removes s) = record { result = s .out; told = refl; contract = s .meets; list = refl }
 kept (clears s) = record { told = ap clearTold (s .meets .0); memory = s .meets .1; list = refl }
@@ -188,7 +190,7 @@ kept (windows s) = record { result = s .out; told = refl; contract = s .meets; m
 kept (nearests s) = record { told = ap nearestTold (s .meets); memory = refl; list = refl }
 kept (empties s) = record { told = ap emptyTold (s .meets); memory = refl; list = refl }
 
-all-kept : (ss : List Step) → All Kept (map made ss)
+pub all-kept : (ss : List Step) → All Kept (map made ss)
 unfolding All
 all-kept [] = tt
 all-kept (s ∷ ss) = (kept s, all-kept ss)
@@ -204,6 +206,14 @@ point-on-sound s i e g = ap (λ (x : PointFound). accepted (pointTold x)) (s .me
 -- and the visits of an accepted one are exact and at most the height, whatever memory it was handed.
 pub point-exact : (s : Point) → accepted (pointTold (s .out)) ≡ true → VisitsExact (now (s .args .0)) (s .args .1 .0) (visitsTold (pointTold (s .out)))
 point-exact s = call-visits (made (points s)) (kept (points s))
+
+-- A window query of a valid window is accepted there, if its result list has room for every entry held.
+pub window-on-sound : (s : Window) (i : PlaneIndex) → reading fanout (now (s .args .0)) ≡ some i
+    → valid (s .args .1 .0) ≡ true → 3 * length (entries (planeSpace fanout) i) ≤ length (now (s .args .1 .1 .0))
+    → accepted (windowTold (s .out)) ≡ true
+window-on-sound s i e g r =
+    ap (λ (x : WindowFound). accepted (windowTold x)) (s .meets .answer)
+    ∙ window-accepts (now (s .args .0)) (s .args .1 .0) i e (length (now (s .args .1 .1 .0))) g r
 
 -- The same of nearest queries: on every memory that holds an index with an entry, one of a cell on the grid is accepted,
 pub nearest-on-sound : (s : Nearest) (i : PlaneIndex) → reading fanout (now (s .args .0)) ≡ some i → 1 ≤ length (entries (planeSpace fanout) i)

@@ -1,7 +1,7 @@
 -- Calls on lent memory, lists of them, and the record. Document 01: 'What demand 3 says of a list is one claim about the whole list'.
--- docs/RULES.md 3.13, 6.1, 6.2, 6.4, 9.1
+-- docs/RULES.md 3.13, 6.1, 6.2, 6.4, 6.17, 9.1
 use Prim.Native.Nat.{ℕ, _+_, _*_}
-use mathlib.Core.Bool.{Bool, true, false}
+use mathlib.Core.Bool.{Bool, true, false, cond}
 use mathlib.Core.List.{List, [], _∷_, map}
 use mathlib.Core.Path.{_≡_}
 use lib.Dec.{eqb}
@@ -35,6 +35,11 @@ pub record Made : Type 0 where
 -- 'whether it was accepted'
 abbrev pub accepted : Told → Bool
 accepted t = eqb (t .number) 0
+
+-- the number that a window query returns where its list is long enough: 9, 'list shorter than 3 × matches', is the only
+-- refusal that goes by the list
+abbrev pub withRoom : ℕ → ℕ
+withRoom n = cond (eqb n 9) 0 n
 
 -- insertion, removal and clearing change the index; queries don't
 abbrev pub isChange : IndexCall → Bool

@@ -9,7 +9,7 @@ use lib.ListN.{length, getD}
 use Rattle.geometry.specs.declared.rect.Cell.{Cell}
 use Rattle.geometry.specs.declared.rect.Rect.{Rect}
 use Rattle.distance.specs.Distance.{squared}
-use Rattle.tree.specs.Lists.{All, countOf, nth}
+use Rattle.tree.specs.Lists.{All, countOf, Bag, nth}
 use Rattle.tree.specs.Tree.{Sound, height, entries, nodeCount}
 use Rattle.tree.specs.Depth.{polygons, polygonsAt, leaves, leafDepths, edges}
 use Rattle.tree.specs.Query.{ofCell, holds}
@@ -111,7 +111,7 @@ pub record HistoryClaim (N : ℕ) (ds : List Made) (m : List ℕ) : Type 0 where
   pub deep : All (λ k. suc k ≡ height (planeSpace fanout) index) (leafDepths (planeSpace fanout) index)
   -- "The entries held are exactly those accepted since the last clear and not removed since, as document 01's record gives them.": as many
   -- pass any test in the tree as in the record, and no cell is held twice
-  pub entries-same : (q : CellEntry → Bool) → countOf q (entries (planeSpace fanout) index) ≡ countOf q (recordFrom [] ds)
+  pub entries-same : Bag (entries (planeSpace fanout) index) (recordFrom [] ds)
   pub entries-once : (c : Cell) → countOf (ofCell (planeSpace fanout) c) (entries (planeSpace fanout) index) ≡ cond (holds (planeSpace fanout) c index) 1 0
   -- "Each is in exactly one leaf"
   pub one-leaf : (c : Cell) → countOf (leafHolds (planeSpace fanout) c) (leaves (planeSpace fanout) index) ≡ cond (holds (planeSpace fanout) c index) 1 0

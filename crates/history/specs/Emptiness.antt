@@ -19,7 +19,7 @@ use Rattle.memory.specs.Reading.{reading}
 use Rattle.memory.specs.Fanout.{fanout}
 use Rattle.index.specs.Answers.{PlaneIndex, matchesIn}
 use Rattle.index.specs.Numbers.{Told}
-use Rattle.history.specs.Calls.{IndexCall, Made, accepted}
+use Rattle.history.specs.Calls.{IndexCall, Made, accepted, withRoom}
 
 -- What an emptiness query of w told on a memory m that holds an index, where r are the entries held: 'a yes or no for a
 -- window', 1 or 0, and 'The visits reported'.
@@ -55,7 +55,7 @@ TellsEmpty d r = EmptyBy (d .call) (d .before) (d .told) r
 -- the window and the result list.
 pub record EmptyAsWindow (t u : Told) : Type 0 where
   -- it refuses as the window query does, but for 9, 'list shorter than 3 × matches'
-  pub number : t .number ≡ cond (eqb (u .number) 9) 0 (u .number)
+  pub number : t .number ≡ withRoom (u .number)
   -- 'The yes must hold exactly when the window query reports zero matches', accepted or refused by 9
   pub yes : accepted t ≡ true → getD (t .values) 0 0 ≡ cond (eqb (getD (u .values) 0 0) 0) 1 0
   -- the visits 'never exceed those of the window query'

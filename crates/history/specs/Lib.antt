@@ -2,4 +2,5 @@ pub mod Calls
 pub mod Contract
 pub mod Defined
 pub mod Emptiness
+pub mod SameAnswers
 pub mod Claim

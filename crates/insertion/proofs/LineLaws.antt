@@ -30,7 +30,8 @@ use Rattle.insertion.specs.Descent.{itemsAt}
 use Rattle.insertion.specs.Planning.{Full, LineOfLevel}
 use Rattle.insertion.proofs.DescentLaws.{items-are}
 use Rattle.tree.proofs.Ways.{way-entries}
-use Rattle.tree.proofs.SplitGroups.{row-entries, line-row, bag-all, bag-sym}
+use Rattle.tree.proofs.Bags.{bag-all, bag-sym}
+use Rattle.tree.proofs.SplitGroups.{row-entries, line-row}
 use Rattle.layout.specs.Nodes.{countAt}
 use Rattle.index.specs.Count as count
 use Rattle.index.specs.Count.{entriesAt}
@@ -91,9 +92,9 @@ module _ (n level : ℕ) (path m : List ℕ) (c : Cell) (f : Full (suc n) level 
       let g = f .path-is .goods (suc n) (f .below) 0 in
       let rows : All (λ i. onGrid (i .cell) ≡ true) (flatMap (held (planeSpace fanout) (suc n)) (row (planeSpace fanout) (suc n) w)) =
       all-flatMap (λ i. onGrid (i .cell) ≡ true) (held (planeSpace fanout) (suc n)) (row (planeSpace fanout) (suc n) w) (unmap (row (planeSpace fanout) (suc n) w) (g .real)) in
-      let ways = bag-all (planeSpace fanout) (λ i. onGrid (i .cell)) (wayHeld (planeSpace fanout) (suc n) w) (flatMap (held (planeSpace fanout) (suc n)) (row (planeSpace fanout) (suc n) w)) (bag-sym (planeSpace fanout) (flatMap (held (planeSpace fanout) (suc n)) (row (planeSpace fanout) (suc n) w)) (wayHeld (planeSpace fanout) (suc n) w) (row-entries (planeSpace fanout) (suc n) w)) rows in
+      let ways = bag-all (λ i. onGrid (i .cell)) (wayHeld (planeSpace fanout) (suc n) w) (flatMap (held (planeSpace fanout) (suc n)) (row (planeSpace fanout) (suc n) w)) (bag-sym (flatMap (held (planeSpace fanout) (suc n)) (row (planeSpace fanout) (suc n) w)) (wayHeld (planeSpace fanout) (suc n) w) (row-entries (planeSpace fanout) (suc n) w)) rows in
       let b = way-entries (planeSpace fanout) (plane-space-laws fanout) (plane-steps fanout (omega arith)) (suc n) (polygonOn path (suc n)) (itemsAt (suc n) m at) e w (f .path-is .ways (suc n) (f .below) 0) in
-      let all = bag-all (planeSpace fanout) (λ i. onGrid (i .cell)) (flatMap (held (planeSpace fanout) (suc n)) (itemsAt (suc n) m at) ++ (e ∷ [])) (wayHeld (planeSpace fanout) (suc n) w) (bag-sym (planeSpace fanout) (wayHeld (planeSpace fanout) (suc n) w) (flatMap (held (planeSpace fanout) (suc n)) (itemsAt (suc n) m at) ++ (e ∷ [])) b) ways in
+      let all = bag-all (λ i. onGrid (i .cell)) (flatMap (held (planeSpace fanout) (suc n)) (itemsAt (suc n) m at) ++ (e ∷ [])) (wayHeld (planeSpace fanout) (suc n) w) (bag-sym (wayHeld (planeSpace fanout) (suc n) w) (flatMap (held (planeSpace fanout) (suc n)) (itemsAt (suc n) m at) ++ (e ∷ [])) b) ways in
       subst (λ (l : List (Item (planeSpace fanout) (suc n))). OnGrid (flatMap (held (planeSpace fanout) (suc n)) l)) (items-are (suc n) m at (here .node) (here .reads))
       (all-first (λ i. onGrid (i .cell) ≡ true) (flatMap (held (planeSpace fanout) (suc n)) (itemsAt (suc n) m at)) (e ∷ []) all)
     where

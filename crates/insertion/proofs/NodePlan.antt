@@ -11,12 +11,12 @@ use borrow.Author.Tests.{leb-false}
 use Rattle.geometry.specs.declared.rect.Line.{Line}
 use Rattle.geometry.specs.Cells.{onGrid}
 use Rattle.geometry.specs.Clip.{below}
-use Rattle.tree.specs.Lists.{All, keep}
+use Rattle.tree.specs.Lists.{All, keep, Bag}
 use Rattle.tree.specs.Space.{left, right}
 use Rattle.tree.specs.Nodes.{Item, entryOn, held}
 use Rattle.tree.specs.Split.{lineOf, split}
 use Rattle.tree.specs.Plan.{Way, descend, row, groups, few, lineAt}
-use Rattle.tree.specs.Pass.{wayHeld, Bag, Alike}
+use Rattle.tree.specs.Pass.{wayHeld, Alike}
 use Rattle.tree.proofs.Laws.{Laws, Steps, Fit, onSide}
 use Rattle.tree.proofs.Fits.{length-halfItems}
 use Rattle.tree.proofs.Emission.{groups-is}
@@ -39,7 +39,8 @@ use Rattle.insertion.specs.Descent.{itemsAt}
 use Rattle.insertion.proofs.DescentLaws.{items-are}
 use Rattle.tree.proofs.GoodWays.{GoodWay, way-fits}
 use Rattle.tree.proofs.Ways.{Descent, descent, way-entries}
-use Rattle.tree.proofs.SplitGroups.{split-groups, few-row, row-entries, line-row, bag-keep, bag-length, bag-all, alike-mid, alike-all, map-append}
+use Rattle.tree.proofs.Bags.{bag-keep, bag-length, bag-all}
+use Rattle.tree.proofs.SplitGroups.{split-groups, few-row, row-entries, line-row, alike-mid, alike-all, map-append}
 use Rattle.layout.specs.Nodes.{countAt}
 
 abbrev laws : Laws (planeSpace fanout)
@@ -132,7 +133,7 @@ module _ (n : ℕ) (path m : List ℕ) (e : CellEntry) (v : Walkable (suc n) m 0
   es-is = ap (λ (l : List (Item (planeSpace fanout) (suc n))). flatMap (held (planeSpace fanout) (suc n)) l ++ (e ∷ [])) old-at
       ∙ ap (λ (l : List CellEntry). l ++ (e ∷ [])) (append-nil (flatMap (held (planeSpace fanout) n) (d .ch .old .child)))
 
-  es-bag : Bag (planeSpace fanout) es rows
+  es-bag : Bag es rows
   es-bag q =
       ap (λ (l : List CellEntry). length (keep q l)) es-is
       ∙ sym (way-entries (planeSpace fanout) laws steps n (d .ch .grown) (d .ch .old .child) e (d .under) (d .next) q)
@@ -181,7 +182,7 @@ module _ (n : ℕ) (path m : List ℕ) (e : CellEntry) (v : Walkable (suc n) m 0
         (subst (λ (z : List (List CellEntry)). Alike (planeSpace fanout) z (map (held (planeSpace fanout) (suc n)) (take place bs) ++ (halvesOf l rows ++ map (held (planeSpace fanout) (suc n)) (drop (place + 1) bs)))) (sym gs-is)
         (alike-mid (planeSpace fanout) (map (held (planeSpace fanout) (suc n)) (take place bs)) (map (held (planeSpace fanout) (suc n)) (drop (place + 1) bs))
         (keep (entryOn (planeSpace fanout) (left l)) es) (keep (entryOn (planeSpace fanout) (right l)) es) (keep (entryOn (planeSpace fanout) (left l)) rows) (keep (entryOn (planeSpace fanout) (right l)) rows)
-        (bag-keep (planeSpace fanout) (entryOn (planeSpace fanout) (left l)) es rows es-bag) (bag-keep (planeSpace fanout) (entryOn (planeSpace fanout) (right l)) es rows es-bag)))
+        (bag-keep (entryOn (planeSpace fanout) (left l)) es rows es-bag) (bag-keep (entryOn (planeSpace fanout) (right l)) es rows es-bag)))
 
     -- the line found from them is the definition's
     pub node-line-is : nodeLine fanout gs ≡ lineAt (planeSpace fanout) (suc n) w
@@ -199,9 +200,9 @@ module _ (n : ℕ) (path m : List ℕ) (e : CellEntry) (v : Walkable (suc n) m 0
         } in
         let q = sym (groups-is (planeSpace fanout) (suc n) w) in
         record {
-          some-each = alike-all (planeSpace fanout) (λ x. 1 ≤ length x) (λ x. 1 ≤ length x) (λ x y b h. let i = bag-length (planeSpace fanout) x y b in omega arith) gs (groups (planeSpace fanout) (suc n) w) alike
+          some-each = alike-all (planeSpace fanout) (λ x. 1 ≤ length x) (λ x. 1 ≤ length x) (λ x y b h. let i = bag-length x y b in omega arith) gs (groups (planeSpace fanout) (suc n) w) alike
               (subst (λ (y : List (List CellEntry)). All (λ x. 1 ≤ length x) y) q (good .full));
-          grid = alike-all (planeSpace fanout) (λ x. All (λ i. onGrid (i .cell) ≡ true) x) (λ x. All (λ i. onGrid (i .cell) ≡ true) x) (λ x y b h. bag-all (planeSpace fanout) (λ i. onGrid (i .cell)) x y b h) gs (groups (planeSpace fanout) (suc n) w) alike
+          grid = alike-all (planeSpace fanout) (λ x. All (λ i. onGrid (i .cell) ≡ true) x) (λ x. All (λ i. onGrid (i .cell) ≡ true) x) (λ x y b h. bag-all (λ i. onGrid (i .cell)) x y b h) gs (groups (planeSpace fanout) (suc n) w) alike
               (subst (λ (y : List (List CellEntry)). All (λ x. All (λ i. onGrid (i .cell) ≡ true) x) y) q (good .real));
           line = z;
           fits = fits-same gs (groups (planeSpace fanout) (suc n) w) z alike (subst (λ (y : List (List CellEntry)). Fits holdsOn fanout y z) q (fits-of-fit fanout (map (held (planeSpace fanout) (suc n)) (row (planeSpace fanout) (suc n) w)) z g));

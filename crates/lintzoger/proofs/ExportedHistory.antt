@@ -267,7 +267,7 @@ made (empties s) =
     }
 
 -- A step's own contract is what the claim rests on.
-kept : (s : Step) → Kept (made s)
+pub kept : (s : Step) → Kept (made s)
 kept (inserts s) =
     let v = s .meets in
     record {
@@ -317,7 +317,7 @@ kept (empties s) =
       list = refl;
     }
 
-all-kept : (ss : List Step) → All Kept (map made ss)
+pub all-kept : (ss : List Step) → All Kept (map made ss)
 unfolding All
 all-kept [] = tt
 all-kept (s ∷ ss) = (kept s, all-kept ss)

@@ -1,2 +1,3 @@
 pub mod ExportWays
 pub mod ExportedHistory
+pub mod ExportedSamePoints

@@ -10,9 +10,9 @@ use borrow.Author.Tests.{le-leb, lt-leb, lt-ltb, le-ltb, leb-true, leb-false, lt
 use Rattle.geometry.specs.declared.rect.Line.{Line}
 use Rattle.geometry.specs.declared.rect.Line.the-variants.{AtX, AtY}
 use Rattle.geometry.specs.Clip.{below}
-use Rattle.tree.specs.Lists.{keep, notEmpty, All}
+use Rattle.tree.specs.Lists.{keep, notEmpty, All, Bag}
 use Rattle.tree.specs.Space.{Side, left, right}
-use Rattle.tree.specs.Pass.{Bag, Alike}
+use Rattle.tree.specs.Pass.{Alike}
 use Rattle.tree.proofs.Lists.{all-map}
 use Rattle.polygons.specs.Lists.{least}
 use Rattle.plane.specs.Best.{greatest}
@@ -100,11 +100,11 @@ some-length (x ∷ l) [] h = let k : suc (length l) ≡ 0 = h in absurd (omega a
 some-length (x ∷ l) (y ∷ m) h = refl
 
 module _ (fanout : ℕ) where
-  pub on-same : (s : Side Line) (g h : List CellEntry) → Bag (planeSpace fanout) g h → holdsOn s g ≡ holdsOn s h
+  pub on-same : (s : Side Line) (g h : List CellEntry) → Bag g h → holdsOn s g ≡ holdsOn s h
   on-same (left l) g h b = some-length (keep (λ e. below l (e .cell)) g) (keep (λ e. below l (e .cell)) h) (b (λ e. below l (e .cell)))
   on-same (right l) g h b = some-length (keep (λ e. not (below l (e .cell))) g) (keep (λ e. not (below l (e .cell))) h) (b (λ e. not (below l (e .cell))))
 
-  pub count-same : (t : List CellEntry → Bool) (gs hs : List (List CellEntry)) → ((g h : List CellEntry) → Bag (planeSpace fanout) g h → t g ≡ t h) → Alike (planeSpace fanout) gs hs → length (keep t gs) ≡ length (keep t hs)
+  pub count-same : (t : List CellEntry → Bool) (gs hs : List (List CellEntry)) → ((g h : List CellEntry) → Bag g h → t g ≡ t h) → Alike (planeSpace fanout) gs hs → length (keep t gs) ≡ length (keep t hs)
   unfolding keep
   count-same t [] [] f a = refl
   count-same t [] (h ∷ hs) f a = absurd a

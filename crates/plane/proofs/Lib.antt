@@ -21,4 +21,5 @@ pub mod Cases
 pub mod WorkedTrees
 pub mod NearestCases
 pub mod EmptinessCases
+pub mod OrderCases
 pub mod WorkedLine

@@ -4,7 +4,7 @@ use mathlib.Core.Bool.{Bool, true, _&&_}
 use mathlib.Core.Path.{_≡_, refl, ap, _∙_}
 use mathlib.Core.List.{List, [], _∷_, flatMap, append-nil}
 use lib.Dec.{eqb}
-use lib.ListN.{length}
+use lib.ListN.{length, getD}
 use native.Mathlib.Omega.{arith}
 use borrow.Author.Tests.{eqb-true, eq-eqb}
 use Rattle.polygons.specs.Lists.{any}
@@ -32,6 +32,7 @@ use Rattle.tree.specs.Boxes.{extra}
 use Rattle.tree.proofs.Laws.{Laws}
 use Rattle.tree.proofs.BoxLaws.{BoxLaws}
 use Rattle.tree.proofs.BoxSpace.{space-laws}
+use Rattle.plane.specs.Lines.{CellEntry, xOf, yOf}
 use Rattle.plane.specs.Plane.{rectSide, plane, planeSpace}
 
 -- valid lists, as boxes and as rectangles
@@ -80,6 +81,12 @@ same-cell c d h =
     let a = eqb-true (c .x) (d .x) (k .0) in let b = eqb-true (c .y) (d .y) (k .1) in
     λ i. record { x = a i; y = b i }
 
+-- 'ties to the smaller x, then the smaller y': entries that tie in both are of one cell
+ties-cell : (e f : CellEntry) → xOf e ∷ yOf e ∷ [] ≡ xOf f ∷ yOf f ∷ [] → e .cell ≡ f .cell
+ties-cell e f h =
+    let a : e .cell .x ≡ f .cell .x = ap (λ l. getD l 0 0) h in let b : e .cell .y ≡ f .cell .y = ap (λ l. getD l 1 0) h in
+    λ i. record { x = a i; y = b i }
+
 -- the laws of boxes
 pub plane-laws : (fanout : ℕ) → BoxLaws (plane fanout)
 unfolding anyHas
@@ -100,6 +107,7 @@ plane-laws fanout = record {
   grow-old = λ r c d h. within-cells r (grown r c) d (grow-contains r c) h;
   distance-low = rect-least;
   distance-met = rect-attained;
+  ties-cell = ties-cell;
 }
 
 -- the laws of the tree's space

@@ -6,13 +6,13 @@ use mathlib.Core.List.{List}
 use lib.ListN.{length}
 use Rattle.polygons.specs.Lists.{any}
 use Rattle.tree.specs.Lists.{All}
-use Rattle.tree.specs.Space.{Side}
+use Rattle.tree.specs.Space.{Side, Entry}
 use Rattle.tree.specs.Nodes.{on}
 use Rattle.tree.specs.Boxes.{Boxes}
 use Rattle.tree.specs.BoxSpace.{spaceOf}
 
 -- The cells of each rule, that valid rectangles stay valid, and that lists do not grow: clipping, common part, cut and refine by their cells; growing keeps the old cells and takes the new one in;
--- no cell is nearer than the least distance, and of a valid rectangle one is that near.
+-- no cell is nearer than the least distance, and of a valid rectangle one is that near; ties leave one cell.
 pub record BoxLaws (B : Boxes) : Type 0 where
   pub clip-cells : (s : Side (B .Line)) (r : B .Box) (c : B .Cell) → any (λ q. B .has q c) (B .clip s r) ≡ B .has r c && on (spaceOf B) s c
   pub common-cells : (r s : B .Box) (c : B .Cell) → any (λ q. B .has q c) (B .common r s) ≡ B .has r c && B .has s c
@@ -30,6 +30,7 @@ pub record BoxLaws (B : Boxes) : Type 0 where
   pub grow-old : (r : B .Box) (c d : B .Cell) → B .has r d ≡ true → B .has (B .grow r c) d ≡ true
   pub distance-low : (r : B .Box) (c d : B .Cell) → B .has r d ≡ true → B .minDistance c r ≤ B .distance c d
   pub distance-met : (r : B .Box) (c : B .Cell) → B .valid r ≡ true → (d : B .Cell) × (B .has r d ≡ true) × (B .distance c d ≡ B .minDistance c r)
+  pub ties-cell : (e f : Entry (B .Cell)) → B .ties e ≡ B .ties f → e .cell ≡ f .cell
 
 -- For the root and for windows: the rectangle of one cell, growing on the grid, and that a common part has a cell.
 pub record RootBoxLaws (B : Boxes) (cellBox : B .Cell → B .Box) : Type 0 where

@@ -35,6 +35,7 @@ space-laws B W = record {
   same-self = W .same-self;
   distance-low = poly-low B W;
   distance-met = λ p c f. poly-met B W p c (f .lower) (f .valid);
+  ties-cell = W .ties-cell;
 }
 
 -- Step 2 is as the tree asks; with the laws of the two lines, which are the plane's own, that is all of Steps.

@@ -6,7 +6,7 @@ use mathlib.Core.List.{map, List, [], _∷_, _++_}
 use mathlib.Core.Option.{Option, none, some}
 use lib.ListN.{length}
 use native.Mathlib.Omega.{arith}
-use Rattle.tree.specs.Lists.{keep, All, countOf}
+use Rattle.tree.specs.Lists.{keep, All, countOf, Bag}
 use Rattle.tree.specs.Space.{Space}
 use Rattle.tree.specs.Nodes.{EntryOf}
 use Rattle.tree.specs.Root.{Root}
@@ -35,7 +35,7 @@ module _ (S : Space) (W : Laws S) (T : Steps S) (R : Root S) (X : RootLaws S R) 
   pub record State (i : Index S) (r : List (EntryOf S)) : Type 0 where
     pub sound : Sound S R i
     pub room : nodeCount S i ≤ N
-    pub same : (q : EntryOf S → Bool) → countOf q (entries S i) ≡ countOf q r
+    pub same : Bag (entries S i) r
 
   -- As many entries as the record is long.
   pub long : (i : Index S) (r : List (EntryOf S)) → State i r → length (entries S i) ≡ length r

@@ -13,7 +13,7 @@ use Rattle.tree.specs.Root.{Root}
 use Rattle.tree.specs.Query.{Window}
 
 -- Clipping keeps exactly a polygon's cells on that side, and keeps it good where a cell is left; a good polygon lies on the grid; `same` is equality;
--- no cell of a polygon is nearer than its least distance, and of a good polygon one is that near.
+-- no cell of a polygon is nearer than its least distance, and of a good polygon one is that near; ties leave one cell.
 pub record Laws (S : Space) : Type 0 where
   pub clip-old : (s : Side (S .Line)) (p : S .Poly) (c : S .Cell) → S .has (S .clip s p) c ≡ true → S .has p c ≡ true
   pub clip-on : (s : Side (S .Line)) (p : S .Poly) (c : S .Cell) → S .has (S .clip s p) c ≡ true → on S s c ≡ true
@@ -24,6 +24,7 @@ pub record Laws (S : Space) : Type 0 where
   pub same-self : (c : S .Cell) → S .same c c ≡ true
   pub distance-low : (p : S .Poly) (c d : S .Cell) → S .has p d ≡ true → S .minDistance c p ≤ S .distance c d
   pub distance-met : (p : S .Poly) (c : S .Cell) → S .Fine p → (d : S .Cell) × (S .has p d ≡ true) × (S .distance c d ≡ S .minDistance c p)
+  pub ties-cell : (e f : EntryOf S) → S .ties e ≡ S .ties f → e .cell ≡ f .cell
 
 module _ (S : Space) where
   -- Some of these entries are on that side.

@@ -2,7 +2,10 @@ pub mod Booleans
 pub mod Lists
 pub mod Counts
 pub mod Any
+pub mod Counted
+pub mod Bags
 pub mod Laws
+pub mod Entries
 pub mod BoxLaws
 pub mod PolyDistance
 pub mod Prune
@@ -24,6 +27,7 @@ pub mod Leaves
 pub mod Order
 pub mod NearestLeast
 pub mod NearestSame
+pub mod SameEntries
 pub mod NearestWalk
 pub mod Emptiness
 pub mod Claim

@@ -6,29 +6,18 @@ use mathlib.Core.List.{List, [], _∷_, _++_, append-nil, map, flatMap}
 use lib.ListN.{length}
 use lib.Dec.{leb}
 use native.Mathlib.Omega.{arith}
-use Rattle.tree.specs.Lists.{keep, countOf}
+use Rattle.tree.specs.Lists.{keep, countOf, Bag}
 use Rattle.tree.specs.Space.{Space, Side, left, right}
 use Rattle.tree.specs.Nodes.{EntryOf, Item, on, entryOn, held}
 use Rattle.tree.specs.Split.{half}
 use Rattle.tree.specs.Plan.{Way, flat, groupIf, cutGroups, groups, few, lineAt, under, branchUnder}
-use Rattle.tree.specs.Pass.{onAll, deep, wayHeld, plainFew, plainLine, cutPlain, plain, Bag, Alike}
+use Rattle.tree.specs.Pass.{onAll, deep, wayHeld, plainFew, plainLine, cutPlain, plain, Alike}
 use Rattle.tree.proofs.Lists.{flatMap-append, flatMap-one}
 use Rattle.tree.proofs.Counts.{countOf-append}
+use Rattle.tree.proofs.Bags.{bag-keep, bag-length}
 use Rattle.tree.proofs.InsertEntries.{countOf-sides}
 use Rattle.tree.proofs.Emission.{under-append, under-none, under-branch}
 use Rattle.tree.specs.Plan as P
-
-keep-keep : {A : Type 0} (p q : A → Bool) (l : List A) → keep q (keep p l) ≡ keep (λ a. p a && q a) l
-unfolding keep
-keep-keep p q [] = refl
-keep-keep p q (a ∷ l) = go (p a) (keep-keep p q l)
-  where
-    go : (b : Bool) → keep q (keep p l) ≡ keep (λ x. p x && q x) l → keep q (cond b (a ∷ keep p l) (keep p l)) ≡ cond (b && q a) (a ∷ keep (λ x. p x && q x) l) (keep (λ x. p x && q x) l)
-    go true e = pick-same (q a) e
-      where
-        pick-same : (t : Bool) → keep q (keep p l) ≡ keep (λ x. p x && q x) l → cond t (a ∷ keep q (keep p l)) (keep q (keep p l)) ≡ cond t (a ∷ keep (λ x. p x && q x) l) (keep (λ x. p x && q x) l)
-        pick-same t e = rw e
-    go false e = e
 
 module _ (S : Space) where
   -- entries under sides, at once
@@ -56,17 +45,6 @@ module _ (S : Space) where
   under-deep n ss l = row-deep n ss (one-deep n ss) l
 
   -- the order inside groups does not matter
-  bag-keep : (p : EntryOf S → Bool) (g h : List (EntryOf S)) → Bag S g h → Bag S (keep p g) (keep p h)
-  bag-keep p g h b q = ap length (keep-keep p q g) ∙ b (λ e. p e && q e) ∙ sym (ap length (keep-keep p q h))
-
-  keep-all : (l : List (EntryOf S)) → keep (λ e. true) l ≡ l
-  unfolding keep
-  keep-all [] = refl
-  keep-all (e ∷ l) = ap (λ x. e ∷ x) (keep-all l)
-
-  bag-length : (g h : List (EntryOf S)) → Bag S g h → length g ≡ length h
-  bag-length g h b = ap length (sym (keep-all g)) ∙ b (λ e. true) ∙ ap length (keep-all h)
-
   alike-self : (gs : List (List (EntryOf S))) → Alike S gs gs
   alike-self [] = tt
   alike-self (g ∷ gs) = (λ q. refl, alike-self gs)
@@ -83,7 +61,7 @@ module _ (S : Space) where
   alike-length (x ∷ a) [] h = absurd h
   alike-length (x ∷ a) (y ∷ b) h = ap suc (alike-length a b (h .1))
 
-  alike-if : (g h : List (EntryOf S)) → Bag S g h → Alike S (groupIf S g) (groupIf S h)
+  alike-if : (g h : List (EntryOf S)) → Bag g h → Alike S (groupIf S g) (groupIf S h)
   alike-if [] [] b = tt
   alike-if [] (x ∷ h) b = let l : 0 ≡ suc (length h) = bag-length [] (x ∷ h) b in absurd (omega arith)
   alike-if (x ∷ g) [] b = let l : suc (length g) ≡ 0 = bag-length (x ∷ g) [] b in absurd (omega arith)
@@ -113,7 +91,7 @@ module _ (S : Space) where
   flat-one g = append-nil g
 
   -- the entries of the row are those below the node
-  bag-cut : (n : ℕ) (gs : List (List (EntryOf S))) → Bag S (flat S (cutGroups S n gs)) (flat S gs)
+  bag-cut : (n : ℕ) (gs : List (List (EntryOf S))) → Bag (flat S (cutGroups S n gs)) (flat S gs)
   bag-cut n gs q = go (P.fewOf S n gs)
     where
       l : S .Line
@@ -123,7 +101,7 @@ module _ (S : Space) where
       go true = ap (countOf q) (flat-one (flat S gs))
       go false = simp (flat-append, flat-if, countOf-append) (countOf-sides S q l (flat S gs))
 
-  pub bag-way : (n : ℕ) (w : Way S n) → Bag S (flat S (groups S n w)) (wayHeld S n w)
+  pub bag-way : (n : ℕ) (w : Way S n) → Bag (flat S (groups S n w)) (wayHeld S n w)
   unfolding groups wayHeld
   bag-way zero es q = ap (countOf q) (flat-map zero es ∙ single es)
   bag-way (suc n) w q =
@@ -143,7 +121,7 @@ module _ (S : Space) where
         l : S .Line
         l = lineAt S n w
 
-        back : Bag S (wayHeld S n w) (flat S (groups S n w))
+        back : Bag (wayHeld S n w) (flat S (groups S n w))
         back q = sym (bag-way n w q)
 
         half : (s : Side (S .Line)) → Alike S (groupIf S (keep (entryOn S s) (wayHeld S n w))) (groupIf S (keep (entryOn S s) (flat S (groups S n w))))

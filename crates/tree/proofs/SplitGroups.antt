@@ -1,20 +1,18 @@
 -- The entries of the two halves of a node that is split, and of the row that they stand in.
 use Prim.Native.Nat.{ℕ, zero, suc, _+_, _<_, _≤_}
-use mathlib.Core.Bool.{Bool, true, false, cond, not, _&&_}
 use mathlib.Core.Path.{_≡_, refl, sym, ap, _∙_}
 use mathlib.Core.List.{List, [], _∷_, _++_, map, flatMap}
 use lib.Dec.{leb}
 use lib.ListN.{length, length-append, length-map}
 use native.Mathlib.Omega.{arith}
 use borrow.Author.Tests.{le-leb, lt-leb}
-use Rattle.tree.specs.Lists.{All, keep, countOf}
+use Rattle.tree.specs.Lists.{All, keep, countOf, Bag}
 use Rattle.tree.specs.Space.{Space, Side, left, right}
 use Rattle.tree.specs.Nodes.{EntryOf, Item, entryOn, held}
 use Rattle.tree.specs.Split.{branchIf, half, halfItems, lineOf, halves, split}
 use Rattle.tree.specs.Plan.{Way, row, flat, groups, few, lineAt}
-use Rattle.tree.specs.Pass.{wayHeld, Bag, Alike}
-use Rattle.tree.proofs.Lists.{flatMap-flatMap, flatMap-same, keep-flatMap, all-map}
-use Rattle.tree.proofs.Counts.{countOf-keep, countOf-every, keep-none}
+use Rattle.tree.specs.Pass.{wayHeld, Alike}
+use Rattle.tree.proofs.Lists.{flatMap-flatMap, flatMap-same, keep-flatMap}
 use Rattle.tree.proofs.Halves.{held-half}
 use Rattle.tree.proofs.Fits.{FitAt}
 use Rattle.tree.proofs.Emission.{groups-is}
@@ -77,7 +75,7 @@ module _ (S : Space) where
   flat-held n (x ∷ l) = ap (λ y. held S n x ++ y) (flat-held n l)
 
   -- the entries of the row are those below the way, in some order
-  pub row-entries : (n : ℕ) (w : Way S n) → Bag S (flatMap (held S n) (row S n w)) (wayHeld S n w)
+  pub row-entries : (n : ℕ) (w : Way S n) → Bag (flatMap (held S n) (row S n w)) (wayHeld S n w)
   row-entries n w q = ap (countOf q) (sym (ap (flat S) (groups-is S n w) ∙ flat-held n (row S n w))) ∙ bag-way S n w q
 
   single : (es : List (EntryOf S)) → flatMap (held S zero) es ≡ es
@@ -90,40 +88,8 @@ module _ (S : Space) where
   line-row zero es = unfold row groups in ap (S .leafLine) (flat-held zero es ∙ single es)
   line-row (suc n) w = ap (S .nodeLine) (groups-is S (suc n) w)
 
-  -- Bags
-  pub bag-trans : (a b c : List (EntryOf S)) → Bag S a b → Bag S b c → Bag S a c
-  bag-trans a b c h k q = h q ∙ k q
-
-  pub bag-sym : (a b : List (EntryOf S)) → Bag S a b → Bag S b a
-  bag-sym a b h q = sym (h q)
-
-  keep-and : (p q : EntryOf S → Bool) (l : List (EntryOf S)) → countOf q (keep p l) ≡ countOf (λ a. p a && q a) l
-  keep-and p q l = countOf-keep q p l
-
-  pub bag-keep : (p : EntryOf S → Bool) (g h : List (EntryOf S)) → Bag S g h → Bag S (keep p g) (keep p h)
-  bag-keep p g h b q = keep-and p q g ∙ b (λ a. p a && q a) ∙ sym (keep-and p q h)
-
-  pub bag-length : (g h : List (EntryOf S)) → Bag S g h → length g ≡ length h
-  bag-length g h b = sym (countOf-every g) ∙ b (λ a. true) ∙ countOf-every h
-
-  all-count : (q : EntryOf S → Bool) (l : List (EntryOf S)) → All (λ e. q e ≡ true) l → countOf (λ e. not (q e)) l ≡ 0
-  all-count q l h = ap length (keep-none (λ e. not (q e)) l (all-map (λ e. q e ≡ true) (λ e. not (q e) ≡ false) l (λ e k. ap not k) h))
-
-  count-all : (q : EntryOf S → Bool) (l : List (EntryOf S)) → countOf (λ e. not (q e)) l ≡ 0 → All (λ e. q e ≡ true) l
-  unfolding All keep
-  count-all q [] h = tt
-  count-all q (e ∷ l) h = go (q e) refl h (count-all q l)
-    where
-      go : (b : Bool) → q e ≡ b → length (cond (not b) (e ∷ keep (λ x. not (q x)) l) (keep (λ x. not (q x)) l)) ≡ 0 → (countOf (λ x. not (q x)) l ≡ 0 → All (λ x. q x ≡ true) l) → All (λ x. q x ≡ true) (e ∷ l)
-      go true i k f = unfold All in (i, f k)
-      go false i k f = let z : suc (length (keep (λ x. not (q x)) l)) ≡ 0 = k in absurd (omega arith)
-
-  -- what holds of all of a bag's entries
-  pub bag-all : (q : EntryOf S → Bool) (g h : List (EntryOf S)) → Bag S g h → All (λ e. q e ≡ true) h → All (λ e. q e ≡ true) g
-  bag-all q g h b a = count-all q g (b (λ e. not (q e)) ∙ all-count q h a)
-
   -- two groups of a row replaced by groups with the same entries
-  pub alike-mid : (a c : List (List (EntryOf S))) (x y x′ y′ : List (EntryOf S)) → Bag S x x′ → Bag S y y′ → Alike S (a ++ ((x ∷ y ∷ []) ++ c)) (a ++ ((x′ ∷ y′ ∷ []) ++ c))
+  pub alike-mid : (a c : List (List (EntryOf S))) (x y x′ y′ : List (EntryOf S)) → Bag x x′ → Bag y y′ → Alike S (a ++ ((x ∷ y ∷ []) ++ c)) (a ++ ((x′ ∷ y′ ∷ []) ++ c))
   alike-mid [] c x y x′ y′ h k = (h, (k, alike-self c))
     where
       alike-self : (gs : List (List (EntryOf S))) → Alike S gs gs
@@ -131,7 +97,7 @@ module _ (S : Space) where
       alike-self (g ∷ gs) = ((λ q. refl), alike-self gs)
   alike-mid (g ∷ a) c x y x′ y′ h k = ((λ q. refl), alike-mid a c x y x′ y′ h k)
 
-  pub alike-all : (P Q : List (EntryOf S) → Type 0) → ((g h : List (EntryOf S)) → Bag S g h → P h → Q g) → (gs hs : List (List (EntryOf S))) → Alike S gs hs → All P hs → All Q gs
+  pub alike-all : (P Q : List (EntryOf S) → Type 0) → ((g h : List (EntryOf S)) → Bag g h → P h → Q g) → (gs hs : List (List (EntryOf S))) → Alike S gs hs → All P hs → All Q gs
   unfolding All
   alike-all P Q f [] [] a h = tt
   alike-all P Q f [] (y ∷ hs) a h = absurd a

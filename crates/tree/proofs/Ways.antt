@@ -6,14 +6,14 @@ use mathlib.Core.List.{List, [], _∷_, _++_, map, flatMap}
 use mathlib.Core.Option.{some, bind}
 use lib.ListN.{length, length-append}
 use native.Mathlib.Omega.{arith}
-use Rattle.tree.specs.Lists.{All, countOf}
+use Rattle.tree.specs.Lists.{All, countOf, Bag}
 use Rattle.tree.specs.Space.{Space, Chosen}
 use Rattle.tree.specs.Nodes.{EntryOf, Item, itemHas, held}
 use Rattle.tree.specs.Sound.{Count, SoundItem, SoundItems}
 use Rattle.tree.specs.Split.{split, lineOf}
 use Rattle.tree.specs.Insert.{insertAt}
 use Rattle.tree.specs.Plan.{Way, descend, row, build}
-use Rattle.tree.specs.Pass.{wayHeld, Bag}
+use Rattle.tree.specs.Pass.{wayHeld}
 use Rattle.tree.proofs.Lists.{all-map, all-of-map, flatMap-append}
 use Rattle.tree.proofs.Counts.{countOf-append}
 use Rattle.tree.proofs.Any.{bind-some}
@@ -146,7 +146,7 @@ module _ (S : Space) where
     turn-entries n ch e u q i = simp (flatMap-append, countOf-append) (around n ch e u q i)
 
     -- The entries below a way are those of the node before and the new one, in some order.
-    pub way-entries : (n : ℕ) (p : S .Poly) (items : List (Item S n)) (e : EntryOf S) (w : Way S n) → descend S n p items e ≡ some w → Bag S (wayHeld S n w) (flatMap (held S n) items ++ (e ∷ []))
+    pub way-entries : (n : ℕ) (p : S .Poly) (items : List (Item S n)) (e : EntryOf S) (w : Way S n) → descend S n p items e ≡ some w → Bag (wayHeld S n w) (flatMap (held S n) items ++ (e ∷ []))
     unfolding wayHeld
     way-entries zero p es e w h q = rw (descend-leaf p es e w h, held-zero S es)
     way-entries (suc n) p bs e w h q =

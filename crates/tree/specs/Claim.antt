@@ -8,7 +8,7 @@ use mathlib.Core.Path.{_≡_}
 use lib.Dec.{eqb}
 use lib.ListN.{length}
 use Rattle.polygons.specs.Lists.{any}
-use Rattle.tree.specs.Lists.{All, countOf, nth}
+use Rattle.tree.specs.Lists.{All, countOf, Bag, nth}
 use Rattle.tree.specs.Space.{Space}
 use Rattle.tree.specs.Nodes.{EntryOf, Item}
 use Rattle.tree.specs.Root.{Root}
@@ -48,7 +48,7 @@ module _ (S : Space) where
       pub room : nodeCount S i ≤ N
       -- "The entries held are exactly those .. as document 01's record gives them": every test is passed by as many, and
       -- each cell is held at most once
-      pub entries-same : (q : EntryOf S → Bool) → countOf q (entries S i) ≡ countOf q r
+      pub entries-same : Bag (entries S i) r
       pub entries-once : (c : S .Cell) → countOf (ofCell S c) (entries S i) ≡ cond (holds S c i) 1 0
       -- "no cell lies in the polygons of two different nodes of equal depth"
       pub separate : (d j k : ℕ) (p q : S .Poly) (c : S .Cell)

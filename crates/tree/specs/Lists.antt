@@ -3,6 +3,7 @@ use Prim.Native.Nat.{ℕ, zero, suc, _+_}
 use mathlib.Core.Bool.{Bool, true, false, cond}
 use mathlib.Core.List.{List, [], _∷_}
 use mathlib.Core.Option.{Option, none, some}
+use mathlib.Core.Path.{_≡_}
 use lib.ListN.{length}
 
 -- The elements that pass the test, in their order.
@@ -13,6 +14,10 @@ keep p (a ∷ l) = cond (p a) (a ∷ keep p l) (keep p l)
 -- How many elements pass the test.
 abbrev pub countOf : {A : Type 0} → (A → Bool) → List A → ℕ
 countOf p l = length (keep p l)
+
+-- The same elements, each as often, in any order: every test is passed by as many of both.
+abbrev pub Bag : {A : Type 0} → List A → List A → Type 0
+Bag {A} l m = (q : A → Bool) → countOf q l ≡ countOf q m
 
 -- The sum of the numbers that the elements give.
 unfoldable pub total : {A : Type 0} → (A → ℕ) → List A → ℕ

@@ -3,10 +3,9 @@
 use Prim.Native.Nat.{ℕ, zero, suc}
 use mathlib.Core.Bool.{Bool, true, cond, _&&_}
 use mathlib.Core.List.{List, [], _∷_, _++_, map, flatMap}
-use mathlib.Core.Path.{_≡_}
 use lib.Dec.{leb}
 use lib.ListN.{length}
-use Rattle.tree.specs.Lists.{keep, countOf}
+use Rattle.tree.specs.Lists.{keep, Bag}
 use Rattle.tree.specs.Space.{Side, left, right, Space}
 use Rattle.tree.specs.Nodes.{EntryOf, Item, entryOn, held}
 use Rattle.tree.specs.Plan.{Way, groupIf, branchUnder}
@@ -44,10 +43,6 @@ module _ (S : Space) where
   unfoldable pub plain : (n : ℕ) → Way S n → List (List (EntryOf S))
   plain zero es = map (held S zero) es
   plain (suc n) w = map (held S (suc n)) (w .before) ++ (cutPlain n (plain n (w .below)) (wayHeld n (w .below)) ++ map (held S (suc n)) (w .after))
-
-  -- The same entries in any order.
-  abbrev pub Bag : List (EntryOf S) → List (EntryOf S) → Type 0
-  Bag g h = (q : EntryOf S → Bool) → countOf q g ≡ countOf q h
 
   -- Equal groups but for the order inside them.
   abbrev pub Alike : List (List (EntryOf S)) → List (List (EntryOf S)) → Type 0

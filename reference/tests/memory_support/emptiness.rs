@@ -22,6 +22,13 @@ impl EmptinessOutput {
         }
     }
 
+    /// What the query leaves behind that gets the yes or no and the visits and returns the answer.
+    pub fn of(query: impl FnOnce(&mut u32, &mut u32) -> u32) -> EmptinessOutput {
+        let mut output = EmptinessOutput::before();
+        output.answer = query(&mut output.empty, &mut output.visits);
+        output
+    }
+
     /// The refusal of that number, which stores nothing.
     pub fn refused(answer: u32) -> EmptinessOutput {
         EmptinessOutput {

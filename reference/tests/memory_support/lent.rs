@@ -1,20 +1,16 @@
 //! Calls on a lent index, made to both implementations and compared.
 
+use super::asked::{number, Asked, Proved, Second};
 use super::emptiness::EmptinessOutput;
 use super::guard::{fill, guarded, GUARD};
 use super::nearest::NearestOutput;
 use super::outcome::{ClearOutput, HeldOutput, PointOutput, WindowOutput};
 use super::work::Work;
 use reference::geometry::Cell;
-use reference::memory::{self, read_back, Reading, Refusal};
+use reference::memory::{self, read_back, Reading};
 use reference::proved_index;
 use std::fmt::{Arguments, Debug};
 use std::ops::Range;
-
-/// The number of the answer.
-fn number(answer: Result<(), Refusal>) -> u32 {
-    answer.map_or_else(Refusal::number, |()| 0)
-}
 
 /// A lent index. The guarded list is there twice, so that a change is seen.
 pub struct Lent {
@@ -61,15 +57,8 @@ impl Lent {
     }
 
     pub fn point(&self, reading: &Reading, cell: Cell, place: Arguments) -> PointOutput {
-        let (mut second, mut proved) = (PointOutput::before(), PointOutput::before());
-        let PointOutput {
-            held, visits, tag, ..
-        } = &mut second;
-        second.answer = number(reading.point(cell, held, visits, tag));
-        let PointOutput {
-            held, visits, tag, ..
-        } = &mut proved;
-        proved.answer = proved_index::point(self.index(), cell, held, visits, tag);
+        let second = Second(reading).point(cell);
+        let proved = Proved(self.index()).point(cell);
         self.check(&second, &proved, format_args!("{place}: point {cell:?}"));
         second.check_untouched(place);
         second
@@ -84,23 +73,8 @@ impl Lent {
         place: Arguments,
     ) -> WindowOutput {
         let before = WindowOutput::before(guarded((0..length).map(fill)));
-        let (mut second, mut proved) = (before.clone(), before.clone());
-        let WindowOutput {
-            matches,
-            visits,
-            list,
-            ..
-        } = &mut second;
-        let list = &mut list[GUARD..GUARD + length];
-        second.answer = number(reading.window(window, list, matches, visits));
-        let WindowOutput {
-            matches,
-            visits,
-            list,
-            ..
-        } = &mut proved;
-        let list = &mut list[GUARD..GUARD + length];
-        proved.answer = proved_index::window(self.index(), window, list, matches, visits);
+        let second = Second(reading).window(window, &before);
+        let proved = Proved(self.index()).window(window, &before);
         self.check(
             &second,
             &proved,
@@ -111,23 +85,8 @@ impl Lent {
     }
 
     pub fn nearest(&self, reading: &Reading, cell: Cell, place: Arguments) -> NearestOutput {
-        let (mut second, mut proved) = (NearestOutput::before(), NearestOutput::before());
-        let NearestOutput {
-            near,
-            tag,
-            distance,
-            visits,
-            ..
-        } = &mut second;
-        second.answer = number(reading.nearest(cell, near, tag, distance, visits));
-        let NearestOutput {
-            near,
-            tag,
-            distance,
-            visits,
-            ..
-        } = &mut proved;
-        proved.answer = proved_index::nearest(self.index(), cell, near, tag, distance, visits);
+        let second = Second(reading).nearest(cell);
+        let proved = Proved(self.index()).nearest(cell);
         self.check(&second, &proved, format_args!("{place}: nearest {cell:?}"));
         second.check_untouched(place);
         second
@@ -139,11 +98,8 @@ impl Lent {
         window: [u32; 4],
         place: Arguments,
     ) -> EmptinessOutput {
-        let (mut second, mut proved) = (EmptinessOutput::before(), EmptinessOutput::before());
-        let EmptinessOutput { empty, visits, .. } = &mut second;
-        second.answer = number(reading.is_empty(window, empty, visits));
-        let EmptinessOutput { empty, visits, .. } = &mut proved;
-        proved.answer = proved_index::is_empty(self.index(), window, empty, visits);
+        let second = Second(reading).is_empty(window);
+        let proved = Proved(self.index()).is_empty(window);
         let call = format_args!("{place}: is_empty {window:?}");
         self.check(&second, &proved, call);
         second.check_untouched(place);

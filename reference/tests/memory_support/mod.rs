@@ -4,6 +4,7 @@
 // Each test program uses a part of this module.
 #![allow(dead_code)]
 
+pub mod asked;
 pub mod built;
 pub mod cases;
 pub mod changes;
@@ -17,9 +18,11 @@ pub mod images;
 pub mod lent;
 pub mod loose;
 pub mod nearest;
+pub mod orders;
 pub mod outcome;
 pub mod queries;
 pub mod ragged;
+pub mod same_points;
 pub mod session;
 pub mod small;
 pub mod steep;

@@ -27,6 +27,21 @@ impl NearestOutput {
         }
     }
 
+    /// What the query leaves behind that gets the entry's cell and tag, the distance and the visits
+    /// and returns the answer.
+    pub fn of(query: impl FnOnce(&mut Cell, &mut u32, &mut u64, &mut u32) -> u32) -> NearestOutput {
+        let mut output = NearestOutput::before();
+        let NearestOutput {
+            near,
+            tag,
+            distance,
+            visits,
+            ..
+        } = &mut output;
+        output.answer = query(near, tag, distance, visits);
+        output
+    }
+
     /// The refusal of that number, which stores nothing.
     pub fn refused(answer: u32) -> NearestOutput {
         NearestOutput {

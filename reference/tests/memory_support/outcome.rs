@@ -1,5 +1,6 @@
 //! What a call on a lent index leaves behind, and the kinds of it that the tests count.
 
+use super::guard::GUARD;
 use reference::memory::Reading;
 use std::fmt::Arguments;
 
@@ -73,6 +74,13 @@ impl PointOutput {
         }
     }
 
+    /// What the query leaves behind that gets held, visits and tag and returns the answer.
+    pub fn of(query: impl FnOnce(&mut u32, &mut u32, &mut u32) -> u32) -> PointOutput {
+        let mut output = PointOutput::before();
+        output.answer = query(&mut output.held, &mut output.visits, &mut output.tag);
+        output
+    }
+
     /// After a refusal all numbers are as they were, and the tag also where the cell is not held.
     pub fn check_untouched(&self, place: Arguments) {
         let mut expected = PointOutput::before();
@@ -120,6 +128,15 @@ impl WindowOutput {
         }
     }
 
+    /// What the query leaves behind that gets the list, matches and visits and returns the answer.
+    pub fn after(&self, query: impl FnOnce(&mut [u32], &mut u32, &mut u32) -> u32) -> WindowOutput {
+        let mut output = self.clone();
+        let end = output.list.len() - GUARD;
+        let list = &mut output.list[GUARD..end];
+        output.answer = query(list, &mut output.matches, &mut output.visits);
+        output
+    }
+
     /// After a refusal all is as it was, but for the matches of refusal 9; else at least the list
     /// past the matches is, and what lies next to it.
     pub fn check_untouched(&self, before: &WindowOutput, guard: usize, place: Arguments) {
@@ -133,6 +150,15 @@ impl WindowOutput {
             expected.matches = self.matches;
         }
         assert_eq!(*self, expected, "{place}");
+    }
+
+    /// x, y and tag of each entry that an accepted query wrote.
+    pub fn entries(&self) -> Vec<[u32; 3]> {
+        if self.answer != 0 {
+            return Vec::new();
+        }
+        let written = &self.list[GUARD..GUARD + 3 * self.matches as usize];
+        written.chunks(3).map(|e| [e[0], e[1], e[2]]).collect()
     }
 
     pub fn kind(&self) -> &'static str {

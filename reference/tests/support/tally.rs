@@ -28,6 +28,11 @@ impl Tally {
         }
     }
 
+    /// The counts of one case of that kind.
+    pub fn of(kind: &'static str) -> Tally {
+        Tally(BTreeMap::from([(kind, 1)]))
+    }
+
     pub fn count(&mut self, kind: &'static str) {
         *self.0.entry(kind).or_default() += 1;
     }
@@ -39,10 +44,15 @@ impl Tally {
         }
     }
 
+    /// How often the kind was seen.
+    pub fn seen(&self, kind: &str) -> u64 {
+        self.0.get(kind).copied().unwrap_or(0)
+    }
+
     /// Fails where a kind was seen less often than required.
     pub fn require(&self, least: u64, kinds: &[&'static str]) {
         for kind in kinds {
-            let seen = self.0.get(kind).copied().unwrap_or(0);
+            let seen = self.seen(kind);
             assert!(
                 seen >= least,
                 "'{kind}' seen {seen} times, not {least}: {self}"
