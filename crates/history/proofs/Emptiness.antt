@@ -34,10 +34,10 @@ never : {A : Type 0} → false ≡ true → A
 never f = absurd (false≢true f)
 
 -- of the plane
-abbrev isEmpty : Rect → PlaneIndex → Bool
+abbrev pub isEmpty : Rect → PlaneIndex → Bool
 isEmpty w i = tree.isEmpty (planeSpace fanout) (planeWindow fanout) w i
 
-abbrev emptyVisits : Rect → PlaneIndex → ℕ
+abbrev pub emptyVisits : Rect → PlaneIndex → ℕ
 emptyVisits w i = tree.emptyVisits (planeSpace fanout) (planeWindow fanout) w i
 
 abbrev windowVisits : Rect → PlaneIndex → ℕ

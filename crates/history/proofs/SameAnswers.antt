@@ -1,23 +1,20 @@
 -- Two memories whose indexes hold the same entries in any order: queries that kept their contracts answer alike.
-use Prim.Native.Nat.{ℕ, _*_, _≤_}
-use mathlib.Core.Bool.{Bool, true, false, cond, false≢true}
-use mathlib.Core.List.{List, [], _∷_, _++_, flatMap}
+use Prim.Native.Nat.{ℕ, _≤_}
+use mathlib.Core.Bool.{Bool, true, false, cond}
+use mathlib.Core.List.{List, [], _∷_}
 use mathlib.Core.Option.{Option, none, some}
 use mathlib.Core.Path.{_≡_, refl, sym, ap, _∙_}
 use native.Mathlib.Omega.{arith}
-use lib.Dec.{leb, eqb}
-use lib.ListN.{length, drop, getD}
-use borrow.Author.Tests.{le-leb}
+use lib.Dec.{eqb}
+use lib.ListN.{length}
 use Rattle.geometry.specs.declared.rect.Cell.{Cell}
 use Rattle.geometry.specs.declared.rect.Rect.{Rect}
 use Rattle.geometry.specs.Cells.{onGrid, valid}
 use Rattle.tree.specs.Lists.{countOf, Bag}
 use Rattle.tree.specs.Tree.{entries}
-use Rattle.tree.specs.Query.{ofCell, holds, entryAt, visits, matching, windowVisits}
+use Rattle.tree.specs.Query.{ofCell, holds, entryAt, visits, matching}
 use Rattle.tree.specs.Nearest.{nearest, walk}
-use Rattle.tree.specs.Emptiness.{isEmpty, emptyVisits}
 use Rattle.tree.specs.Calls.{insertCall, removeCall, clearCall, pointCall, windowCall, nearestCall, emptyCall}
-use Rattle.tree.proofs.Counts.{length-keep}
 use Rattle.tree.proofs.Bags.{bag-keep, bag-length}
 use Rattle.tree.proofs.Leaves.{cell-once}
 use Rattle.tree.proofs.SameEntries.{same-matches, same-entry}
@@ -26,21 +23,21 @@ use Rattle.plane.specs.Lines.{CellEntry}
 use Rattle.plane.specs.Plane.{planeSpace, planeRoot}
 use Rattle.plane.specs.Windows.{planeWindow}
 use Rattle.plane.proofs.Rects.{plane-space-laws}
-use Rattle.memory.specs.Image.{entryNumbers}
 use Rattle.memory.specs.Reading.{reading}
 use Rattle.memory.specs.Fanout.{fanout}
-use Rattle.index.specs.Answers.{PlaneIndex, matchesIn, pointEnd, pointRead, pointAnswer, windowRead, windowAnswer, windowWritten, windowList}
+use Rattle.index.specs.Answers.{PlaneIndex, matchesIn, pointEnd, pointRead, pointAnswer}
 use Rattle.index.specs.Answers.{nearestEnd, nearestRead, nearestAnswer, emptyEnd, emptyRead, emptyAnswer}
-use Rattle.index.specs.Numbers.{Told, pointTold, windowTold, nearestTold, emptyTold}
+use Rattle.index.specs.Numbers.{pointTold, nearestTold, emptyTold}
 use Rattle.index.specs.declared.answer.PointFound.the-variants as P
 use Rattle.index.specs.declared.answer.WindowFound.the-variants as W
 use Rattle.index.specs.declared.answer.NearestFound.the-variants as Near
 use Rattle.index.specs.declared.answer.EmptyFound.the-variants as E
-use Rattle.history.specs.Calls.{IndexCall, Made, accepted, withRoom}
+use Rattle.history.specs.Calls.{IndexCall, Made, withRoom}
 use Rattle.history.specs.Contract.{WindowKept, KeptBy}
-use Rattle.history.specs.SameAnswers.{without, SameButVisits, Wrote, SameWindow, SameBy}
+use Rattle.history.specs.SameAnswers.{without, SameButVisits, SameWindow, SameBy}
 use Rattle.history.proofs.Visits.{reads-sound, reads-right}
-use Rattle.history.proofs.Emptiness.{yes-exact}
+use Rattle.history.proofs.Windows.{toldBy, matched, fits, window-told, window-wrote}
+use Rattle.history.proofs.Emptiness.{isEmpty, emptyVisits, yes-exact}
 
 -- the entries that an index holds
 abbrev held : PlaneIndex → List CellEntry
@@ -49,73 +46,6 @@ held i = entries (planeSpace fanout) i
 -- the entry's cell is in the window
 abbrev inside : Rect → CellEntry → Bool
 inside w = matching (planeSpace fanout) (planeWindow fanout) w
-
-abbrev emptyOf : Rect → PlaneIndex → Bool
-emptyOf w i = isEmpty (planeSpace fanout) (planeWindow fanout) w i
-
-abbrev visitsOf : Rect → PlaneIndex → ℕ
-visitsOf w i = emptyVisits (planeSpace fanout) (planeWindow fanout) w i
-
--- A window query of a memory that holds the index i.
-module _ (m : List ℕ) (w : Rect) (i : PlaneIndex) (e : reading fanout m ≡ some i) where
-  matched : ℕ
-  matched = length (matchesIn w i)
-
-  -- what it tells, by the tests of the window and of the result list
-  toldBy : Bool → Bool → Told
-  toldBy a b =
-      let v = windowVisits (planeSpace fanout) (planeWindow fanout) w i in
-      windowTold (cond a (cond b (W.Found matched v) (W.ShortList matched)) W.BadWindow)
-
-  tells : (len : ℕ) → windowTold (windowAnswer m w len) ≡ toldBy (valid w) (leb (3 * matched) len)
-  unfolding windowAnswer windowRead matched toldBy
-  tells len = rw (reads-right m i e, e)
-
-  -- its result list with the matches at the start
-  written : List ℕ → List ℕ
-  written l = flatMap entryNumbers (matchesIn w i) ++ drop (3 * length (matchesIn w i)) l
-
-  leaves : (l : List ℕ) → windowList m w l ≡ cond (valid w) (cond (leb (3 * matched) (length l)) (written l) l) l
-  unfolding windowList windowWritten matched written
-  leaves l = rw (reads-right m i e, e)
-
-  -- it is accepted if the window is valid and the list has room for every entry held
-  pub window-accepts : (len : ℕ) → valid w ≡ true → 3 * length (held i) ≤ len
-      → accepted (windowTold (windowAnswer m w len)) ≡ true
-  unfolding toldBy matched
-  window-accepts len g h =
-      let k = length-keep (inside w) (held i) in
-      let room = le-leb (3 * matched) len (omega arith) in
-      ap accepted (tells len) ∙ rw (g, room)
-
-  -- accepted, it found and wrote the matches of the index
-  accepted-writes : (a b : Bool) (l : List ℕ) → accepted (toldBy a b) ≡ true
-      → (getD (toldBy a b .values) 0 0 ≡ length (matchesIn w i)) × (cond a (cond b (written l) l) l ≡ written l)
-  unfolding toldBy matched
-  accepted-writes true true l f = (refl, refl)
-  accepted-writes true false l f = absurd (false≢true f)
-  accepted-writes false b l f = absurd (false≢true f)
-
--- A call of it that was handed that memory.
-module _ (m : List ℕ) (w : Rect) (i : PlaneIndex) (e : reading fanout m ≡ some i)
-    (d : Made) (p : WindowKept w d) (h : d .before ≡ m) where
-  fits : Bool
-  fits = leb (3 * matched m w i e) (length (d .lent))
-
-  told : d .told ≡ toldBy m w i e (valid w) fits
-  unfolding fits
-  told =
-      p .told ∙ ap windowTold (p .contract .answer)
-      ∙ ap (λ x. windowTold (windowAnswer x w (length (d .lent)))) h ∙ tells m w i e (length (d .lent))
-
-  wrote : accepted (d .told) ≡ true → Wrote d (matchesIn w i)
-  unfolding fits written
-  wrote f =
-      let r = accepted-writes m w i e (valid w) fits (d .lent) (ap accepted (sym told) ∙ f) in
-      record {
-        matches = ap (λ x. getD (x .values) 0 0) told ∙ r .0;
-        list = p .contract .list ∙ ap (λ x. windowList x w (d .lent)) h ∙ leaves m w i e (d .lent) ∙ r .1;
-      }
 
 -- Two memories that hold indexes with the same entries.
 module _ (m m′ : List ℕ) (i j : PlaneIndex) (e : reading fanout m ≡ some i) (f : reading fanout m′ ≡ some j)
@@ -169,10 +99,10 @@ module _ (m m′ : List ℕ) (i j : PlaneIndex) (e : reading fanout m ≡ some i
   empty-told-same : (w : Rect) → SameButVisits 1 (emptyTold (emptyAnswer m w)) (emptyTold (emptyAnswer m′ w))
   unfolding emptyAnswer emptyRead emptyEnd
   empty-told-same w =
-      let k : emptyOf w i ≡ emptyOf w j =
+      let k : isEmpty w i ≡ isEmpty w j =
       yes-exact m w i e ∙ ap (λ n. eqb n 0) (as-many w) ∙ sym (yes-exact m′ w j f) in
       rw (reads-right m i e, e, reads-right m′ j f, f, ← k)
-      (go (valid w) (emptyOf w i) (visitsOf w i) (visitsOf w j))
+      (go (valid w) (isEmpty w i) (emptyVisits w i) (emptyVisits w j))
     where
       go : (a t : Bool) (v v′ : ℕ)
           → SameButVisits 1 (emptyTold (cond a (emptyEnd t v) E.BadWindow))
@@ -195,8 +125,8 @@ module _ (m m′ : List ℕ) (i j : PlaneIndex) (e : reading fanout m ≡ some i
   window-same : (w : Rect) (d d′ : Made) → WindowKept w d → WindowKept w d′ → d .before ≡ m → d′ .before ≡ m′
       → SameWindow d d′
   window-same w d d′ p p′ h h′ =
-      let t = told m w i e d p h in
-      let t′ = told m′ w j f d′ p′ h′ in
+      let t = window-told m w i e d p h in
+      let t′ = window-told m′ w j f d′ p′ h′ in
       let r = window-told-same w (valid w) (fits m w i e d p h) (fits m′ w j f d′ p′ h′) in
       record {
         number = ap (λ x. withRoom (x .number)) t ∙ r .0 ∙ ap (λ x. withRoom (x .number)) (sym t′);
@@ -204,8 +134,8 @@ module _ (m m′ : List ℕ) (i j : PlaneIndex) (e : reading fanout m ≡ some i
         written = λ g g′. record {
           entries = matchesIn w i;
           entries′ = matchesIn w j;
-          wrote = wrote m w i e d p h g;
-          wrote′ = wrote m′ w j f d′ p′ h′ g′;
+          wrote = window-wrote m w i e d p h g;
+          wrote′ = window-wrote m′ w j f d′ p′ h′ g′;
           rearranged =
               same-matches (planeSpace fanout) (plane-space-laws fanout) (held i) (held j) same (planeWindow fanout) w;
         };

@@ -22,8 +22,9 @@ use Rattle.history.specs.Calls.{Made, accepted, recordFrom}
 use Rattle.history.specs.Contract.{WindowKept, KeptBy, Kept}
 use Rattle.history.specs.Claim.{HistoryClaim}
 use Rattle.history.specs.SameAnswers.{FromFresh, Entered, SameAnswer}
+use Rattle.history.proofs.Windows.{window-accepts}
 use Rattle.history.proofs.History.{kept-history}
-use Rattle.history.proofs.SameAnswers.{window-accepts, same-by}
+use Rattle.history.proofs.SameAnswers.{same-by}
 
 -- the claim about such a list
 claim : (N : ℕ) (ds : List Made) (m : List ℕ) → FromFresh N ds m → All Kept ds → HistoryClaim N ds m

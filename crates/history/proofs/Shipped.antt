@@ -31,9 +31,9 @@ use Rattle.history.specs.Claim.{visitsTold, VisitsExact, NearestExact, H
 use Rattle.history.specs.Emptiness.{EmptyExact, EmptyAsWindow}
 use Rattle.history.proofs.History.{kept-history, call-visits}
 use Rattle.history.proofs.Visits.{point-accepts}
+use Rattle.history.proofs.Windows.{window-accepts}
 use Rattle.history.proofs.Nearest.{nearest-accepts, nearest-on-index}
 use Rattle.history.proofs.Emptiness.{empty-accepts, empty-on-index, empty-as-window as as-window}
-use Rattle.history.proofs.SameAnswers.{window-accepts}
 use Rattle.index.proofs.clear as clear-fn
 use Rattle.index.proofs.clear.Reads as clear
 use Rattle.index.proofs.clear.Kinds as clear-kinds

@@ -2,7 +2,7 @@
 use Prim.Native.Nat.{ℕ, suc, _+_, _<_, _≤_}
 use mathlib.Core.Bool.{true, false}
 use mathlib.Core.Path.{_≡_, sym, ap, _∙_, subst}
-use mathlib.Core.List.{List, [], _∷_, _++_, map, flatMap, append-nil}
+use mathlib.Core.List.{List, [], _∷_, _++_, map, flatMap, append-nil, map-append}
 use mathlib.Core.Option.{some}
 use lib.ListN.{length, take, drop, length-append, length-take}
 use lib.Seq.{drop-at}
@@ -40,7 +40,7 @@ use Rattle.insertion.proofs.DescentLaws.{items-are}
 use Rattle.tree.proofs.GoodWays.{GoodWay, way-fits}
 use Rattle.tree.proofs.Ways.{Descent, descent, way-entries}
 use Rattle.tree.proofs.Bags.{bag-keep, bag-length, bag-all}
-use Rattle.tree.proofs.SplitGroups.{split-groups, few-row, row-entries, line-row, alike-mid, alike-all, map-append}
+use Rattle.tree.proofs.SplitGroups.{split-groups, few-row, row-entries, line-row, alike-mid, alike-all}
 use Rattle.layout.specs.Nodes.{countAt}
 
 abbrev laws : Laws (planeSpace fanout)

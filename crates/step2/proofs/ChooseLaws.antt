@@ -2,7 +2,7 @@
 use Prim.Native.Nat.{ℕ, suc, _+_, _≤_, _<_}
 use mathlib.Core.Path.{_≡_, refl, sym, ap, _∙_}
 use mathlib.Core.Bool.{Bool, true, false, or-true}
-use mathlib.Core.List.{List, [], _∷_, _++_, map, flatMap, append-assoc}
+use mathlib.Core.List.{List, [], _∷_, _++_, map, flatMap, append-assoc, map-append}
 use mathlib.Core.Option.{none, some, bind}
 use native.Mathlib.Omega.{arith}
 use borrow.Author.Tests.{eq-eqb, ne-eqb}
@@ -85,10 +85,6 @@ branch-at (b ∷ bs) (x ∷ before) q after e =
       front = rw (p, s .front);
       back = s .back;
     }
-
-map-append : {A C : Type 0} (f : A → C) (l m : List A) → map f (l ++ m) ≡ map f l ++ map f m
-map-append f [] m = refl
-map-append f (a ∷ l) m = ap (λ t. f a ∷ t) (map-append f l m)
 
 -- the rectangles of all other branches
 others : {A : Type 0} {bs : List (Branch (List Rect) A)} {i : ℕ} {before : List (List Rect)} {q : List Rect} {after : List (List Rect)}

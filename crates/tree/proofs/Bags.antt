@@ -18,9 +18,6 @@ module _ {A : Type 0} where
   pub bag-sym : (l m : List A) → Bag l m → Bag m l
   bag-sym l m h q = sym (h q)
 
-  pub bag-trans : (l m n : List A) → Bag l m → Bag m n → Bag l n
-  bag-trans l m n h k q = h q ∙ k q
-
   -- the elements that pass a test
   pub bag-keep : (p : A → Bool) (l m : List A) → Bag l m → Bag (keep p l) (keep p m)
   bag-keep p l m h q = countOf-keep q p l ∙ h (λ a. p a && q a) ∙ sym (countOf-keep q p m)

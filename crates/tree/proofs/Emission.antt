@@ -2,7 +2,7 @@
 use Prim.Native.Nat.{ℕ, zero, suc, _≤_}
 use mathlib.Core.Bool.{Bool, true, false, cond}
 use mathlib.Core.Path.{_≡_, refl, sym, ap, _∙_}
-use mathlib.Core.List.{List, [], _∷_, _++_, append-nil, map, flatMap}
+use mathlib.Core.List.{List, [], _∷_, _++_, append-nil, map, flatMap, map-append}
 use mathlib.Core.Option.{Option, none, some, bind}
 use lib.ListN.{length, length-map}
 use lib.Dec.{leb}
@@ -16,10 +16,7 @@ use Rattle.tree.specs.Plan.{Way, descend, row, build, flat, lineFor, gro
 use Rattle.tree.proofs.Lists.{flatMap-append, flatMap-one}
 use Rattle.tree.proofs.Halves.{half-one, held-half}
 use Rattle.tree.proofs.Fits.{half-holds}
-
-map-append : {A B : Type 0} (f : A → B) (l m : List A) → map f (l ++ m) ≡ map f l ++ map f m
-map-append f [] m = refl
-map-append f (a ∷ l) m = ap (λ x. f a ∷ x) (map-append f l m)
+use Rattle.tree.proofs.InsertEntries.{held-zero}
 
 module _ (S : Space) where
   -- insertion is: descend, then build
@@ -78,18 +75,13 @@ module _ (S : Space) where
       go false = under-append (suc n) ss (half S (suc n) (left (lineOf S n l)) b) (half S (suc n) (right (lineOf S n l)) b) ∙ rw (under-half n (left (lineOf S n l)) ss p l, under-half n (right (lineOf S n l)) ss p l)
 
   -- the plan is computed from entries
-  flat-held : (n : ℕ) (l : List (Item S n)) → flat S (map (held S n) l) ≡ flatMap (held S n) l
+  pub flat-held : (n : ℕ) (l : List (Item S n)) → flat S (map (held S n) l) ≡ flatMap (held S n) l
   unfolding flat flatMap
   flat-held n [] = refl
   flat-held n (x ∷ l) = ap (λ y. held S n x ++ y) (flat-held n l)
 
-  single : (es : List (EntryOf S)) → flatMap (held S zero) es ≡ es
-  unfolding flatMap held
-  single [] = refl
-  single (e ∷ es) = ap (λ y. e ∷ y) (single es)
-
   line-is : (n : ℕ) (l : List (Item S n)) → lineFor S n (map (held S n) l) ≡ lineOf S n l
-  line-is zero es = ap (S .leafLine) (flat-held zero es ∙ single es)
+  line-is zero es = ap (S .leafLine) (flat-held zero es ∙ held-zero S es)
   line-is (suc n) bs = refl
 
   group-if : (n : ℕ) (l : List (Item S n)) → length l ≤ 1 → All (λ y. notEmpty (held S n y) ≡ true) l → map (held S n) l ≡ groupIf S (flatMap (held S n) l)

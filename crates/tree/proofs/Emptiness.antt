@@ -7,7 +7,6 @@ use mathlib.Core.Option.{none, some}
 use native.Mathlib.Omega.{arith}
 use lib.Dec.{eqb}
 use lib.ListN.{length}
-use Rattle.polygons.specs.Lists.{any}
 use Rattle.tree.specs.Lists.{total, notEmpty}
 use Rattle.tree.specs.Space.{Space}
 use Rattle.tree.specs.Nodes.{EntryOf, Item}

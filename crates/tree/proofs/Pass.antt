@@ -15,8 +15,8 @@ use Rattle.tree.specs.Pass.{onAll, deep, wayHeld, plainFew, plainLine, c
 use Rattle.tree.proofs.Lists.{flatMap-append, flatMap-one}
 use Rattle.tree.proofs.Counts.{countOf-append}
 use Rattle.tree.proofs.Bags.{bag-keep, bag-length}
-use Rattle.tree.proofs.InsertEntries.{countOf-sides}
-use Rattle.tree.proofs.Emission.{under-append, under-none, under-branch}
+use Rattle.tree.proofs.InsertEntries.{held-zero, countOf-sides}
+use Rattle.tree.proofs.Emission.{under-append, under-none, under-branch, flat-held}
 use Rattle.tree.specs.Plan as P
 
 module _ (S : Space) where
@@ -45,7 +45,7 @@ module _ (S : Space) where
   under-deep n ss l = row-deep n ss (one-deep n ss) l
 
   -- the order inside groups does not matter
-  alike-self : (gs : List (List (EntryOf S))) → Alike S gs gs
+  pub alike-self : (gs : List (List (EntryOf S))) → Alike S gs gs
   alike-self [] = tt
   alike-self (g ∷ gs) = (λ q. refl, alike-self gs)
 
@@ -71,16 +71,6 @@ module _ (S : Space) where
   unfolding flat
   flat-append a b = flatMap-append (λ g. g) a b
 
-  flat-map : (n : ℕ) (l : List (Item S n)) → flat S (map (held S n) l) ≡ flatMap (held S n) l
-  unfolding flat flatMap
-  flat-map n [] = refl
-  flat-map n (x ∷ l) = ap (λ y. held S n x ++ y) (flat-map n l)
-
-  single : (es : List (EntryOf S)) → flatMap (held S zero) es ≡ es
-  unfolding flatMap held
-  single [] = refl
-  single (e ∷ es) = ap (λ y. e ∷ y) (single es)
-
   flat-if : (g : List (EntryOf S)) → flat S (groupIf S g) ≡ g
   unfolding flat flatMap
   flat-if [] = refl
@@ -103,16 +93,16 @@ module _ (S : Space) where
 
   pub bag-way : (n : ℕ) (w : Way S n) → Bag (flat S (groups S n w)) (wayHeld S n w)
   unfolding groups wayHeld
-  bag-way zero es q = ap (countOf q) (flat-map zero es ∙ single es)
+  bag-way zero es q = ap (countOf q) (flat-held S zero es ∙ held-zero S es)
   bag-way (suc n) w q =
       let i = bag-way n (w .below) q in
       let c = bag-cut n (groups S n (w .below)) q in
-      simp (flat-append, countOf-append, flat-map) (omega arith)
+      simp (flat-append, countOf-append, flat-held) (omega arith)
 
   module _ (node-same : (gs hs : List (List (EntryOf S))) → Alike S gs hs → S .nodeLine gs ≡ S .nodeLine hs) where
     line-same : (n : ℕ) (gs hs : List (List (EntryOf S))) (w : Way S n) → Alike S gs hs → flat S hs ≡ flat S (groups S n w) → plainLine S n gs (wayHeld S n w) ≡ P.lineFor S n hs
     unfolding wayHeld groups
-    line-same zero gs hs es a f = ap (S .leafLine) (sym (f ∙ flat-map zero es ∙ single es))
+    line-same zero gs hs es a f = ap (S .leafLine) (sym (f ∙ flat-held S zero es ∙ held-zero S es))
     line-same (suc n) gs hs w a f = node-same gs hs a
 
     alike-cut : (n : ℕ) (gs : List (List (EntryOf S))) (w : Way S n) → Alike S gs (groups S n w) → Alike S (cutPlain S n gs (wayHeld S n w)) (cutGroups S n (groups S n w))

@@ -1,7 +1,7 @@
 -- The entries of the two halves of a node that is split, and of the row that they stand in.
 use Prim.Native.Nat.{ℕ, zero, suc, _+_, _<_, _≤_}
 use mathlib.Core.Path.{_≡_, refl, sym, ap, _∙_}
-use mathlib.Core.List.{List, [], _∷_, _++_, map, flatMap}
+use mathlib.Core.List.{List, [], _∷_, _++_, map, flatMap, map-append}
 use lib.Dec.{leb}
 use lib.ListN.{length, length-append, length-map}
 use native.Mathlib.Omega.{arith}
@@ -15,12 +15,9 @@ use Rattle.tree.specs.Pass.{wayHeld, Alike}
 use Rattle.tree.proofs.Lists.{flatMap-flatMap, flatMap-same, keep-flatMap}
 use Rattle.tree.proofs.Halves.{held-half}
 use Rattle.tree.proofs.Fits.{FitAt}
-use Rattle.tree.proofs.Emission.{groups-is}
-use Rattle.tree.proofs.Pass.{bag-way}
-
-pub map-append : {A B : Type 0} (f : A → B) (l m : List A) → map f (l ++ m) ≡ map f l ++ map f m
-map-append f [] m = refl
-map-append f (a ∷ l) m = ap (λ x. f a ∷ x) (map-append f l m)
+use Rattle.tree.proofs.InsertEntries.{held-zero}
+use Rattle.tree.proofs.Emission.{groups-is, flat-held}
+use Rattle.tree.proofs.Pass.{bag-way, alike-self}
 
 module _ (S : Space) where
   -- the entries of the halves of some items are those of the side, in order
@@ -69,32 +66,18 @@ module _ (S : Space) where
   pub few-row : (n : ℕ) (w : Way S n) → few S n w ≡ leb (length (row S n w)) (S .most)
   few-row n w = rw (groups-is S n w, length-map (row S n w) (held S n))
 
-  flat-held : (n : ℕ) (l : List (Item S n)) → flat S (map (held S n) l) ≡ flatMap (held S n) l
-  unfolding flat flatMap
-  flat-held n [] = refl
-  flat-held n (x ∷ l) = ap (λ y. held S n x ++ y) (flat-held n l)
-
   -- the entries of the row are those below the way, in some order
   pub row-entries : (n : ℕ) (w : Way S n) → Bag (flatMap (held S n) (row S n w)) (wayHeld S n w)
-  row-entries n w q = ap (countOf q) (sym (ap (flat S) (groups-is S n w) ∙ flat-held n (row S n w))) ∙ bag-way S n w q
-
-  single : (es : List (EntryOf S)) → flatMap (held S zero) es ≡ es
-  unfolding flatMap held
-  single [] = refl
-  single (e ∷ es) = ap (λ y. e ∷ y) (single es)
+  row-entries n w q = ap (countOf q) (sym (ap (flat S) (groups-is S n w) ∙ flat-held S n (row S n w))) ∙ bag-way S n w q
 
   -- the line of a node of the way, by its row
   pub line-row : (n : ℕ) (w : Way S n) → lineAt S n w ≡ lineOf S n (row S n w)
-  line-row zero es = unfold row groups in ap (S .leafLine) (flat-held zero es ∙ single es)
+  line-row zero es = unfold row groups in ap (S .leafLine) (flat-held S zero es ∙ held-zero S es)
   line-row (suc n) w = ap (S .nodeLine) (groups-is S (suc n) w)
 
   -- two groups of a row replaced by groups with the same entries
   pub alike-mid : (a c : List (List (EntryOf S))) (x y x′ y′ : List (EntryOf S)) → Bag x x′ → Bag y y′ → Alike S (a ++ ((x ∷ y ∷ []) ++ c)) (a ++ ((x′ ∷ y′ ∷ []) ++ c))
-  alike-mid [] c x y x′ y′ h k = (h, (k, alike-self c))
-    where
-      alike-self : (gs : List (List (EntryOf S))) → Alike S gs gs
-      alike-self [] = tt
-      alike-self (g ∷ gs) = ((λ q. refl), alike-self gs)
+  alike-mid [] c x y x′ y′ h k = (h, (k, alike-self S c))
   alike-mid (g ∷ a) c x y x′ y′ h k = ((λ q. refl), alike-mid a c x y x′ y′ h k)
 
   pub alike-all : (P Q : List (EntryOf S) → Type 0) → ((g h : List (EntryOf S)) → Bag g h → P h → Q g) → (gs hs : List (List (EntryOf S))) → Alike S gs hs → All P hs → All Q gs
