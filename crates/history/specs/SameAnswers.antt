@@ -72,5 +72,6 @@ SameBy (nearestCall c) d d′ = SameButVisits 4 (d .told) (d′ .told)
 -- the same yes or no
 SameBy (emptyCall w) d d′ = SameButVisits 1 (d .told) (d′ .told)
 
+-- the second call is taken to have the arguments of the first
 abbrev pub SameAnswer : Made → Made → Type 0
 SameAnswer d d′ = SameBy (d .call) d d′
