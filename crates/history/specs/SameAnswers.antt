@@ -67,9 +67,9 @@ SameBy clearCall d d′ = Unit {0}
 SameBy (pointCall c) d d′ = SameButVisits 1 (d .told) (d′ .told)
 -- 'every window query given a list long enough reports equally many matches'
 SameBy (windowCall w) d d′ = SameWindow d d′
--- the same entry and squared distance
+-- beyond the request: the same entry and squared distance
 SameBy (nearestCall c) d d′ = SameButVisits 4 (d .told) (d′ .told)
--- the same yes or no
+-- beyond the request: the same yes or no
 SameBy (emptyCall w) d d′ = SameButVisits 1 (d .told) (d′ .told)
 
 -- the second call is taken to have the arguments of the first
