@@ -22,11 +22,11 @@
  * Where a call accepts, the first 4 * *written numbers of result are the
  * rectangles of the answer; the other numbers of result stay as they were. Of
  * out the first *length bytes are written, and the other bytes stay as they
- * were. After a refusal result, out, *written, *extra, *has, *compared and
- * *length are as they were.
+ * were. After a refusal result, out, *written, *removed, *extra, *has, *compared
+ * and *length are as they were.
  *
- * No pointer is null, and result, out, written, extra, has, compared and length
- * share no memory with each other or with the lists read.
+ * No pointer is null, and result, out, written, removed, extra, has, compared and
+ * length share no memory with each other or with the lists read.
  */
 #ifndef LINTZOGER_DRAWING_H
 #define LINTZOGER_DRAWING_H
@@ -72,10 +72,15 @@ uint32_t lintzoger_cut(const uint32_t *list, size_t list_len,
                        uint32_t llx, uint32_t lly, uint32_t urx, uint32_t ury,
                        uint32_t *result, size_t result_len, uint32_t *written);
 
-/* The list cut by the polygon's rectangles, one after another. */
+/* The list cut by the polygon's rectangles, one after another. Stores the number of
+   cells that this removes to *removed: those that a rectangle of the list and a
+   rectangle of the polygon have. A cell counts once, also where rectangles of the
+   list, or of the polygon, overlap each other. It is at most 2^32, which is the
+   whole grid. */
 uint32_t lintzoger_cut_polygon(const uint32_t *list, size_t list_len,
                                const uint32_t *polygon, size_t polygon_len,
-                               uint32_t *result, size_t result_len, uint32_t *written);
+                               uint32_t *result, size_t result_len, uint32_t *written,
+                               uint64_t *removed);
 
 /* The list refined: the same cells, with contained rectangles dropped and
    fitting pairs joined until neither applies. */

@@ -66,16 +66,23 @@
 extern "C" {
 #endif
 
-/* Puts an entry into the index. Stores the entries held after the call to *held.
+/* Puts an entry into the index. Stores the entries held after the call to *held,
+   and to *removed the number of cells removed by siblings, which tells how hard the
+   points crowd. Where no branch of a node has the cell, a rectangle of one branch
+   grows to it, and the cells of the grown rectangle that the node's other branches
+   have are cut away again. These cells count, each once at a level, summed over all
+   levels. The sum is 0 where nothing grew. The growth of the root's own rectangle
+   does not count, nor do cells that are cut away because they lie outside of the
+   parent's polygon.
    The work area is as long as the index and may hold anything before the call;
    afterwards it is all zeros. Refuses with
-     1 to 5: index, work and *held are as they were;
-     7, 8:   index and *held are as they were, work is all zeros. In another order
-             the same entries may be accepted. */
+     1 to 5: index, work, *held and *removed are as they were;
+     7, 8:   index, *held and *removed are as they were, work is all zeros. In
+             another order the same entries may be accepted. */
 uint32_t lintzoger_insert(uint32_t *index, size_t index_len,
                           uint32_t *work, size_t work_len,
                           uint32_t x, uint32_t y, uint32_t tag,
-                          uint32_t *held);
+                          uint32_t *held, uint64_t *removed);
 
 /* Takes the cell's entry out of the index. Stores the entries held after the call
    to *held. After the last removal the index is all zeros. Refuses with 1, 3, 4

@@ -64,9 +64,13 @@ int main(void) {
                lintzoger_cut(square, LENGTH(square), 4, 4, 6, 12,
                              result, LENGTH(result), &written));
 
-    print_list("(0,0)-(10,10) cut by a cross",
-               lintzoger_cut_polygon(square, LENGTH(square), cross, LENGTH(cross),
-                                     result, LENGTH(result), &written));
+    uint64_t removed;
+    answer = lintzoger_cut_polygon(square, LENGTH(square), cross, LENGTH(cross),
+                                   result, LENGTH(result), &written, &removed);
+    print_list("(0,0)-(10,10) cut by a cross", answer);
+    if (answer == 0) {
+        printf("the cross removed %" PRIu64 " cells\n", removed);
+    }
 
     print_list("three rectangles refined",
                lintzoger_refine(three, LENGTH(three), result, LENGTH(result), &written));

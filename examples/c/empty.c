@@ -49,6 +49,7 @@ static uint32_t paint_map(const char *title) {
 
 int main(void) {
     uint32_t held, entered = 0;
+    uint64_t removed;
 
     if (paint_map("fresh index") != 0) {
         return 1;
@@ -56,7 +57,8 @@ int main(void) {
 
     /* Nine points at one pressure. The ninth splits the leaf. */
     for (uint32_t speed = 50; speed <= 850; speed += 100) {
-        if (lintzoger_insert(points, len, work, len, speed, 60, 1000 + speed, &held) != 0) {
+        if (lintzoger_insert(points, len, work, len, speed, 60, 1000 + speed,
+                             &held, &removed) != 0) {
             return 1;
         }
     }

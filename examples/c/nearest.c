@@ -35,7 +35,8 @@ int main(void) {
        on the right. */
     for (uint32_t x = 0; x < 9; x++) {
         uint32_t held;
-        if (lintzoger_insert(points, len, work, len, x, 5, 100 + x, &held) != 0) {
+        uint64_t removed;
+        if (lintzoger_insert(points, len, work, len, x, 5, 100 + x, &held, &removed) != 0) {
             return 1;
         }
     }

@@ -70,8 +70,9 @@ int main(void) {
         for (size_t i = 0; i < COUNT; i++) {
             const uint32_t *e = entries[group == 0 ? i : second_order[i]];
             uint32_t held;
+            uint64_t removed;
             if (lintzoger_insert(indexes[group], lens[group], work, lens[group],
-                                 e[0], e[1], e[2], &held) != 0) {
+                                 e[0], e[1], e[2], &held, &removed) != 0) {
                 return 1; /* 7 and 8 may come in one order and not in another */
             }
         }

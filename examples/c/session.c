@@ -52,8 +52,9 @@ static bool refused(uint32_t answer) {
 
 static void insert(uint32_t x, uint32_t y, uint32_t tag) {
     uint32_t held;
+    uint64_t removed; /* how hard the points crowd: crowding.c uses it */
     printf("enter (%" PRIu32 ",%" PRIu32 ") %" PRIu32 ": ", x, y, tag);
-    if (!refused(lintzoger_insert(points, len, work, len, x, y, tag, &held))) {
+    if (!refused(lintzoger_insert(points, len, work, len, x, y, tag, &held, &removed))) {
         printf("%" PRIu32 " held\n", held);
     }
 }

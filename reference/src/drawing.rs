@@ -6,8 +6,8 @@
 //! the numbers stored are as they were.
 
 use crate::geometry::{
-    contains as test_containment, cut_list_by_polygon, is_cell, refine as refine_list, Cell,
-    OverLimit, Rectangle, LIST_LIMIT, POLYGON_LIMIT,
+    contains as test_containment, cut_list_by_polygon, is_cell, refine as refine_list,
+    shared_cells, Cell, OverLimit, Rectangle, LIST_LIMIT, POLYGON_LIMIT,
 };
 use crate::wkb::polygon_bytes;
 
@@ -98,18 +98,20 @@ pub fn cut(
     Ok(())
 }
 
-/// The list cut by a polygon.
+/// The list cut by a polygon, and 'the number of cells it removed': those that both have.
 pub fn cut_polygon(
     list: &[u32],
     polygon: &[u32],
     result: &mut [u32],
     written: &mut u32,
+    removed: &mut u64,
 ) -> Result<(), Refusal> {
     let list = read_list(list, LIST_LIMIT)?;
     let polygon = read_list(polygon, POLYGON_LIMIT)?;
     test_result_list(result)?;
     let pieces = cut_list_by_polygon(&list, &polygon)?;
     write_list(&pieces, result, written);
+    *removed = shared_cells(&list, &polygon);
     Ok(())
 }
 

@@ -1,4 +1,4 @@
-//! The second implementation of document 01 and of document 02's requests A.1 to A.4 and A.11,
+//! The second implementation of document 01 and of document 02's requests A.1 to A.4, A.6 and A.11,
 //! written from their sentences and as plain as possible, and the declarations of the proved library
 //! that the tests compare it with.
 

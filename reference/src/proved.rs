@@ -52,6 +52,7 @@ extern "C" {
         result: *mut u32,
         result_len: usize,
         written: *mut u32,
+        removed: *mut u64,
     ) -> u32;
     fn lintzoger_refine(
         list: *const u32,
@@ -135,7 +136,13 @@ pub fn cut(list: &[u32], rectangle: [u32; 4], result: &mut [u32], written: &mut 
     }
 }
 
-pub fn cut_polygon(list: &[u32], polygon: &[u32], result: &mut [u32], written: &mut u32) -> u32 {
+pub fn cut_polygon(
+    list: &[u32],
+    polygon: &[u32],
+    result: &mut [u32],
+    written: &mut u32,
+    removed: &mut u64,
+) -> u32 {
     unsafe {
         lintzoger_cut_polygon(
             list.as_ptr(),
@@ -145,6 +152,7 @@ pub fn cut_polygon(list: &[u32], polygon: &[u32], result: &mut [u32], written: &
             result.as_mut_ptr(),
             result.len(),
             written,
+            removed,
         )
     }
 }

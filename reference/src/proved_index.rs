@@ -13,6 +13,7 @@ extern "C" {
         y: u32,
         tag: u32,
         held: *mut u32,
+        removed: *mut u64,
     ) -> u32;
     fn lintzoger_remove(index: *mut u32, index_len: usize, x: u32, y: u32, held: *mut u32) -> u32;
     fn lintzoger_clear(index: *mut u32, index_len: usize, held: *mut u32) -> u32;
@@ -69,10 +70,11 @@ pub fn insert(
     [x, y]: [u32; 2],
     tag: u32,
     held: &mut u32,
+    removed: &mut u64,
 ) -> u32 {
     let (index_len, work_len) = (index.len(), work.len());
     let (index, work) = (index.as_mut_ptr(), work.as_mut_ptr());
-    unsafe { lintzoger_insert(index, index_len, work, work_len, x, y, tag, held) }
+    unsafe { lintzoger_insert(index, index_len, work, work_len, x, y, tag, held, removed) }
 }
 
 pub fn remove(index: &mut [u32], [x, y]: [u32; 2], held: &mut u32) -> u32 {

@@ -14,7 +14,7 @@ use support::lines::{answers, OTHER_LINES, SAMPLE_INPUT, SAMPLE_OUTPUT};
 use support::program::check_answers_at_once;
 use support::tables::{
     check_ends, check_long_lines, check_other_lines, check_sample, check_session, CELLS_GAINED,
-    FIELDS, REFUSALS,
+    FIELDS, G10, MANY_CELLS, REFUSALS,
 };
 
 /// Gives the input in parts of these sizes, again and again, with an interruption before each.
@@ -108,6 +108,12 @@ fn cells_gained() {
     check_session(&CELLS_GAINED, answers_in_parts);
 }
 
+#[test]
+fn cells_removed() {
+    check_session(&G10, answers_in_parts);
+    check_session(&MANY_CELLS, answers_in_parts);
+}
+
 /// 'N = 64, a result list for all 512 entries': a full index is printed, the next is refused 8.
 #[test]
 fn full_index() {
@@ -115,7 +121,7 @@ fn full_index() {
     let output = answers(format!("{inserts}S 0 0 65536 65536\n").as_bytes());
     let lines: Vec<&str> = output.lines().collect();
     let accepted = lines.iter().filter(|l| l.starts_with("I 0 ")).count();
-    assert_eq!(lines[accepted - 1], format!("I 0 {accepted}"));
+    assert_eq!(lines[accepted - 1], format!("I 0 {accepted} 0"));
     assert!(lines[accepted..600].iter().all(|&l| l == "I ! 8"));
     assert!(accepted > 100 && accepted <= 448, "{accepted} accepted");
     assert!(lines[600].starts_with(&format!("S {accepted} ")));
@@ -172,13 +178,19 @@ fn answers_before_the_next_read() {
     let seen = Rc::new(RefCell::new(Seen::default()));
     let mut asking = Asking {
         lines: vec![" 2", "P 1", "3\nI 1 2 4\n", "I 1 2 "],
-        expected: vec!["", "", "I 0 1\nI ! 5\n", "I 0 1\nI ! 5\n", "I 0 1\nI ! 5\n"],
+        expected: vec![
+            "",
+            "",
+            "I 0 1 0\nI ! 5\n",
+            "I 0 1 0\nI ! 5\n",
+            "I 0 1 0\nI ! 5\n",
+        ],
         seen: Rc::clone(&seen),
     };
     run(&mut asking, &mut Written(Rc::clone(&seen))).expect("no error");
     assert_eq!(asking.expected.len(), 0);
     let seen = seen.borrow();
-    assert_eq!(seen.written, b"I 0 1\nI ! 5\nP 1 1 3\n");
+    assert_eq!(seen.written, b"I 0 1 0\nI ! 5\nP 1 1 3\n");
     assert_eq!(seen.flushed, seen.written.len());
 }
 

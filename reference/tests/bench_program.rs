@@ -11,7 +11,7 @@ use support::lines::{answers, SAMPLE_INPUT, SAMPLE_OUTPUT};
 use support::program::{check_answers_at_once, Open};
 use support::tables::{
     check_ends, check_long_lines, check_other_lines, check_sample, check_session, CELLS_GAINED,
-    FIELDS, REFUSALS,
+    FIELDS, G10, MANY_CELLS, REFUSALS,
 };
 
 #[test]
@@ -82,7 +82,7 @@ fn carriage_returns() {
         "?\n".repeat(SAMPLE_INPUT.lines().count())
     );
     let mixed = "I 1 2 3\r\nI 1 2 3\nP 1 2\r\n\r\nP 1 2\nC\r";
-    assert_eq!(printed(mixed.as_bytes()), "?\nI 0 1\n?\n?\nP 1 1 3\n?\n");
+    assert_eq!(printed(mixed.as_bytes()), "?\nI 0 1 0\n?\n?\nP 1 1 3\n?\n");
 }
 
 #[test]
@@ -98,6 +98,12 @@ fn refusals() {
 #[test]
 fn cells_gained() {
     check_session(&CELLS_GAINED, printed_in_parts);
+}
+
+#[test]
+fn cells_removed() {
+    check_session(&G10, printed_in_parts);
+    check_session(&MANY_CELLS, printed_in_parts);
 }
 
 #[test]
@@ -170,7 +176,7 @@ fn split_at_every_byte() {
 fn long_line_in_parts() {
     let mut program = Open::start(&program());
     program.write(b"I 1 2 3\n");
-    assert_eq!(program.line(), "I 0 1");
+    assert_eq!(program.line(), "I 0 1 0");
     for _ in 0..50 {
         program.write(&[b'z'; 5000]);
     }

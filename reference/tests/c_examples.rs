@@ -47,6 +47,11 @@ fn same_points() {
 }
 
 #[test]
+fn crowding() {
+    check_example("crowding", env!("LINTZOGER_ARCHIVE"));
+}
+
+#[test]
 fn session() {
     check_example("session", env!("LINTZOGER_ARCHIVE"));
 }

@@ -4,7 +4,9 @@
 
 mod support;
 
-use reference::geometry::{cut, cut_list, cut_list_by_polygon, refine, OverLimit, Rectangle};
+use reference::geometry::{
+    cut, cut_list, cut_list_by_polygon, refine, shared_cells, OverLimit, Rectangle,
+};
 use reference::random::Random;
 use reference::tree::extra_area;
 use support::seed;
@@ -198,6 +200,39 @@ fn cut_of_a_list_removes_the_cells() {
         }
     }
     assert!(over_limit < LISTS / 2, "{over_limit} lists over the limit");
+}
+
+/// The cells of both lists, each counted once, whichever list is named first.
+fn check_shared(a: &[Rectangle], b: &[Rectangle], place: &str) {
+    let shared = (cells_of_list(a) & cells_of_list(b)).count_ones();
+    for (a, b) in [(a, b), (b, a)] {
+        let counted = shared_cells(a, b);
+        assert_eq!(counted, u64::from(shared), "{place}: {a:?} and {b:?}");
+    }
+}
+
+#[test]
+fn shared_cells_of_every_short_list() {
+    let all = all_rectangles(4);
+    for &a in &all {
+        for &b in &all {
+            check_shared(&[a], &[b], "lists of 1");
+            check_shared(&[a, b], &[b, a], "lists of 2, the same");
+            check_shared(&[a, b], &all[..7], "lists of 2 and 7");
+        }
+    }
+}
+
+#[test]
+fn shared_cells_of_random_lists() {
+    let seed = seed();
+    let all = all_rectangles(SIDE);
+    for case in 0..LISTS {
+        let mut random = Random::for_case(seed, 103, case);
+        let a = random_list(&mut random, &all, 12);
+        let b = random_list(&mut random, &all, 16);
+        check_shared(&a, &b, &format!("LINTZOGER_SEED={seed}, case {case}"));
+    }
 }
 
 /// Refine on sets of cells: contained is a subset, and two rectangles of which none contains the

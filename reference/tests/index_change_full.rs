@@ -100,7 +100,7 @@ fn insert_for_every_n(
     let entry = Entry { cell, tag: 5 };
     let before = tree.nodes();
     let after = match insert(Some(tree), entry) {
-        Ok(after) => after.nodes(),
+        Ok(after) => after.tree.nodes(),
         Err(_) => usize::MAX,
     };
     let splits = Splits::of(tree, entry);

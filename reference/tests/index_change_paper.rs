@@ -21,17 +21,23 @@ impl Lent {
         }
     }
 
-    /// The answer and the entries held. The work area is dirty before and zeros after.
-    fn insert(&mut self, cell: [u32; 2], tag: u32) -> [u32; 2] {
-        let mut held = BEFORE;
+    /// The entries held and the cells removed, or the refusal, which stores neither. The work area
+    /// is dirty before and zeros after.
+    fn insert(&mut self, cell: [u32; 2], tag: u32) -> Result<(u32, u64), u32> {
+        let (mut held, mut removed) = (BEFORE, u64::MAX);
         self.work.fill(BEFORE);
-        let answer = insert(&mut self.index, &mut self.work, cell, tag, &mut held);
+        let (index, work) = (&mut self.index, &mut self.work);
+        let answer = insert(index, work, cell, tag, &mut held, &mut removed);
         let left = match answer {
             0 | 7 | 8 => 0,
             _ => BEFORE,
         };
         assert!(self.work.iter().all(|&number| number == left), "{cell:?}");
-        [answer, held]
+        if answer != 0 {
+            assert_eq!((held, removed), (BEFORE, u64::MAX), "{cell:?}");
+            return Err(answer);
+        }
+        Ok((held, removed))
     }
 
     /// The answer and the entries held.
@@ -66,7 +72,7 @@ fn part(k: usize) -> usize {
 #[test]
 fn example_of_the_line_program() {
     let mut lent = Lent::fresh(1);
-    assert_eq!(lent.insert([10, 10], 7), [0, 1]);
+    assert_eq!(lent.insert([10, 10], 7), Ok((1, 0)));
     let one = numbers(
         1,
         &[
@@ -77,7 +83,7 @@ fn example_of_the_line_program() {
         ],
     );
     assert_eq!(lent.index, one);
-    assert_eq!(lent.insert([20, 12], 9), [0, 2]);
+    assert_eq!(lent.insert([20, 12], 9), Ok((2, 0)));
     let two = numbers(
         1,
         &[
@@ -90,7 +96,7 @@ fn example_of_the_line_program() {
     assert_eq!(lent.index, two);
     assert_eq!(lent.point([20, 12]), [0, 1, 1, 9]);
     assert_eq!(lent.point([15, 11]), [0, 0, 1, BEFORE]);
-    assert_eq!(lent.insert([10, 10], 8), [5, BEFORE]);
+    assert_eq!(lent.insert([10, 10], 8), Err(5));
     assert_eq!(lent.index, two);
     let (mut matches, mut visits, mut list) = (BEFORE, BEFORE, [BEFORE; 5]);
     let answer = window(
@@ -125,13 +131,13 @@ fn example_of_the_line_program() {
 fn eight_cells_fit() {
     let mut lent = Lent::fresh(1);
     for x in 0..8 {
-        assert_eq!(lent.insert([x, 5], 100 + x), [0, x + 1]);
+        assert_eq!(lent.insert([x, 5], 100 + x), Ok((x + 1, 0)));
     }
     let before = lent.index.clone();
-    assert_eq!(lent.insert([8, 5], 108), [8, BEFORE]);
+    assert_eq!(lent.insert([8, 5], 108), Err(8));
     assert_eq!(lent.index, before);
     assert_eq!(lent.remove([3, 5]), [0, 7]);
-    assert_eq!(lent.insert([8, 5], 108), [0, 8]);
+    assert_eq!(lent.insert([8, 5], 108), Ok((8, 0)));
     let entries: Vec<u32> = [0, 1, 2, 4, 5, 6, 7, 8]
         .into_iter()
         .flat_map(|x| [x, 5, 100 + x])
@@ -154,7 +160,7 @@ fn last_removal() {
     for order in [[0, 1, 2], [2, 1, 0], [1, 2, 0]] {
         let mut lent = Lent::fresh(1);
         for x in 0..3 {
-            assert_eq!(lent.insert([7 * x, x], 0), [0, x + 1]);
+            assert_eq!(lent.insert([7 * x, x], 0), Ok((x + 1, 0)));
         }
         for (held, x) in [2, 1, 0].into_iter().zip(order) {
             assert_eq!(lent.remove([7 * x, x]), [0, held]);
@@ -164,11 +170,11 @@ fn last_removal() {
     }
 }
 
-/// G10's cells (0,5) to (8,5), the tag 10 x.
-fn g10(n: usize) -> (Lent, [u32; 2]) {
+/// G10's cells (0,5) to (8,5), the tag 10 x; what the last insertion gives.
+fn g10(n: usize) -> (Lent, Result<(u32, u64), u32>) {
     let mut lent = Lent::fresh(n);
     for x in 0..8 {
-        assert_eq!(lent.insert([x, 5], 10 * x), [0, x + 1]);
+        assert_eq!(lent.insert([x, 5], 10 * x), Ok((x + 1, 0)));
     }
     let answer = lent.insert([8, 5], 80);
     (lent, answer)
@@ -184,7 +190,7 @@ fn row(cells: std::ops::Range<u32>) -> Vec<u32> {
 #[test]
 fn three_parts_accept_g10() {
     let (lent, answer) = g10(3);
-    assert_eq!(answer, [0, 9]);
+    assert_eq!(answer, Ok((9, 0)));
     let expected = numbers(
         3,
         &[
@@ -207,10 +213,10 @@ fn three_parts_accept_g10() {
 #[test]
 fn two_parts_refuse_g10() {
     let (lent, answer) = g10(2);
-    assert_eq!(answer, [8, BEFORE]);
+    assert_eq!(answer, Err(8));
     let mut eight = Lent::fresh(2);
     for x in 0..8 {
-        eight.insert([x, 5], 10 * x);
+        assert_eq!(eight.insert([x, 5], 10 * x), Ok((x + 1, 0)));
     }
     assert_eq!(lent.index, eight.index);
     assert_eq!(lent.point([7, 5]), [0, 1, 1, 70]);
@@ -227,7 +233,7 @@ fn emptied_leaf_of_g10() {
     assert_eq!(lent.index[0].count_ones(), 2);
     assert_eq!(lent.point([6, 5]), [0, 0, 1, BEFORE]);
     assert_eq!(lent.point([4, 5]), [0, 1, 2, 40]);
-    assert_eq!(lent.insert([6, 5], 1), [0, 6]);
+    assert_eq!(lent.insert([6, 5], 1), Ok((6, 0)));
     assert_eq!(lent.point([5, 5]), [0, 0, 2, BEFORE]);
     assert_eq!(lent.point([6, 5]), [0, 1, 2, 1]);
 }
@@ -238,7 +244,7 @@ fn g11() {
     let mut lent = Lent::fresh(3);
     let cells: Vec<[u32; 2]> = (0..9).map(|i| [i / 3, i % 3]).collect();
     for (held, &cell) in (1..).zip(&cells) {
-        assert_eq!(lent.insert(cell, held), [0, held]);
+        assert_eq!(lent.insert(cell, held), Ok((held, 0)));
     }
     let entries = |range: std::ops::Range<usize>| -> Vec<u32> {
         range
@@ -269,10 +275,11 @@ fn refusals_in_number_order() {
     let inserted = |length: usize, work: usize, damage: u32, cell: [u32; 2]| {
         let mut index = lent.index[..length].to_vec();
         index[63] = damage;
-        let (before, mut held) = (index.clone(), BEFORE);
+        let (before, mut held, mut removed) = (index.clone(), BEFORE, u64::MAX);
         let mut work = vec![BEFORE; work];
-        let answer = insert(&mut index, &mut work, cell, 1, &mut held);
-        assert_eq!((&index, held), (&before, BEFORE), "{answer}");
+        let answer = insert(&mut index, &mut work, cell, 1, &mut held, &mut removed);
+        assert_eq!(index, before, "{answer}");
+        assert_eq!((held, removed), (BEFORE, u64::MAX), "{answer}");
         let left = if answer == 8 { 0 } else { BEFORE };
         assert!(work.iter().all(|&number| number == left), "{answer}");
         answer

@@ -196,7 +196,10 @@ const CHURN_LENGTH: usize = 3000;
 fn churn_reaches_the_limit_of_a_polygon() {
     let tally = churn(1, 16, 1000, 20, 20);
     tally.require(1, &["insert refused 7"]);
-    tally.require(500, &["insert not as by area alone"]);
+    tally.require(
+        500,
+        &["insert not as by area alone", "insert, cells removed"],
+    );
     tally.require(1, &["insert, a sibling's rectangle inside"]);
     let seed = seed();
     churn(seed, 16, 1000, 20, 20);
@@ -212,7 +215,10 @@ fn churn_on_tiny_grids() {
     for (n, side) in [(5, 6), (8, 12), (16, 25)] {
         tally.add_all(&churn(seed, n, side, 24, 10));
     }
-    tally.require(100, &["insert not as by area alone"]);
+    tally.require(
+        100,
+        &["insert not as by area alone", "insert, cells removed"],
+    );
 }
 
 /// Fills an index until it refuses with 8 fifteen times; now and then a third is removed. Then all

@@ -6,7 +6,7 @@ use reference::random::Random;
 use support::case::Call;
 use support::fault::faults;
 use support::lists::random_case;
-use support::tally::{accepted_kinds, Tally};
+use support::tally::{accepted_kinds, Tally, REMOVED};
 use support::{say, seed};
 
 /// Cases of valid arguments for each call.
@@ -54,6 +54,9 @@ fn compare_random_cases(call: Call) {
     }
     if matches!(call, Call::Cut | Call::CutPolygon) {
         valid.require(LEAST, &["refused 7"]);
+    }
+    if call == Call::CutPolygon {
+        valid.require(LEAST, &REMOVED);
     }
     if call.writes_bytes() {
         valid.require(LEAST, &["refused 11"]);

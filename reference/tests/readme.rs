@@ -125,7 +125,7 @@ fn example_lines() {
     let commands = commands();
     let mut examples = commands.iter().filter(|line| line.ends_with("| make run"));
     let first = examples.next().expect("the first example");
-    assert_eq!(printed(first), ["I 0 1", "P 1 1 7"]);
+    assert_eq!(printed(first), ["I 0 1 0", "P 1 1 7"]);
 
     let (mut input, mut output) = (String::new(), Vec::new());
     for row in table("| input | output |") {
@@ -145,7 +145,8 @@ fn sound_is_not_intact() {
     let mut work = index.clone();
     let [mut held, mut visits, mut tag] = [0; 3];
     for (cell, value) in [([10, 10], 7), ([20, 12], 9)] {
-        assert_eq!(insert(&mut index, &mut work, cell, value, &mut held), 0);
+        let answer = insert(&mut index, &mut work, cell, value, &mut held, &mut 0);
+        assert_eq!(answer, 0);
     }
     // the first entry's x and tag: the entries of part 0 start at its number 66
     index[64 + 66] += 1;

@@ -1,5 +1,6 @@
-//! The stack that the calls of the index use. No proof bounds it, so it is measured. All calls are
-//! made on a thread with 1 MB of stack: one that needs more ends this test program.
+//! The stack that the calls of the index use, and the drawing exercise's cut by a polygon, which
+//! counts cells. No proof bounds it, so it is measured. All calls are made on a thread with 1 MB of
+//! stack: one that needs more ends this test program.
 
 mod memory_support;
 mod support;
@@ -8,18 +9,20 @@ use memory_support::built::{chain, chain_of_sixteens};
 use memory_support::images::any_image;
 use memory_support::{length_of, MOST_PARTS};
 use reference::geometry::Cell;
-use reference::proved_index;
 use reference::random::Random;
+use reference::{proved, proved_index};
 use std::collections::BTreeMap;
 use std::hint::black_box;
 use std::panic::resume_unwind;
 use std::thread;
-use support::{say, seed};
+use support::dear_cuts::{nested_bars, polygons, squares};
+use support::{say, seed, RESULT_LENGTH};
 
 /// The stack of the thread that makes the calls, in bytes.
 const STACK: usize = 1 << 20;
 
-/// The most that a call may use on an index that was filled from a fresh one, and on any sound one.
+/// The most that a call may use on an index that was filled from a fresh one, or a cut by a
+/// polygon; and the most on any sound index.
 const ORDINARY: usize = 256 << 10;
 const DEEPEST: usize = 900 << 10;
 
@@ -136,7 +139,8 @@ impl Measured {
     fn insert(&mut self, cell: Cell) -> u32 {
         let before = self.parts();
         let (index, work) = (&mut self.index, &mut self.work);
-        let (answer, used) = measured(|| proved_index::insert(index, work, cell, 1, &mut 0));
+        let call = || proved_index::insert(index, work, cell, 1, &mut 0, &mut 0);
+        let (answer, used) = measured(call);
         let kind = match answer {
             0 if before > 0 && self.parts() > before => "insert with a split",
             0 => "insert",
@@ -299,4 +303,29 @@ fn chains() {
             check(&name, &most, ["insert", last], DEEPEST);
         }
     }
+}
+
+/// Cuts by a polygon whose count of cells goes deepest.
+#[test]
+fn cuts_by_a_polygon() {
+    let most = on_small_stack(|| {
+        let mut result = vec![0; RESULT_LENGTH];
+        let lists = [nested_bars(), squares()];
+        let pairs = lists
+            .iter()
+            .flat_map(|list| polygons().map(|p| (list.concat(), p.concat())));
+        let used = pairs.map(|(list, polygon)| {
+            let result = &mut result[..];
+            let cut = || proved::cut_polygon(&list, &polygon, result, &mut 0, &mut 0);
+            let (answer, used) = measured(cut);
+            assert_eq!(answer, 0);
+            used
+        });
+        used.max().expect("a cut")
+    });
+    say(&format!(
+        "stack, cut by a polygon: {} KB",
+        most.div_ceil(1024)
+    ));
+    assert!(most <= ORDINARY, "{most} bytes of stack");
 }

@@ -109,7 +109,7 @@ fn bars_of_a_sibling_inside() {
     for inside in bars_inside() {
         let (name, tree, entry) = (&inside.name, &inside.tree, entry(inside.cell));
         let after = insert(Some(tree), entry);
-        let grown = after.map(|after| after.polygons()[1].to_vec());
+        let grown = after.map(|after| after.tree.polygons()[1].to_vec());
         assert_eq!(grown, inside.expected, "{name}");
         let sizes = trace(tree, entry).sizes;
         assert_eq!(sizes.after_cut, inside.pieces, "{name}");

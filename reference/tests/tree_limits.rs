@@ -80,7 +80,7 @@ fn limit_after_every_rectangle() {
 /// `bench` gives the same answers to the built streams.
 #[test]
 fn lines_of_the_built_streams() {
-    for (counts, last) in [(PIECES_256, "I 0 7"), (PIECES_257, "I ! 7")] {
+    for (counts, last) in [(PIECES_256, "I 0 7 2124"), (PIECES_257, "I ! 7")] {
         let (mut checked, cell) = filled_bars(&counts);
         let _ = insert(&mut checked, cell);
         let input: String = checked.commands.iter().map(line).collect();

@@ -127,6 +127,8 @@ fn n_16() {
     let tally = run(16);
     tally.require(5, &DEEP);
     tally.require(100, &["I not as by area alone"]);
+    tally.require(200, &["I accepted, cells removed at one level"]);
+    tally.require(1, &["I accepted, cells removed at two or more levels"]);
 }
 
 /// Large enough for some lines with a branch on both sides; tree_steps has a built one.
@@ -177,6 +179,7 @@ fn churn_reaches_the_limit_of_a_polygon() {
     tally.require(1, &["I accepted, refined polygon of 16"]);
     tally.require(500, &["I not as by area alone"]);
     tally.require(1, &["I with a sibling's rectangle inside"]);
+    tally.require(500, &["I accepted, cells removed at one level"]);
     let seed = seed();
     churn(seed, 16, 1000, 20, 40);
     churn(seed, 8, 60_000, 20, 20);

@@ -2,7 +2,7 @@
 use mathlib.Core.Path.{_≡_, refl, sym, _∙_, ap}
 use mathlib.Core.Bool.{Bool, true, false, _&&_, not, cond}
 use mathlib.Core.List.{List, [], _∷_}
-use Prim.Native.Nat.{ℕ, _+_, _≤_}
+use Prim.Native.Nat.{_+_, _≤_}
 use Rattle.geometry.specs.declared.rect.Cell.{Cell}
 use Rattle.geometry.specs.declared.rect.Rect.{Rect}
 use Rattle.geometry.specs.Cells.{onGrid, hasCell, valid, allValid, anyHas, area}
@@ -14,14 +14,10 @@ use Rattle.geometry.proofs.CutLaws.{cut-all-valid}
 use Rattle.geometry.proofs.GrowLaws.{grow-valid}
 use Rattle.area.specs.CellCount.{sumGrid, bit, cellCount}
 use Rattle.area.specs.Lacked.{lacked, extraArea}
+use Rattle.area.specs.Removed.{totalArea}
 use Rattle.area.proofs.Sums.{grid-same, grid-add, grid-zero}
 use Rattle.area.proofs.AreaCells.{area-cells}
 use Rattle.area.proofs.CutCells.{times, times-cut-all}
-
--- the sum of the areas of a list
-unfoldable pub totalArea : List Rect → ℕ
-totalArea [] = 0
-totalArea (r ∷ l) = area r + totalArea l
 
 area-sum : (r : Rect) → r .urx ≤ 65536 → r .ury ≤ 65536 → sumGrid 65536 (λ c. bit (hasCell r c)) ≡ area r
 unfolding cellCount

@@ -11,7 +11,8 @@ use Rattle.geometry.specs.Cut.{xCeiling, xFloor, yCeiling, yFloor, pieces, cut,
 use Rattle.geometry.specs.Grow.{grown}
 use Rattle.geometry.proofs.Booleans.{split-and}
 use Rattle.area.specs.Lacked.{extraArea}
-use Rattle.area.proofs.CutAreas.{totalArea, extra-pieces}
+use Rattle.area.specs.Removed.{totalArea}
+use Rattle.area.proofs.CutAreas.{extra-pieces}
 
 -- a row: a polygon, a cell, and the extra area of each of its rectangles grown to the cell
 pub record Row : Type 0 where

@@ -4,6 +4,10 @@ pub mod CutCells
 pub mod LackLaws
 pub mod ExtraLaws
 pub mod CutAreas
+pub mod RemovedLaws
+pub mod TotalLoop
+pub mod RemovedMore
+pub mod RemovedLoop
 pub mod LackCuts
 pub mod BoundLaws
 pub mod BoundLoop
@@ -12,3 +16,4 @@ pub mod OneWays
 pub mod ExtraWays
 pub mod Cases
 pub mod ExtraCases
+pub mod RemovedCases

@@ -1,3 +1,4 @@
 pub mod Bounds
 pub mod CellCount
 pub mod Lacked
+pub mod Removed

@@ -1,10 +1,12 @@
 -- The ways out of the functions that write an answer.
 use Prim.Native.Nat.{ℕ, _+_, _*_, _≤_, _<_}
 use mathlib.Core.Path.{_≡_, refl, sym}
-use mathlib.Core.List.{List, [], _∷_, append-nil}
+use mathlib.Core.Bool.{false}
+use mathlib.Core.List.{List, [], _∷_, _++_, append-nil, append-assoc, flatMap}
 use native.Mathlib.Numerals.{add-one}
 use native.Mathlib.Omega.{arith}
 use borrow.Author.Tests.{ne-eqb}
+use lib.Dec.{eqb}
 use lib.ListN.{length, getD}
 use Rattle.index.specs.declared.answer.Inserted.{Inserted}
 use Rattle.index.specs.declared.answer.Inserted.the-variants as I
@@ -16,9 +18,9 @@ use Rattle.index.specs.declared.answer.PointFound.{PointFound}
 use Rattle.index.specs.declared.answer.PointFound.the-variants as P
 use Rattle.index.specs.declared.answer.WindowFound.{WindowFound}
 use Rattle.index.specs.declared.answer.WindowFound.the-variants as W
-use Rattle.index.specs.Numbers.{insertTold, removeTold, clearTold, windowTold}
+use Rattle.index.specs.Numbers.{refusal, insertTold, removeTold, clearTold, windowTold}
 use Rattle.commands.specs.declared.answers.Change.{Change}
-use Rattle.commands.specs.Text.{lineText, refusalText, Appended}
+use Rattle.commands.specs.Text.{digitsOf, numberText, fieldText, lineText, refusalText, Appended}
 use Rattle.commands.specs.AnswerText.{heldText, foundText, insertText, removeText, clearText, pointText, entriesText, listed, windowText, otherText, changeTold}
 use Rattle.commands.proofs.TextLaws.{append-more, append-wider}
 
@@ -26,39 +28,6 @@ abbrev change : ℕ → ℕ → Change
 change n h = record { number = n; held = h }
 
 -- a change's numbers
-module _ (r : Inserted) where
-  pub inserted-accepted : (n : ℕ) → r ≡ I.Accepted n → changeTold (change 0 n) ≡ insertTold r
-  unfolding changeTold
-  inserted-accepted n e = rw e
-
-  pub inserted-wrong-length : r ≡ I.WrongLength → changeTold (change 1 0) ≡ insertTold r
-  unfolding changeTold
-  inserted-wrong-length e = rw e
-
-  pub inserted-wrong-work : r ≡ I.WrongWorkLength → changeTold (change 2 0) ≡ insertTold r
-  unfolding changeTold
-  inserted-wrong-work e = rw e
-
-  pub inserted-off-grid : r ≡ I.OffGrid → changeTold (change 3 0) ≡ insertTold r
-  unfolding changeTold
-  inserted-off-grid e = rw e
-
-  pub inserted-no-tree : r ≡ I.NoTree → changeTold (change 4 0) ≡ insertTold r
-  unfolding changeTold
-  inserted-no-tree e = rw e
-
-  pub inserted-held : r ≡ I.CellHeld → changeTold (change 5 0) ≡ insertTold r
-  unfolding changeTold
-  inserted-held e = rw e
-
-  pub inserted-polygon : r ≡ I.PolygonLimit → changeTold (change 7 0) ≡ insertTold r
-  unfolding changeTold
-  inserted-polygon e = rw e
-
-  pub inserted-nodes : r ≡ I.NodeLimit → changeTold (change 8 0) ≡ insertTold r
-  unfolding changeTold
-  inserted-nodes e = rw e
-
 module _ (r : Removed) where
   pub removed-accepted : (n : ℕ) → r ≡ R.Accepted n → changeTold (change 0 n) ≡ removeTold r
   unfolding changeTold
@@ -99,6 +68,17 @@ module _ (r : WindowFound) (list : List ℕ) (n visits : ℕ) (e : r ≡ W.Found
       → Appended 24 out at (lineText 83 (n ∷ visits ∷ [])) out₁ n₁ → n₁ + 35 * n ≤ length out₁
   window-room out at out₁ n₁ g v = let k = window-fits in omega (arith, v .next-is, v .few, v .same-length)
 
+zero-text : fieldText 0 ≡ 32 ∷ 48 ∷ []
+unfolding fieldText numberText digitsOf
+zero-text = refl
+
+-- the parts of an accepted insertion's line
+accepted-text : (held removed : ℕ)
+    → lineText 73 (0 ∷ held ∷ removed ∷ [])
+    ≡ (73 ∷ []) ++ (32 ∷ []) ++ (48 ∷ []) ++ fieldText held ++ fieldText removed ++ (10 ∷ [])
+unfolding lineText flatMap
+accepted-text held removed = simp (zero-text, append-nil, append-assoc)
+
 module _ (out : List ℕ) (at : ℕ) (out′ : List ℕ) (next : ℕ) where
   -- a change's line
   module _ (letter : ℕ) (c : Change) where
@@ -110,9 +90,29 @@ module _ (out : List ℕ) (at : ℕ) (out′ : List ℕ) (next : ℕ) where
     unfolding heldText changeTold
     change-refused e v = simp (ne-eqb (c .number) 0 e) v
 
-  pub line-inserted : (r : Inserted) (c : Change) → changeTold c ≡ insertTold r → Appended 24 out at (heldText 73 (changeTold c)) out′ next → Appended 24 out at (insertText r) out′ next
-  unfolding insertText
-  line-inserted r c e v = rw e at v
+  -- the line of an insertion
+  pub line-accepted : (held removed : ℕ) (out₁ out₂ out₃ out₄ out₅ : List ℕ) (n₁ n₂ n₃ n₄ n₅ : ℕ)
+      → Appended 1 out at (73 ∷ []) out₁ n₁ → Appended 1 out₁ n₁ (32 ∷ []) out₂ n₂
+      → Appended 1 out₂ n₂ (48 ∷ []) out₃ n₃ → Appended 11 out₃ n₃ (fieldText held) out₄ n₄
+      → Appended 21 out₄ n₄ (fieldText removed) out₅ n₅ → Appended 1 out₅ n₅ (10 ∷ []) out′ next
+      → Appended 36 out at (lineText 73 (0 ∷ held ∷ removed ∷ [])) out′ next
+  line-accepted held removed out₁ out₂ out₃ out₄ out₅ n₁ n₂ n₃ n₄ n₅ a b c d f g =
+      let u = append-more out at 2 1 _ _ out₂ out₃ n₂ n₃ (append-more out at 1 1 _ _ out₁ out₂ n₁ n₂ a b) c in
+      let v = append-more out at 14 21 _ _ out₄ out₅ n₄ n₅ (append-more out at 3 11 _ _ out₃ out₄ n₃ n₄ u d) f in
+      rw (accepted-text held removed) (append-more out at 35 1 _ _ out₅ out′ n₅ next v g)
+
+  module _ (r : Inserted) where
+    pub inserted-accepted : (held removed : ℕ) → r ≡ I.Accepted held removed
+        → Appended 36 out at (lineText 73 (0 ∷ held ∷ removed ∷ [])) out′ next
+        → Appended 36 out at (insertText r) out′ next
+    unfolding insertText heldText
+    inserted-accepted held removed e v = rw e v
+
+    -- the answer is the case s, a refusal with the number n
+    pub inserted-refused : (s : Inserted) (n : ℕ) → r ≡ s → Appended 24 out at (refusalText 73 n) out′ next
+        → insertTold s ≡ refusal n → eqb n 0 ≡ false → Appended 36 out at (insertText r) out′ next
+    unfolding insertText heldText
+    inserted-refused s n d v e f = rw d (simp (e, f) (append-wider out at 24 36 _ out′ next (omega arith) v))
 
   pub line-removed : (r : Removed) (c : Change) → changeTold c ≡ removeTold r → Appended 24 out at (heldText 82 (changeTold c)) out′ next → Appended 24 out at (removeText r) out′ next
   unfolding removeText

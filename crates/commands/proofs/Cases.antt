@@ -30,10 +30,22 @@ pub lines-read :
 unfolding commandOf commandIn commandWith commandFor splitAt putFirst numbersOf withNumber numberOf allDigits isDigit decimalFrom
 lines-read = refl
 
--- `I 0 12`, `I ! 5`
+-- `I 0 12 0`, `I 0 4294967295 4294967296`, `I 0 12 18446744073709551615`, `I ! 5`
 pub insertions-written :
-    map insertText (I.Accepted 12 ∷ I.CellHeld ∷ [])
-    ≡ (73 ∷ 32 ∷ 48 ∷ 32 ∷ 49 ∷ 50 ∷ 10 ∷ []) ∷ (73 ∷ 32 ∷ 33 ∷ 32 ∷ 53 ∷ 10 ∷ []) ∷ []
+    map insertText (
+    I.Accepted 12 0
+    ∷ I.Accepted 4294967295 4294967296
+    ∷ I.Accepted 12 18446744073709551615
+    ∷ I.CellHeld
+    ∷ []
+    )
+    ≡ (73 ∷ 32 ∷ 48 ∷ 32 ∷ 49 ∷ 50 ∷ 32 ∷ 48 ∷ 10 ∷ [])
+    ∷ (73 ∷ 32 ∷ 48 ∷ 32 ∷ 52 ∷ 50 ∷ 57 ∷ 52 ∷ 57 ∷ 54 ∷ 55 ∷ 50 ∷ 57 ∷ 53
+    ∷ 32 ∷ 52 ∷ 50 ∷ 57 ∷ 52 ∷ 57 ∷ 54 ∷ 55 ∷ 50 ∷ 57 ∷ 54 ∷ 10 ∷ [])
+    ∷ (73 ∷ 32 ∷ 48 ∷ 32 ∷ 49 ∷ 50
+    ∷ 32 ∷ 49 ∷ 56 ∷ 52 ∷ 52 ∷ 54 ∷ 55 ∷ 52 ∷ 52 ∷ 48 ∷ 55 ∷ 51 ∷ 55 ∷ 48 ∷ 57 ∷ 53 ∷ 53 ∷ 49 ∷ 54 ∷ 49 ∷ 53 ∷ 10 ∷ [])
+    ∷ (73 ∷ 32 ∷ 33 ∷ 32 ∷ 53 ∷ 10 ∷ [])
+    ∷ []
 unfolding insertText heldText lineText refusalText fieldText numberText digitsOf flatMap
 insertions-written = refl
 

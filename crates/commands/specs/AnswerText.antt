@@ -16,7 +16,8 @@ use Rattle.commands.specs.declared.answers.Change.{Change}
 use Rattle.commands.specs.Bytes.{lineFeed, questionMark, letterC, letterE, letterI, letterP, letterR, letterS}
 use Rattle.commands.specs.Text.{lineText, refusalText}
 
--- 'I, R and C print 0 and entries held.'
+-- 'I, R and C print 0 and entries held.' A.6, of the total removed by siblings: 'The line program prints it after the
+-- entries held in an accepted `I` line'.
 unfoldable pub heldText : ℕ → Told → List ℕ
 heldText letter t = cond (eqb (t .number) 0) (lineText letter (0 ∷ t .values)) (refusalText letter (t .number))
 
@@ -59,6 +60,6 @@ windowText r list = foundText letterS (windowTold r) ++ entriesText list (listed
 unfoldable pub otherText : List ℕ
 otherText = questionMark ∷ lineFeed ∷ []
 
--- what a change stands for: its refusal, or the entries held
+-- what the answer of a removal or of clearing stands for: its refusal, or the entries held
 unfoldable pub changeTold : Change → Told
 changeTold c = cond (eqb (c .number) 0) (accepts (c .held ∷ [])) (refusal (c .number))

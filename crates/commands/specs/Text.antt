@@ -13,9 +13,9 @@ unfoldable pub digitsOf : ℕ → ℕ → List ℕ
 digitsOf zero v = []
 digitsOf (suc k) v = cond (ltb v 10) ((digitZero + v) ∷ []) (digitsOf k (v / 10) ++ ((digitZero + v % 10) ∷ []))
 
--- a number of 32 bits in decimal
+-- a number of 64 bits, or fewer, in decimal
 unfoldable pub numberText : ℕ → List ℕ
-numberText v = digitsOf 10 v
+numberText v = digitsOf 20 v
 
 -- a field behind another: one space and the number
 unfoldable pub fieldText : ℕ → List ℕ

@@ -1,11 +1,15 @@
 // The answer of each call as lines.
 ghost use mathlib.Core.Path.{_≡_};
+ghost use mathlib.Core.List.{[], _∷_};
 ghost use Prim.Native.Nat.{_+_, _*_, _≤_};
 ghost use lib.ListN.{length};
-ghost use Rattle.index.specs.Numbers.{insertTold, removeTold, clearTold};
-ghost use Rattle.commands.specs.Text.{Appended};
+ghost use Rattle.index.specs.Numbers.{removeTold, clearTold};
+ghost use Rattle.commands.specs.Bytes.{letterI};
+ghost use Rattle.commands.specs.Text.{lineText, Appended};
 ghost use Rattle.commands.specs.AnswerText.{changeTold, heldText, insertText, removeText, clearText, pointText, entriesText, windowText, otherText, listed};
 use crate::text::put_byte;
+use crate::text::put_field;
+use crate::text::put_long_field;
 use crate::text::put_refusal;
 use crate::text::put_three;
 use crate::text::put_two;
@@ -15,25 +19,10 @@ use index::PointFound;
 use index::Removed;
 use index::WindowFound;
 
-// What a change of the index answered: the number of its refusal, or 0 and the entries held.
+// What a removal or clearing answered: the number of its refusal, or 0 and the entries held.
 pub struct Change {
     pub number: u32,
     pub held: u32,
-}
-
-fn of_inserted(r: Inserted) -> Change
-    ensures { λ c. ⌜ changeTold c ≡ insertTold r ⌝ }
-{
-    match r {
-        Inserted::Accepted(held) => Change { number: 0, held },
-        Inserted::WrongLength => Change { number: 1, held: 0 },
-        Inserted::WrongWorkLength => Change { number: 2, held: 0 },
-        Inserted::OffGrid => Change { number: 3, held: 0 },
-        Inserted::NoTree => Change { number: 4, held: 0 },
-        Inserted::CellHeld => Change { number: 5, held: 0 },
-        Inserted::PolygonLimit => Change { number: 7, held: 0 },
-        Inserted::NodeLimit => Change { number: 8, held: 0 },
-    }
 }
 
 fn of_removed(r: Removed) -> Change
@@ -57,7 +46,7 @@ fn of_cleared(r: Cleared) -> Change
     }
 }
 
-// The line of a change: 0 and the entries held, or its refusal.
+// The line of a removal or of clearing: 0 and the entries held, or its refusal.
 fn put_change(out: &mut [u8], at: usize, letter: u8, c: Change) -> usize
     requires { ⌜ at + 24 ≤ length (now out) ⌝ }
     ensures { λ r. ⌜ Appended 24 (now (out .entry)) at (heldText letter (changeTold c)) (now (out .exit)) r ⌝ }
@@ -68,11 +57,50 @@ fn put_change(out: &mut [u8], at: usize, letter: u8, c: Change) -> usize
     put_refusal(out, at, letter, c.number)
 }
 
-pub fn put_inserted(out: &mut [u8], at: usize, r: Inserted) -> usize
-    requires { ⌜ at + 24 ≤ length (now out) ⌝ }
-    ensures { λ next. ⌜ Appended 24 (now (out .entry)) at (insertText r) (now (out .exit)) next ⌝ }
+// The line of an accepted insertion: 0, the entries held and the cells that siblings removed.
+fn put_accepted(out: &mut [u8], at: usize, held: u32, removed: u64) -> usize
+    requires { ⌜ at + 36 ≤ length (now out) ⌝ }
+    ensures { λ next. ⌜ Appended 36 (now (out .entry)) at (lineText letterI (0 ∷ held ∷ removed ∷ []))
+        (now (out .exit)) next ⌝ }
 {
-    put_change(out, at, b'I', of_inserted(r))
+    let first = put_byte(out, at, b'I');
+    let second = put_byte(out, first, b' ');
+    let third = put_byte(out, second, b'0');
+    let fourth = put_field(out, third, held);
+    let end = put_long_field(out, fourth, removed);
+    put_byte(out, end, b'\n')
+}
+
+pub fn put_inserted(out: &mut [u8], at: usize, r: Inserted) -> usize
+    requires { ⌜ at + 36 ≤ length (now out) ⌝ }
+    ensures { λ next. ⌜ Appended 36 (now (out .entry)) at (insertText r) (now (out .exit)) next ⌝ }
+{
+    match r {
+        Inserted::Accepted { held, removed } => {
+            return put_accepted(out, at, held, removed);
+        }
+        Inserted::WrongLength => {
+            return put_refusal(out, at, b'I', 1);
+        }
+        Inserted::WrongWorkLength => {
+            return put_refusal(out, at, b'I', 2);
+        }
+        Inserted::OffGrid => {
+            return put_refusal(out, at, b'I', 3);
+        }
+        Inserted::NoTree => {
+            return put_refusal(out, at, b'I', 4);
+        }
+        Inserted::CellHeld => {
+            return put_refusal(out, at, b'I', 5);
+        }
+        Inserted::PolygonLimit => {
+            return put_refusal(out, at, b'I', 7);
+        }
+        Inserted::NodeLimit => {
+            return put_refusal(out, at, b'I', 8);
+        }
+    }
 }
 
 pub fn put_removed(out: &mut [u8], at: usize, r: Removed) -> usize

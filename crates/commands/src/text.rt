@@ -14,9 +14,9 @@ pub fn put_byte(out: &mut [u8], at: usize, byte: u8) -> usize
 }
 
 // The decimal digits of a number: those of its tenth, then its last.
-fn put_digits(out: &mut [u8], at: usize, v: u32) -> usize
+fn put_digits(out: &mut [u8], at: usize, v: u64) -> usize
     requires { ⌜ at + length (numberText v) ≤ length (now out) ⌝ }
-    ensures { λ r. ⌜ Appended 10 (now (out .entry)) at (numberText v) (now (out .exit)) r ⌝ }
+    ensures { λ r. ⌜ Appended 20 (now (out .entry)) at (numberText v) (now (out .exit)) r ⌝ }
 {
     if v < 10 {
         return put_byte(out, at, 48 + (v as u8));
@@ -25,21 +25,38 @@ fn put_digits(out: &mut [u8], at: usize, v: u32) -> usize
     put_byte(out, next, 48 + ((v % 10) as u8))
 }
 
-// A number in decimal, without leading zeros.
-pub fn put_number(out: &mut [u8], at: usize, v: u32) -> usize
+// A number of 32 bits in decimal, without leading zeros.
+fn put_number(out: &mut [u8], at: usize, v: u32) -> usize
     requires { ⌜ at + 10 ≤ length (now out) ⌝ }
     ensures { λ r. ⌜ Appended 10 (now (out .entry)) at (numberText v) (now (out .exit)) r ⌝ }
+{
+    put_digits(out, at, v as u64)
+}
+
+// A number of 64 bits in decimal, without leading zeros.
+fn put_long(out: &mut [u8], at: usize, v: u64) -> usize
+    requires { ⌜ at + 20 ≤ length (now out) ⌝ }
+    ensures { λ r. ⌜ Appended 20 (now (out .entry)) at (numberText v) (now (out .exit)) r ⌝ }
 {
     put_digits(out, at, v)
 }
 
-// A space and a number.
-fn put_field(out: &mut [u8], at: usize, v: u32) -> usize
+// A space and a number of 32 bits.
+pub fn put_field(out: &mut [u8], at: usize, v: u32) -> usize
     requires { ⌜ at + 11 ≤ length (now out) ⌝ }
     ensures { λ r. ⌜ Appended 11 (now (out .entry)) at (fieldText v) (now (out .exit)) r ⌝ }
 {
     let next = put_byte(out, at, b' ');
     put_number(out, next, v)
+}
+
+// A space and a number of 64 bits.
+pub fn put_long_field(out: &mut [u8], at: usize, v: u64) -> usize
+    requires { ⌜ at + 21 ≤ length (now out) ⌝ }
+    ensures { λ r. ⌜ Appended 21 (now (out .entry)) at (fieldText v) (now (out .exit)) r ⌝ }
+{
+    let next = put_byte(out, at, b' ');
+    put_long(out, next, v)
 }
 
 // A line of a letter and two numbers.

@@ -1,5 +1,6 @@
 pub mod Ways
 pub mod GrowLoop
+pub mod PolygonCutWays
 pub mod ContainsWays
 pub mod ExportWays
 pub mod WkbWays

@@ -1,11 +1,20 @@
-// What the calls answer. The definitions `number`, `containsNumber` and `extraNumber` of specs/Answers.antt and
-// `wkbNumber` of specs/Wkb.antt give the number for each.
+// What the calls answer. The definitions `number`, `containsNumber` and `extraNumber` of specs/Answers.antt,
+// `polygonCutNumber` of specs/PolygonCut.antt and `wkbNumber` of specs/Wkb.antt give the number for each.
 use geometry::Containment;
 
 pub enum Answer {
     // accepted: how many rectangles were written
     Wrote(usize),
     // an invalid rectangle, cell, count or length
+    Invalid,
+    // a list over 256 after a single cut
+    TooMany,
+}
+
+pub enum PolygonCut {
+    // accepted: how many rectangles were written, and how many cells were removed
+    Wrote { rects: usize, removed: u64 },
+    // an invalid rectangle, count or length
     Invalid,
     // a list over 256 after a single cut
     TooMany,

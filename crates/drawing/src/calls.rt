@@ -7,7 +7,7 @@ ghost use lib.ListN.{length, drop};
 ghost use Rattle.geometry.specs.Cells.{onGrid};
 ghost use Rattle.geometry.specs.Numbers.{rectsIn, numbersOf};
 ghost use Rattle.drawing.specs.Answers.{Drawn, RefinedInto, extraOf};
-ghost use Rattle.drawing.specs.Calls.{grownTo, validWithRect, validWithCell, validWithPolygon, validAlone, validExtra, commonDrawn, growDrawn, cutDrawn, cutPolygonDrawn, refineDrawn, extraDrawn};
+ghost use Rattle.drawing.specs.Calls.{grownTo, validWithRect, validWithCell, validAlone, validExtra, commonDrawn, growDrawn, cutDrawn, refineDrawn, extraDrawn};
 use crate::answer::Answer;
 use crate::answer::Extra;
 use crate::arguments::RESULT_NUMBERS;
@@ -23,7 +23,6 @@ use geometry::WORK_NUMBERS;
 use geometry::common_parts;
 use geometry::copy;
 use geometry::cut_list;
-use geometry::cut_polygon;
 use geometry::put_rect;
 use geometry::rect_at;
 use refinement::refine_list;
@@ -110,32 +109,6 @@ pub fn cut(list: &[u32], s: Rect, out: &mut [u32]) -> Answer
     }
     let mut work = [0u32; WORK_NUMBERS];
     let c = cut_list(list, list.len() / 4, s, &mut work);
-    let Count::Rects(m) = c else {
-        return Answer::TooMany;
-    };
-    copy(&work, 4 * m, out);
-    Answer::Wrote(m)
-}
-
-// The list cut by a polygon's rectangles, one after another.
-pub fn cut_by_polygon(list: &[u32], polygon: &[u32], out: &mut [u32]) -> Answer
-    ensures { λ a. ⌜ Drawn (validWithPolygon (now (list .entry)) (now (polygon .entry)) (now (out .entry))) (cutPolygonDrawn (now (list .entry)) (now (polygon .entry))) (now (out .entry)) a (now (out .exit)) ⌝ }
-{
-    if out.len() != RESULT_NUMBERS {
-        return Answer::Invalid;
-    }
-    if !is_list(list, MOST_PIECES) {
-        return Answer::Invalid;
-    }
-    if !is_list(polygon, MOST_OF_POLYGON) {
-        return Answer::Invalid;
-    }
-    let n = list.len() / 4;
-    let mut work = [0u32; WORK_NUMBERS];
-    let mut spare = [0u32; WORK_NUMBERS];
-    copy(list, 4 * n, &mut work);
-    let p = Polygon::load(polygon, polygon.len() / 4);
-    let c = cut_polygon(&mut work, n, p, &mut spare);
     let Count::Rects(m) = c else {
         return Answer::TooMany;
     };

@@ -3,19 +3,21 @@ ghost use mathlib.Core.Path.{_≡_};
 ghost use Rattle.geometry.specs.declared.rect.Rect.{Rect};
 ghost use Rattle.geometry.specs.Cells.{cellOf, rectOf};
 ghost use Rattle.drawing.specs.Answers.{number, reported, few, Exported, ContainsExported, extraOf, extraNumber, extraReported};
-ghost use Rattle.drawing.specs.Calls.{validWithRect, validWithCell, validWithPolygon, validAlone, validExtra, commonDrawn, growDrawn, cutDrawn, cutPolygonDrawn, refineDrawn, containsAnswer, extraDrawn};
+ghost use Rattle.drawing.specs.Calls.{validWithRect, validWithCell, validAlone, validExtra, commonDrawn, growDrawn, cutDrawn, refineDrawn, containsAnswer, extraDrawn};
+ghost use Rattle.drawing.specs.PolygonCut.{PolygonCutExported};
 ghost use Rattle.drawing.specs.Wkb.{WkbExported};
 use crate::answer::Answer;
 use crate::answer::Contains;
 use crate::answer::Extra;
+use crate::answer::PolygonCut;
 use crate::answer::Wkb;
 use crate::calls::common;
 use crate::calls::cut;
-use crate::calls::cut_by_polygon;
 use crate::calls::extra_area;
 use crate::calls::grow;
 use crate::calls::refine;
 use crate::containing::contains;
+use crate::polygon_cut::cut_by_polygon;
 use crate::writing::write_wkb;
 use geometry::Cell;
 use geometry::Rect;
@@ -49,11 +51,24 @@ pub extern "C" fn lintzoger_cut_polygon(
     polygon: &[u32],
     result: &mut [u32],
     written: &mut u32,
+    removed: &mut u64,
 ) -> u32
-    ensures { λ r. ⌜ Exported (validWithPolygon (now (list .entry)) (now (polygon .entry)) (now (result .entry))) (cutPolygonDrawn (now (list .entry)) (now (polygon .entry))) (now (result .entry)) (now (written .entry)) r (now (result .exit)) (now (written .exit)) ⌝ }
+    ensures { λ r. ⌜ PolygonCutExported (now (list .entry)) (now (polygon .entry)) (now (result .entry))
+        (now (written .entry)) (now (removed .entry)) r (now (result .exit)) (now (written .exit))
+        (now (removed .exit)) ⌝ }
 {
-    let a = cut_by_polygon(list, polygon, result);
-    report(a, written)
+    match cut_by_polygon(list, polygon, result) {
+        PolygonCut::Wrote {
+            rects,
+            removed: cells,
+        } => {
+            *written = rects as u32;
+            *removed = cells;
+            0
+        }
+        PolygonCut::Invalid => 3,
+        PolygonCut::TooMany => 7,
+    }
 }
 
 #[no_mangle]

@@ -16,5 +16,6 @@ pub mod ContainmentLoop
 pub mod CutLoops
 pub mod FillLoops
 pub mod NumberLaws
+pub mod PutLoop
 pub mod PolygonLoops
 pub mod ScanLoops

@@ -23,6 +23,7 @@ pub use limits::WORK_NUMBERS;
 pub use numbers::all_valid;
 pub use numbers::copy;
 pub use numbers::put_rect;
+pub use numbers::put_rects;
 pub use numbers::rect_at;
 pub use polygon::Polygon;
 pub use rect::Cell;

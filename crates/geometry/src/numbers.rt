@@ -1,10 +1,10 @@
 // Rectangles in a list of numbers, four each: llx, lly, urx, ury.
 ghost use mathlib.Core.Path.{_≡_};
 ghost use mathlib.Core.List.{_++_};
-ghost use Prim.Native.Nat.{_+_, _*_, _≤_};
+ghost use Prim.Native.Nat.{_+_, _*_, _-_, _≤_};
 ghost use lib.ListN.{length, take, drop};
 ghost use Rattle.geometry.specs.Cells.{allValid};
-ghost use Rattle.geometry.specs.Numbers.{rectAt, rectsIn, putAt};
+ghost use Rattle.geometry.specs.Numbers.{rectAt, rectsIn, putAt, Appended};
 use crate::rect::Rect;
 
 // The i-th rectangle of the list.
@@ -31,6 +31,24 @@ pub fn put_rect(list: &mut [u32], i: usize, r: Rect)
     list[k + 1] = r.lly;
     list[k + 2] = r.urx;
     list[k + 3] = r.ury;
+}
+
+// Writes the rectangles from the given one up to before the e-th of one list behind the first n of another.
+pub fn put_rects(list: &mut [u32], n: usize, source: &[u32], from: usize, e: usize) -> usize
+    requires { ⌜ from ≤ e ⌝ }
+    requires { ⌜ 4 * e ≤ length (now source) ⌝ }
+    requires { ⌜ 4 * (n + (e - from)) ≤ length (now list) ⌝ }
+    ensures { λ m. ⌜ Appended (now (list .entry)) n (drop from (rectsIn (now (source .entry)) e)) (e - from) (now (list .exit)) m ⌝ }
+{
+    let mut m = n;
+    let mut i = from;
+    while i < e {
+        let r = rect_at(source, i);
+        put_rect(list, m, r);
+        m += 1;
+        i += 1;
+    }
+    m
 }
 
 // Copies the first n numbers of a list to the start of another.

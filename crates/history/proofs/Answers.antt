@@ -15,7 +15,7 @@ use Rattle.tree.specs.Remove.{remove}
 use Rattle.tree.specs.Query.{holds, entryAt, visits, windowVisits}
 use Rattle.tree.specs.Nearest.{nearest, walk}
 use Rattle.tree.specs.Emptiness.{isEmpty, emptyVisits}
-use Rattle.tree.specs.Calls.{insertCall, removeCall, clearCall, pointCall, windowCall, nearestCall, emptyCall, insertion, removal, outcomeAnswer, answer}
+use Rattle.tree.specs.Calls.{insertCall, removeCall, clearCall, pointCall, windowCall, nearestCall, emptyCall, insertion, removal, outcomeAnswer, insertedAnswer, answer}
 use Rattle.tree.specs.Calls.{pointAnswer as pointFound}
 use Rattle.tree.specs.Calls.{nearestEnd as nearestFound}
 use Rattle.plane.specs.Lines.{CellEntry}
@@ -25,7 +25,7 @@ use Rattle.memory.specs.Layout.{partsOf, rightLength}
 use Rattle.memory.specs.Reading.{reading}
 use Rattle.memory.proofs.ReadingLaws.{parts-are, right-length}
 use Rattle.memory.specs.Fanout.{fanout}
-use Rattle.index.specs.Answers.{PlaneIndex, insertEnd, insertRead, insertAnswer, removeEnd, removeRead, removeAnswer, clearAnswer, pointEnd, pointRead, pointAnswer, matchesIn, windowRead, windowAnswer, nearestEnd, nearestRead, nearestAnswer, emptyEnd, emptyRead, emptyAnswer}
+use Rattle.index.specs.Answers.{PlaneIndex, cellsRemoved, insertEnd, insertRead, insertAnswer, removeEnd, removeRead, removeAnswer, clearAnswer, pointEnd, pointRead, pointAnswer, matchesIn, windowRead, windowAnswer, nearestEnd, nearestRead, nearestAnswer, emptyEnd, emptyRead, emptyAnswer}
 use Rattle.index.specs.Numbers.{accepts, insertTold, removeTold, clearTold, pointTold, windowTold, nearestTold, emptyTold}
 use Rattle.index.specs.declared.answer.Inserted.the-variants as I
 use Rattle.index.specs.declared.answer.Removed.the-variants as R
@@ -55,7 +55,9 @@ module _ (N : ℕ) (m : List ℕ) (i : PlaneIndex) (h : Holds N m i) where
 
   -- the answers with the tests 1 and 4 taken away
   pub insert-value : (len : ℕ) (e : CellEntry) → insertAnswer m len e
-      ≡ by2 (eqb len (64 + 128 * N)) (onGrid (e .cell)) (insertEnd (insertion (planeSpace fanout) (planeRoot fanout) N i e)) I.OffGrid I.WrongWorkLength
+      ≡ by2 (eqb len (64 + 128 * N)) (onGrid (e .cell))
+      (insertEnd (cellsRemoved i (e .cell))
+      (insertion (planeSpace fanout) (planeRoot fanout) N i e)) I.OffGrid I.WrongWorkLength
   unfolding insertAnswer insertRead
   insert-value len e = rw (right, h .reads, parts, h .length-is)
 
@@ -90,15 +92,20 @@ module _ (N : ℕ) (m : List ℕ) (i : PlaneIndex) (h : Holds N m i) where
       ap insertTold (insert-value len e) ∙ go (eqb len (64 + 128 * N)) (onGrid (e .cell)) (holds (planeSpace fanout) (e .cell) i) (insertTree (planeSpace fanout) (planeRoot fanout) i e)
     where
       go : (a b c : Bool) (t : Option (Tree (planeSpace fanout)))
-          → insertTold (by2 a b (insertEnd (cond c (refused 5) (limited (planeSpace fanout) N t))) I.OffGrid I.WrongWorkLength)
-          ≡ cond (eqb (by2 a b 0 3 2) 0) (toldOf len (outcomeAnswer (planeSpace fanout) (cond c (refused 5) (limited (planeSpace fanout) N t)))) (record { number = by2 a b 0 3 2; values = [] })
+          → insertTold (by2 a b (insertEnd (cellsRemoved i (e .cell))
+          (cond c (refused 5) (limited (planeSpace fanout) N t))) I.OffGrid I.WrongWorkLength)
+          ≡ cond (eqb (by2 a b 0 3 2) 0)
+          (toldOf len (insertedAnswer (planeSpace fanout) (cellsRemoved i (e .cell))
+          (cond c (refused 5) (limited (planeSpace fanout) N t)))) (record { number = by2 a b 0 3 2; values = [] })
       go false b c t = refl
       go true false c t = refl
       go true true true t = refl
       go true true false none = refl
       go true true false (some t) = last (leb (nodeCount (planeSpace fanout) (some t)) N)
         where
-          last : (d : Bool) → insertTold (insertEnd (cond d (accepted (some t)) (refused 8))) ≡ toldOf len (outcomeAnswer (planeSpace fanout) (cond d (accepted (some t)) (refused 8)))
+          last : (d : Bool) → insertTold (insertEnd (cellsRemoved i (e .cell)) (cond d (accepted (some t)) (refused 8)))
+              ≡ toldOf len (insertedAnswer (planeSpace fanout) (cellsRemoved i (e .cell))
+              (cond d (accepted (some t)) (refused 8)))
           last true = refl
           last false = refl
 

@@ -20,7 +20,7 @@ use Rattle.memory.specs.Reading.{reading}
 use Rattle.memory.specs.Image.{entryNumbers}
 use Rattle.memory.proofs.ReadingLaws.{right-length, zeros-zero, zeros-read}
 use Rattle.memory.specs.Fanout.{fanout}
-use Rattle.index.specs.Answers.{PlaneIndex, insertEnd, insertAnswer, removeEnd, removeAnswer, cleared, matchesIn, windowRead, windowAnswer, windowWritten, windowList}
+use Rattle.index.specs.Answers.{PlaneIndex, cellsRemoved, insertEnd, insertAnswer, removeEnd, removeAnswer, cleared, matchesIn, windowRead, windowAnswer, windowWritten, windowList}
 use Rattle.index.specs.Changes.{insertedIndex, InsertMemory, workAfter, removedIndex, RemoveMemory}
 use Rattle.index.specs.Numbers.{insertTold, removeTold, windowTold}
 use Rattle.index.specs.declared.answer.Inserted.{Inserted}
@@ -34,7 +34,7 @@ use Rattle.history.proofs.Answers.{Holds, by2, right, parts, insert-val
 
 -- a refused insertion leaves the memory
 pub insert-refused : (r : Inserted) (m m′ : List ℕ) (e : CellEntry) → InsertMemory r m e m′ → accepted (insertTold r) ≡ false → m′ ≡ m
-insert-refused (I.Accepted n) m m′ e g f = absurd (true≢false f)
+insert-refused (I.Accepted n removed) m m′ e g f = absurd (true≢false f)
 insert-refused I.WrongLength m m′ e g f = g
 insert-refused I.WrongWorkLength m m′ e g f = g
 insert-refused I.OffGrid m m′ e g f = g
@@ -46,7 +46,7 @@ insert-refused I.NodeLimit m m′ e g f = g
 -- the work area, by the number returned
 pub work-left : (r : Inserted) (w : List ℕ) → workAfter r w ≡ workLeft (insertTold r .number) w
 unfolding workLeft
-work-left (I.Accepted n) w = refl
+work-left (I.Accepted n removed) w = refl
 work-left I.WrongLength w = refl
 work-left I.WrongWorkLength w = refl
 work-left I.OffGrid w = refl
@@ -74,12 +74,15 @@ module _ (N : ℕ) (m : List ℕ) (i : PlaneIndex) (h : Holds N m i) where
       at false true g = g
       at false false g = g
 
-      ends : (o : Outcome (planeSpace fanout)) → insertion (planeSpace fanout) (planeRoot fanout) N i e ≡ o → InsertMemory (insertEnd o) m e m′
+      ends : (o : Outcome (planeSpace fanout)) → insertion (planeSpace fanout) (planeRoot fanout) N i e ≡ o
+          → InsertMemory (insertEnd (cellsRemoved i (e .cell)) o) m e m′
           → reading fanout m′ ≡ some (outcomeIndex (planeSpace fanout) i o)
       ends (refused k) q g = ap (reading fanout) (at (eqb k 5) (eqb k 7) g) ∙ h .reads
       ends (acceptedAs j) q g = g ∙ rw (h .reads, parts N m i h, q)
 
-      go : (a b : Bool) → InsertMemory (by2 a b (insertEnd (insertion (planeSpace fanout) (planeRoot fanout) N i e)) I.OffGrid I.WrongWorkLength) m e m′
+      go : (a b : Bool) → InsertMemory
+          (by2 a b (insertEnd (cellsRemoved i (e .cell))
+          (insertion (planeSpace fanout) (planeRoot fanout) N i e)) I.OffGrid I.WrongWorkLength) m e m′
           → reading fanout m′ ≡ some (cond (eqb (by2 a b 0 3 2) 0) (outcomeIndex (planeSpace fanout) i (insertion (planeSpace fanout) (planeRoot fanout) N i e)) i)
       go false b g = ap (reading fanout) g ∙ h .reads
       go true false g = ap (reading fanout) g ∙ h .reads

@@ -19,14 +19,17 @@ use Rattle.plane.proofs.Windows.{plane-window-laws}
 use Rattle.memory.proofs.ReadingLaws.{fresh}
 use Rattle.memory.specs.Fanout.{fanout}
 use Rattle.index.specs.Answers.{PlaneIndex}
+use Rattle.index.specs.Numbers.{insertTold}
 use Rattle.history.specs.Calls.{IndexCall, Made, accepted, fed, freshMemory, Linked, recordFrom}
 use Rattle.history.specs.Contract.{KeptBy, Kept}
 use Rattle.history.specs.Defined.{indexAfter, AsDefined}
 use Rattle.history.specs.Claim.{EachWith, Reports, PointVisits, visitsTold, VisitsExact, NearestExact, NearestBy, TellsNearest, HistoryClaim}
 use Rattle.history.specs.Emptiness.{EmptyExact, EmptyBy, TellsEmpty}
+use Rattle.history.specs.Removed.{RemovedExact, RemovedTold}
 use Rattle.history.proofs.Answers.{Holds}
 use Rattle.history.proofs.Steps.{stepped, as-defined, holds-after}
 use Rattle.history.proofs.States.{PlaneState, one-fits, two-fit, goes, Goes}
+use Rattle.history.proofs.Removed.{insert-removed}
 use Rattle.history.proofs.Visits.{point-visits}
 use Rattle.history.proofs.Nearest.{tells-nearest}
 use Rattle.history.proofs.Emptiness.{tells-empty}
@@ -141,6 +144,24 @@ unfolding All
 all-visits [] p = tt
 all-visits (d ∷ ds) p = (call-visits d (p .0), all-visits ds (p .1))
 
+-- An accepted insertion, on any memory.
+removed-by : (k : IndexCall) (d : Made) → KeptBy k d → RemovedTold k (d .before) (d .told)
+removed-by (insertCall e) d p = λ f.
+    let a = p .told ∙ ap insertTold (p .contract .answer) in
+    subst (RemovedExact (d .before) (e .cell)) (sym a)
+    (insert-removed (d .before) e (length (d .lent)) (ap accepted (sym a) ∙ f))
+removed-by (removeCall c) d p = tt
+removed-by clearCall d p = tt
+removed-by (pointCall c) d p = tt
+removed-by (windowCall w) d p = tt
+removed-by (nearestCall c) d p = tt
+removed-by (emptyCall w) d p = tt
+
+pub all-removed : (ds : List Made) → All Kept ds → All (λ d. RemovedTold (d .call) (d .before) (d .told)) ds
+unfolding All
+all-removed [] p = tt
+all-removed (d ∷ ds) p = (removed-by (d .call) d (p .0), all-removed ds (p .1))
+
 -- Demand 3.
 pub kept-history : (N : ℕ) → 1 ≤ N → N ≤ 256 → (ds : List Made) (m : List ℕ) → All Kept ds → Linked (freshMemory N) ds m → HistoryClaim N ds m
 kept-history N a b ds m p l =
@@ -163,6 +184,7 @@ kept-history N a b ds m p l =
       covers = t .covers;
       reported = c .reported;
       visits = all-visits ds p;
+      removed = all-removed ds p;
       nearest = c .nearest;
       emptiness = c .emptiness;
     }

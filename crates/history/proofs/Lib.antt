@@ -3,6 +3,7 @@ pub mod Effects
 pub mod Steps
 pub mod States
 pub mod Visits
+pub mod Removed
 pub mod Windows
 pub mod Nearest
 pub mod Emptiness

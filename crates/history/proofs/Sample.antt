@@ -14,6 +14,7 @@ use Rattle.tree.specs.Nodes.{held, nodes}
 use Rattle.tree.specs.Split.{split}
 use Rattle.tree.specs.Depth.{itemPolygons}
 use Rattle.tree.specs.Insert.{insertAt, insertTree}
+use Rattle.tree.specs.Removed.{removedAt, removedTotal}
 use Rattle.tree.specs.Nearest.{orNearer, walkNode}
 use Rattle.tree.specs.Emptiness.{nodeToMatch}
 use Rattle.tree.specs.Order.{comesBefore}
@@ -46,8 +47,8 @@ sample-input =
     ∷ []
 
 pub sample : toldAll none sample-input
-    ≡ accepts (1 ∷ [])
-    ∷ accepts (2 ∷ [])
+    ≡ accepts (1 ∷ 0 ∷ [])
+    ∷ accepts (2 ∷ 0 ∷ [])
     ∷ accepts (1 ∷ 1 ∷ 9 ∷ [])
     ∷ accepts (0 ∷ 1 ∷ [])
     ∷ refusal 5
@@ -56,7 +57,7 @@ pub sample : toldAll none sample-input
     ∷ accepts (0 ∷ [])
     ∷ accepts (0 ∷ 0 ∷ [])
     ∷ []
-unfolding toldAll toldOn indexAfter early toldOf answer after onGrid any insertTree total nodes flatMap held bind insertAt split keep valid itemPolygons hasCell prune anyHas meets grown sharesWith cellRect nonEmpty overlap
+unfolding toldAll toldOn indexAfter early toldOf answer after onGrid any insertTree removedTotal removedAt total nodes flatMap held bind insertAt split keep valid itemPolygons hasCell prune anyHas meets grown sharesWith cellRect nonEmpty overlap
 sample = refl
 
 -- Nearest queries between its first two entries: nothing is held, the nearer one, a tie that goes to the smaller x, the entry itself.
@@ -72,13 +73,13 @@ nearest-input =
 
 pub nearest-sample : toldAll none nearest-input
     ≡ refusal 10
-    ∷ accepts (1 ∷ [])
-    ∷ accepts (2 ∷ [])
+    ∷ accepts (1 ∷ 0 ∷ [])
+    ∷ accepts (2 ∷ 0 ∷ [])
     ∷ accepts (20 ∷ 12 ∷ 9 ∷ 20 ∷ 1 ∷ [])
     ∷ accepts (10 ∷ 10 ∷ 7 ∷ 26 ∷ 1 ∷ [])
     ∷ accepts (10 ∷ 10 ∷ 7 ∷ 0 ∷ 1 ∷ [])
     ∷ []
-unfolding toldAll toldOn indexAfter early toldOf answer after onGrid any insertTree total nodes flatMap held bind insertAt split keep hasCell anyHas grown sharesWith cellRect nonEmpty overlap orNearer walkNode comesBefore gap squared
+unfolding toldAll toldOn indexAfter early toldOf answer after onGrid any insertTree removedTotal removedAt total nodes flatMap held bind insertAt split keep hasCell anyHas grown sharesWith cellRect nonEmpty overlap orNearer walkNode comesBefore gap squared
 nearest-sample = refl
 
 -- Emptiness queries on the same two entries: nothing is held, a window with an entry, one between the entries, one beside
@@ -96,12 +97,12 @@ emptiness-input =
 
 pub emptiness-sample : toldAll none emptiness-input
     ≡ accepts (1 ∷ 0 ∷ [])
-    ∷ accepts (1 ∷ [])
-    ∷ accepts (2 ∷ [])
+    ∷ accepts (1 ∷ 0 ∷ [])
+    ∷ accepts (2 ∷ 0 ∷ [])
     ∷ accepts (0 ∷ 1 ∷ [])
     ∷ accepts (1 ∷ 1 ∷ [])
     ∷ accepts (1 ∷ 0 ∷ [])
     ∷ refusal 3
     ∷ []
-unfolding toldAll toldOn indexAfter early toldOf answer after onGrid any insertTree total nodes flatMap held bind insertAt split keep valid hasCell anyHas meets grown sharesWith cellRect nonEmpty overlap nodeToMatch
+unfolding toldAll toldOn indexAfter early toldOf answer after onGrid any insertTree removedTotal removedAt total nodes flatMap held bind insertAt split keep valid hasCell anyHas meets grown sharesWith cellRect nonEmpty overlap nodeToMatch
 emptiness-sample = refl

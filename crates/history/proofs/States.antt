@@ -1,7 +1,7 @@
 -- Index and record go on together from call to call: the tree's laws, with the tests that come before the tree is looked at.
 use Prim.Native.Nat.{ℕ, _+_, _*_, _≤_}
 use mathlib.Core.Bool.{Bool, true, false, cond, false≢true}
-use mathlib.Core.List.{List, [], _∷_}
+use mathlib.Core.List.{List}
 use mathlib.Core.Option.{Option, none, some}
 use mathlib.Core.Path.{_≡_, refl, sym, ap, _∙_, subst}
 use native.Mathlib.Omega.{arith}
@@ -16,7 +16,7 @@ use Rattle.tree.specs.Insert.{accepted as acceptedAs}
 use Rattle.tree.specs.Remove.{remove}
 use Rattle.tree.specs.Query.{holds, entryAt, visits}
 use Rattle.tree.specs.Nearest.{nearest, walk}
-use Rattle.tree.specs.Calls.{insertCall, removeCall, clearCall, pointCall, windowCall, nearestCall, emptyCall, isAccepted, outcomeAnswer, insertion, removal, nearestEnd, answer}
+use Rattle.tree.specs.Calls.{insertCall, removeCall, clearCall, pointCall, windowCall, nearestCall, emptyCall, isAccepted, outcomeAnswer, insertedAnswer, insertion, removal, nearestEnd, answer}
 use Rattle.tree.specs.Calls.{pointAnswer as pointFound}
 use Rattle.tree.specs.Record.{recorded}
 use Rattle.tree.specs.Claim.{Reported, OnGrid}
@@ -28,9 +28,10 @@ use Rattle.plane.proofs.Rects.{plane-space-laws}
 use Rattle.plane.proofs.Roots.{plane-root-laws}
 use Rattle.plane.proofs.Steps.{plane-steps}
 use Rattle.memory.specs.Fanout.{fanout}
-use Rattle.index.specs.Answers.{PlaneIndex}
+use Rattle.index.specs.Answers.{PlaneIndex, cellsRemoved}
 use Rattle.index.specs.Numbers.{Told, refusal}
 use Rattle.history.specs.Calls.{IndexCall, accepted, isChange, fed}
+use Rattle.history.specs.Claim.{heldTold}
 use Rattle.history.specs.Defined.{early, toldOf, treeAnswer, treeAfter, toldOn, indexAfter}
 
 pub one-fits : 1 ≤ fanout
@@ -61,18 +62,25 @@ module _ (N : ℕ) (i : PlaneIndex) (len : ℕ) where
   on-grid (emptyCall w) f = tt
 
   -- an insertion is accepted by its number exactly where the tree's answer accepts
-  insert-accepts : (c : Bool) (t : Option (Tree (planeSpace fanout)))
-      → accepted (toldOf len (outcomeAnswer (planeSpace fanout) (cond c (refused 5) (limited (planeSpace fanout) N t))))
-      ≡ isAccepted (outcomeAnswer (planeSpace fanout) (cond c (refused 5) (limited (planeSpace fanout) N t)))
+  insert-accepts : (n : ℕ) (c : Bool) (t : Option (Tree (planeSpace fanout)))
+      → accepted (toldOf len (insertedAnswer (planeSpace fanout) n (cond c (refused 5) (limited (planeSpace fanout) N t))))
+      ≡ isAccepted (insertedAnswer (planeSpace fanout) n (cond c (refused 5) (limited (planeSpace fanout) N t)))
   unfolding toldOf
-  insert-accepts true t = refl
-  insert-accepts false none = refl
-  insert-accepts false (some t) = go (leb (nodeCount (planeSpace fanout) (some t)) N)
+  insert-accepts n true t = refl
+  insert-accepts n false none = refl
+  insert-accepts n false (some t) = go (leb (nodeCount (planeSpace fanout) (some t)) N)
     where
-      go : (d : Bool) → accepted (toldOf len (outcomeAnswer (planeSpace fanout) (cond d (acceptedAs (some t)) (refused 8))))
-          ≡ isAccepted (outcomeAnswer (planeSpace fanout) (cond d (acceptedAs (some t)) (refused 8)))
+      go : (d : Bool) → accepted (toldOf len (insertedAnswer (planeSpace fanout) n (cond d (acceptedAs (some t)) (refused 8))))
+          ≡ isAccepted (insertedAnswer (planeSpace fanout) n (cond d (acceptedAs (some t)) (refused 8)))
       go true = refl
       go false = refl
+
+  -- the same of an insertion of an entry into the index
+  insertion-accepts : (e : CellEntry) → accepted (toldOf len (treeAnswer N i (insertCall e))) ≡ isAccepted (treeAnswer N i (insertCall e))
+  unfolding answer
+  insertion-accepts e =
+      insert-accepts (cellsRemoved i (e .cell)) (holds (planeSpace fanout) (e .cell) i)
+      (insertTree (planeSpace fanout) (planeRoot fanout) i e)
 
   -- so is a removal
   remove-accepts : (c : Bool) (j : PlaneIndex) → accepted (toldOf len (outcomeAnswer (planeSpace fanout) (cond c (acceptedAs j) (refused 6))))
@@ -102,7 +110,7 @@ module _ (N : ℕ) (i : PlaneIndex) (len : ℕ) where
   fed-same : (r : List CellEntry) (k : IndexCall) → fed r k (isAccepted (treeAnswer N i k))
       ≡ fed r k (accepted (toldOf len (treeAnswer N i k)))
   unfolding answer toldOf
-  fed-same r (insertCall e) = ap (fed r (insertCall e)) (sym (insert-accepts (holds (planeSpace fanout) (e .cell) i) (insertTree (planeSpace fanout) (planeRoot fanout) i e)))
+  fed-same r (insertCall e) = ap (fed r (insertCall e)) (sym (insertion-accepts e))
   fed-same r (removeCall c) = ap (fed r (removeCall c)) (sym (remove-accepts (holds (planeSpace fanout) c i) (remove (planeSpace fanout) c i)))
   fed-same r clearCall = refl
   fed-same r (pointCall c) = fed-point r (pointCall c) (entryAt (planeSpace fanout) c i) (visits (planeSpace fanout) c i)
@@ -113,21 +121,30 @@ module _ (N : ℕ) (i : PlaneIndex) (len : ℕ) where
   -- the entries reported
   outcome-reports : (o : Outcome (planeSpace fanout)) (r : List CellEntry) → Reported (planeSpace fanout) (outcomeAnswer (planeSpace fanout) o) r
       → accepted (toldOf len (outcomeAnswer (planeSpace fanout) o)) ≡ isAccepted (outcomeAnswer (planeSpace fanout) o)
-      → accepted (toldOf len (outcomeAnswer (planeSpace fanout) o)) ≡ true → toldOf len (outcomeAnswer (planeSpace fanout) o) .values ≡ length r ∷ []
+      → accepted (toldOf len (outcomeAnswer (planeSpace fanout) o)) ≡ true → heldTold (toldOf len (outcomeAnswer (planeSpace fanout) o)) ≡ length r
   unfolding toldOf
   outcome-reports (refused k) r g e f = absurd (false≢true (sym e ∙ f))
-  outcome-reports (acceptedAs j) r g e f = ap (λ n. n ∷ []) g
+  outcome-reports (acceptedAs j) r g e f = g
+
+  inserted-reports : (n : ℕ) (o : Outcome (planeSpace fanout)) (r : List CellEntry)
+      → Reported (planeSpace fanout) (insertedAnswer (planeSpace fanout) n o) r
+      → accepted (toldOf len (insertedAnswer (planeSpace fanout) n o)) ≡ isAccepted (insertedAnswer (planeSpace fanout) n o)
+      → accepted (toldOf len (insertedAnswer (planeSpace fanout) n o)) ≡ true → heldTold (toldOf len (insertedAnswer (planeSpace fanout) n o)) ≡ length r
+  unfolding toldOf
+  inserted-reports n (refused k) r g e f = absurd (false≢true (sym e ∙ f))
+  inserted-reports n (acceptedAs j) r g e f = g
 
   -- of a call that passed the early tests
   reports : (r : List CellEntry) (k : IndexCall) → Reported (planeSpace fanout) (treeAnswer N i k) r
       → accepted (toldOf len (treeAnswer N i k)) ≡ true → isChange k ≡ true
-      → toldOf len (treeAnswer N i k) .values ≡ length r ∷ []
+      → heldTold (toldOf len (treeAnswer N i k)) ≡ length r
   unfolding answer toldOf
   reports r (insertCall e) g f c =
-      outcome-reports (insertion (planeSpace fanout) (planeRoot fanout) N i e) r g (insert-accepts (holds (planeSpace fanout) (e .cell) i) (insertTree (planeSpace fanout) (planeRoot fanout) i e)) f
+      inserted-reports (cellsRemoved i (e .cell)) (insertion (planeSpace fanout) (planeRoot fanout) N i e) r g
+      (insertion-accepts e) f
   reports r (removeCall c) g f d =
       outcome-reports (removal (planeSpace fanout) i c) r g (remove-accepts (holds (planeSpace fanout) c i) (remove (planeSpace fanout) c i)) f
-  reports r clearCall g f c = ap (λ n. n ∷ []) g
+  reports r clearCall g f c = g
   reports r (pointCall c) g f d = absurd (false≢true d)
   reports r (windowCall w) g f d = absurd (false≢true d)
   reports r (nearestCall c) g f d = absurd (false≢true d)
@@ -136,7 +153,7 @@ module _ (N : ℕ) (i : PlaneIndex) (len : ℕ) where
   -- What is carried on by a call that was told t and left the index j.
   pub record Goes (r : List CellEntry) (k : IndexCall) (j : PlaneIndex) (t : Told) : Type 0 where
     pub state : PlaneState N j (fed r k (accepted t))
-    pub report : accepted t ≡ true → isChange k ≡ true → t .values ≡ length (fed r k (accepted t)) ∷ []
+    pub report : accepted t ≡ true → isChange k ≡ true → heldTold t ≡ length (fed r k (accepted t))
 
   -- a call that failed an early test
   goes-early : (r : List CellEntry) (k : IndexCall) (n : ℕ) → PlaneState N i r → eqb n 0 ≡ false → Goes r k i (refusal n)

@@ -1,5 +1,5 @@
 -- Demand 3, as one claim about a list of calls made one after another from a fresh memory.
--- docs/RULES.md 5.7, 6.3, 6.6 to 6.16
+-- docs/RULES.md 5.7, 6.3, 6.6 to 6.16, 6.19
 use Prim.Native.Nat.{ℕ, suc, _≤_}
 use mathlib.Core.Bool.{Bool, true, cond}
 use mathlib.Core.List.{List, [], _∷_}
@@ -25,6 +25,7 @@ use Rattle.index.specs.Numbers.{Told}
 use Rattle.history.specs.Calls.{IndexCall, Made, accepted, isChange, fed, recordFrom}
 use Rattle.history.specs.Defined.{AsDefined}
 use Rattle.history.specs.Emptiness.{TellsEmpty}
+use Rattle.history.specs.Removed.{RemovedTold}
 
 -- the polygon has the cell
 abbrev pub polygonHas : Cell → List Rect → Bool
@@ -36,9 +37,13 @@ EachWith P r [] = Unit {0}
 EachWith P r (d ∷ ds) =
     P d (fed r (d .call) (accepted (d .told))) × EachWith P (fed r (d .call) (accepted (d .told))) ds
 
+-- the entries held that an accepted change reports: its first value, and the only one but for an insertion's total
+abbrev pub heldTold : Told → ℕ
+heldTold t = getD (t .values) 0 0
+
 -- 'Wherever a call reports the number of entries held, that is the record's length after the call.' r is the record after it.
 abbrev pub Reports : Made → List CellEntry → Type 0
-Reports d r = accepted (d .told) ≡ true → isChange (d .call) ≡ true → d .told .values ≡ length r ∷ []
+Reports d r = accepted (d .told) ≡ true → isChange (d .call) ≡ true → heldTold (d .told) ≡ length r
 
 -- the visits that an accepted point query reports: its second value
 abbrev pub visitsTold : Told → ℕ
@@ -122,6 +127,9 @@ pub record HistoryClaim (N : ℕ) (ds : List Made) (m : List ℕ) : Type 0 where
   -- "Every accepted point query, in such a list .., reports as visits exactly the number of nodes whose polygon has its cell, and they are
   -- at most the height."
   pub visits : All (λ d. PointVisits (d .call) (d .before) (d .told)) ds
+  -- Request A.6: an accepted insertion tells, behind the entries held, the total that siblings removed, by the
+  -- definition
+  pub removed : All (λ d. RemovedTold (d .call) (d .before) (d .told)) ds
   -- Request A.1: an accepted nearest query tells an entry of the record at that call, none of the record is nearer, and
   -- 'Visits are at most the number of nodes.'
   pub nearest : EachWith TellsNearest [] ds

@@ -10,7 +10,7 @@ use lib.Dec.{leb, eqb}
 use lib.ListN.{length, replicate, drop}
 use Rattle.geometry.specs.Cells.{onGrid, valid}
 use Rattle.tree.specs.Calls.{insertCall, removeCall, clearCall, pointCall, windowCall, nearestCall, emptyCall, answer, after}
-use Rattle.tree.specs.Calls.{Answer, refusal, reports, pointAnswer, windowAnswer, nearestAnswer, emptyAnswer}
+use Rattle.tree.specs.Calls.{Answer, refusal, inserted, reports, pointAnswer, windowAnswer, nearestAnswer, emptyAnswer}
 use Rattle.plane.specs.Plane.{planeSpace, planeRoot}
 use Rattle.plane.specs.Windows.{planeWindow}
 use Rattle.memory.specs.Reading.{reading}
@@ -32,11 +32,13 @@ early N (windowCall w) len = cond (valid w) 0 3
 early N (nearestCall c) len = cond (onGrid c) 0 3
 early N (emptyCall w) len = cond (valid w) 0 3
 
--- The number and values of the tree's answer: 'held with tag, or not held, and the visits'; 'matches and visits', or 9, 'list shorter than
--- 3 × matches: number, matches'; 'the entry, the squared distance and the number of nodes entered' (10, 'nothing is
--- held', is the tree's own refusal); 'a yes or no for a window', 1 or 0, and the visits.
+-- The number and values of the tree's answer: the entries held, behind them an insertion's total; 'held with tag, or not
+-- held, and the visits'; 'matches and visits', or 9, 'list shorter than 3 × matches: number, matches'; 'the entry, the
+-- squared distance and the number of nodes entered' (10, 'nothing is held', is the tree's own refusal); 'a yes or no for
+-- a window', 1 or 0, and the visits.
 unfoldable pub toldOf : ℕ → Answer (planeSpace fanout) → Told
 toldOf len (refusal k) = numbers.refusal k
+toldOf len (inserted n removed) = accepts (n ∷ removed ∷ [])
 toldOf len (reports n) = accepts (n ∷ [])
 toldOf len (pointAnswer none v) = accepts (0 ∷ v ∷ [])
 toldOf len (pointAnswer (some e) v) = accepts (1 ∷ v ∷ e .tag ∷ [])

@@ -72,7 +72,7 @@ reads-same e v = record { index = v .index; reads = ap (reading fanout) e ∙ v 
 -- an insertion leaves an index, accepted or refused
 inserted-reads : (m : List ℕ) (e : CellEntry) (m′ : List ℕ) (r : Inserted) → InsertMemory r m e m′ → Reads m → Reads m′
 unfolding insertedIndex
-inserted-reads m e m′ (I.Accepted n) p v = record {
+inserted-reads m e m′ (I.Accepted n removed) p v = record {
   index = outcomeIndex (planeSpace fanout) (v .index) (insertion (planeSpace fanout) (planeRoot fanout) (partsOf m) (v .index) e);
   reads = p ∙ rw (v .reads);
 }

@@ -1,6 +1,6 @@
 -- The answer of each call, from the memory, its arguments and the lengths of the lent lists. 'Tests run in number order; the first that
 -- applies is given, and only where its cause holds.'
--- docs/RULES.md 4.23 to 4.25, 5.4 to 5.11, 5.13, 5.18, 7.1, 7.2
+-- docs/RULES.md 4.23 to 4.26, 5.4 to 5.11, 5.13, 5.18, 7.1, 7.2
 use Prim.Native.Nat.{ℕ, _+_, _*_}
 use mathlib.Core.Bool.{Bool, true, false, cond}
 use mathlib.Core.List.{List, _++_, flatMap}
@@ -12,6 +12,7 @@ use Rattle.geometry.specs.declared.rect.Rect.{Rect}
 use Rattle.geometry.specs.Cells.{onGrid, valid}
 use Rattle.tree.specs.Tree.{Index, entries}
 use Rattle.tree.specs.Insert.{Outcome, refused, accepted}
+use Rattle.tree.specs.Removed.{removedTotal}
 use Rattle.tree.specs.Query.{entryAt, visits, matches, windowVisits}
 use Rattle.tree.specs.Nearest.{nearest, walk}
 use Rattle.tree.specs.Emptiness.{isEmpty, emptyVisits}
@@ -42,14 +43,18 @@ use Rattle.index.specs.declared.answer.EmptyFound.the-variants as E
 abbrev pub PlaneIndex : Type 0
 PlaneIndex = Index (planeSpace fanout)
 
--- how an insertion ended: 5, 7 and 8 of the table
-unfoldable pub insertEnd : Outcome (planeSpace fanout) → Inserted
-insertEnd (refused k) = cond (eqb k 5) I.CellHeld (cond (eqb k 7) I.PolygonLimit I.NodeLimit)
-insertEnd (accepted i) = I.Accepted (length (entries (planeSpace fanout) i))
+-- A.6: 'the total removed by siblings, summed over all levels', of the insertion of a cell
+abbrev pub cellsRemoved : PlaneIndex → Cell → ℕ
+cellsRemoved i c = removedTotal (planeSpace fanout) (planeRoot fanout) i c
+
+-- how an insertion that removed so many cells ended: 5, 7 and 8 of the table
+unfoldable pub insertEnd : ℕ → Outcome (planeSpace fanout) → Inserted
+insertEnd removed (refused k) = cond (eqb k 5) I.CellHeld (cond (eqb k 7) I.PolygonLimit I.NodeLimit)
+insertEnd removed (accepted i) = I.Accepted (length (entries (planeSpace fanout) i)) removed
 
 unfoldable pub insertRead : ℕ → CellEntry → Option PlaneIndex → Inserted
 insertRead N e none = I.NoTree
-insertRead N e (some i) = insertEnd (insertion (planeSpace fanout) (planeRoot fanout) N i e)
+insertRead N e (some i) = insertEnd (cellsRemoved i (e .cell)) (insertion (planeSpace fanout) (planeRoot fanout) N i e)
 
 -- insertion: the index, the length of the work area, the entry. Tests 1, 2, 3, 4, 5, 7, 8
 unfoldable pub insertAnswer : List ℕ → ℕ → CellEntry → Inserted

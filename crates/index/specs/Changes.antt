@@ -30,7 +30,7 @@ insertedIndex N e (some i) = some (outcomeIndex (planeSpace fanout) i (insertion
 
 -- the index at exit, by the answer: accepted, it reads as the tree after; refused, every number is as it was
 abbrev pub InsertMemory : Inserted → List ℕ → CellEntry → List ℕ → Type 0
-InsertMemory (I.Accepted n) m e m' = reading fanout m' ≡ insertedIndex (partsOf m) e (reading fanout m)
+InsertMemory (I.Accepted n removed) m e m' = reading fanout m' ≡ insertedIndex (partsOf m) e (reading fanout m)
 InsertMemory I.WrongLength m e m' = m' ≡ m
 InsertMemory I.WrongWorkLength m e m' = m' ≡ m
 InsertMemory I.OffGrid m e m' = m' ≡ m
@@ -41,7 +41,7 @@ InsertMemory I.NodeLimit m e m' = m' ≡ m
 
 -- the work area at exit: 'It is all zeros after acceptance and after refusals 7 and 8; other refusals don't touch it.'
 abbrev pub workAfter : Inserted → List ℕ → List ℕ
-workAfter (I.Accepted n) w = replicate (length w) 0
+workAfter (I.Accepted n removed) w = replicate (length w) 0
 workAfter I.WrongLength w = w
 workAfter I.WrongWorkLength w = w
 workAfter I.OffGrid w = w

@@ -1,5 +1,5 @@
 -- Document 01, 'Causes for saying no': the number and the values that each answer stands for. The number is 0 where the call accepts.
--- docs/RULES.md 4.24, 5.4 to 5.6, 5.9, 5.13, 5.18, 7.3, 7.4, 8.10
+-- docs/RULES.md 4.24, 4.26, 5.4 to 5.6, 5.9, 5.13, 5.18, 7.3, 7.4, 8.10
 use Prim.Native.Nat.{ℕ}
 use mathlib.Core.List.{List, [], _∷_}
 use Rattle.index.specs.declared.answer.Inserted.{Inserted}
@@ -28,9 +28,10 @@ refusal n = record { number = n; values = [] }
 abbrev pub accepts : List ℕ → Told
 accepts l = record { number = 0; values = l }
 
--- 'Insertion, removal and clearing report the entries held after the call.'
+-- 'Insertion, removal and clearing report the entries held after the call'; insertion then 'the total removed by
+-- siblings'
 abbrev pub insertTold : Inserted → Told
-insertTold (I.Accepted n) = accepts (n ∷ [])
+insertTold (I.Accepted n removed) = accepts (n ∷ removed ∷ [])
 insertTold I.WrongLength = refusal 1
 insertTold I.WrongWorkLength = refusal 2
 insertTold I.OffGrid = refusal 3

@@ -1,8 +1,8 @@
 // What the calls answer. specs/Answers.antt defines which case it is, specs/Numbers.antt document 01's number and values for each.
 
 pub enum Inserted {
-    // the entries held after the call
-    Accepted(u32),
+    // the entries held after the call, and how many cells siblings removed
+    Accepted { held: u32, removed: u64 },
     WrongLength,
     WrongWorkLength,
     OffGrid,

@@ -1,9 +1,10 @@
 -- The descent, one level after another: the node that step 2 goes to is sound again, and the path is that of the definition.
-use Prim.Native.Nat.{ℕ, suc, _+_, _*_, _-_, _≤_, _<_}
+use Prim.Native.Nat.{ℕ, zero, suc, _+_, _*_, _-_, _≤_, _<_}
 use mathlib.Core.Path.{_≡_, refl, sym, ap, _∙_, subst}
 use mathlib.Core.Bool.{Bool, true, false}
 use mathlib.Core.List.{List, [], _∷_, _++_, flatMap}
 use mathlib.Core.Option.{Option, none, some, bind}
+use native.Mathlib.Nat.{add-zero}
 use native.Mathlib.Omega.{arith}
 use native.Mathlib.Decide.{decLe, decLt}
 use lib.ListN.{length, take, drop, getD, set, length-set}
@@ -14,6 +15,7 @@ use Rattle.geometry.specs.declared.polygon.Polygon.{Polygon}
 use Rattle.geometry.specs.Numbers.{rectsOf}
 use Rattle.tree.specs.Nodes.{Item, held}
 use Rattle.tree.specs.Sound.{SoundItem, SoundItems, Count}
+use Rattle.tree.specs.Removed.{removedAt}
 use Rattle.tree.specs.Plan as P
 use Rattle.tree.specs.Plan.{Way, descend}
 use Rattle.tree.proofs.Lists.{all-map}
@@ -37,6 +39,7 @@ use Rattle.step2.specs.Choose.{Routing, ChosenBranch, ChosenAt, NoneChosen}
 use Rattle.emission.specs.Path.{partOn, placeOn, lineOn, polygonOn, rowAt, wayAt, PathNode, PathFrom}
 use Rattle.emission.proofs.RowLaws.{row-of}
 use Rattle.insertion.specs.Descent.{childOr, itemsAt, LevelPut, Descending, Kept, Linked, Reached, Stopped, Descended}
+use Rattle.insertion.specs.Removed.{RemovedBelow}
 
 abbrev laws : Laws (planeSpace fanout)
 laws = plane-space-laws fanout
@@ -89,6 +92,19 @@ module _ (path m : List ℕ) (c : Cell) (d : Descending 0 path m c) where
 -- At the leaf the descent is done.
 pub at-leaf : (level : ℕ) (path m : List ℕ) (c : Cell) → level ≡ 0 → Descending level path m c → Descended level path m c path true
 at-leaf level path m c z d = rw z (leaf path m c (rw z at d))
+
+-- No cell is removed there.
+pub at-leaf-removed : (level : ℕ) (path m : List ℕ) (c : Cell) (above : ℕ) → level ≡ 0
+    → RemovedBelow level path m c above (record { reached = true; removed = above })
+at-leaf-removed level path m c above z = record {
+  is = λ g. sym (ap (λ n. above + n)
+      (none-removed level z (polygonOn path level) (itemsAt level m (partOn path level))) ∙ add-zero above);
+}
+  where
+    none-removed : (n : ℕ) → n ≡ 0 → (p : List Rect) (l : List (Item (planeSpace fanout) n))
+        → removedAt (planeSpace fanout) n p l c ≡ 0
+    none-removed zero e p l = unfold removedAt in refl
+    none-removed (suc n) e p l = absurd (omega arith)
 
 module _ (n : ℕ) (path m : List ℕ) (c : Cell) (d : Descending (suc n) path m c) where
   abbrev k : ℕ
@@ -189,6 +205,20 @@ module _ (n : ℕ) (path m : List ℕ) (c : Cell) (d : Descending (suc n) path m
       where
         both : (p p′ : List Rect) (t t′ : List (Item (planeSpace fanout) n)) → p ≡ p′ → t ≡ t′ → SoundItems (planeSpace fanout) n p t → SoundItems (planeSpace fanout) n p′ t′
         both p p′ t t′ e f s = subst (λ (z : List Rect). SoundItems (planeSpace fanout) n z t′) e (subst (λ (z : List (Item (planeSpace fanout) n)). SoundItems (planeSpace fanout) n p z) f s)
+
+    -- the cells removed above, here and below
+    pub removed-here : (path₁ path₂ : List ℕ) → LevelPut path₁ n (childAt m k place) (rectsOf q) path₂
+        → (above u w : ℕ) → u ≡ planeSpace fanout .removed (b .child) c
+        → w ≡ above + u + removedAt (planeSpace fanout) n (polygonOn path₂ n) (itemsAt n m (partOn path₂ n)) c
+        → w ≡ above + removedAt (planeSpace fanout) (suc n) (polygonOn path (suc n)) (itemsAt (suc n) m k) c
+    unfolding removedAt
+    removed-here path₁ path₂ v above u w e f =
+        let i : itemsAt n m (partOn path₂ n) ≡ x .old .child = ap (itemsAt n m) (v .part) ∙ items-are n m (childAt m k place) (x .old) child-reads in
+        let g : removedAt (planeSpace fanout) n (polygonOn path₂ n) (itemsAt n m (partOn path₂ n)) c
+        ≡ removedAt (planeSpace fanout) n (rectsOf q) (x .old .child) c =
+        ap (λ (p : List Rect). removedAt (planeSpace fanout) n p (itemsAt n m (partOn path₂ n)) c) (v .polygon)
+        ∙ ap (λ (l : List (Item (planeSpace fanout) n)). removedAt (planeSpace fanout) n (rectsOf q) l c) i in
+        rw (items-b, x .chosen) (omega arith)
 
     -- back from the node gone to
     module _ (path₂ path₃ : List ℕ) (v : LevelPut (set path (68 * suc n + 1) place) n (childAt m k place) (rectsOf q) path₂) (kept : Kept n path₂ path₃) where

@@ -19,6 +19,7 @@ use Rattle.geometry.proofs.CellLaws.{grid-of}
 use Rattle.tree.specs.Nodes.{held, nodes}
 use Rattle.tree.specs.Lists.{total}
 use Rattle.tree.specs.Tree.{Tree, top, nodeCount, SoundTree}
+use Rattle.tree.specs.Removed.{removedTotal}
 use Rattle.tree.specs.Insert.{refused, accepted, limited, insertTree}
 use Rattle.tree.proofs.Insert.{insert-sound}
 use Rattle.plane.specs.Lines.{CellEntry}
@@ -118,8 +119,8 @@ module _ (m w : List ℕ) (c : Cell) (t : ℕ) (empty : reading fanout m ≡ som
     unfolding total nodes
     count-y = refl
 
-    pub first-built : (m′ : List ℕ) → m′ ≡ written (length m) 1 1 w′ → Built m w e m′ w′ (I.Accepted 1)
-    unfolding insertEnd insertRead insertedIndex any flatMap held
+    pub first-built : (m′ : List ℕ) → m′ ≡ written (length m) 1 1 w′ → Built m w e m′ w′ (I.Accepted 1 0)
+    unfolding insertEnd insertRead insertedIndex removedTotal any flatMap held
     first-built m′ q =
         let tested = test-of-sound fanout y sound-y in
         let b = right .some-parts in
@@ -137,7 +138,7 @@ module _ (m w : List ℕ) (c : Cell) (t : ℕ) (empty : reading fanout m ≡ som
 pub first-done : (m w : List ℕ) (c : Cell) (t : ℕ) (empty leaf : Node) (p : Polygon) (w′ m′ : List ℕ) → reading fanout m ≡ some none → length w ≡ length m → onGrid c ≡ true
     → empty ≡ nodeOf 0 [] → leaf ≡ withEntry empty (entryOf c t)
     → PolygonOf (record { llx = c .x; lly = c .y; urx = c .x + 1; ury = c .y + 1 } ∷ []) p → PartPut w 0 (nodePart (rectsOf p) (leaf .count) (leaf .items)) w′
-    → m′ ≡ written (length m) 1 1 w′ → Built m w (entryOf c t) m′ w′ (I.Accepted 1)
+    → m′ ≡ written (length m) 1 1 w′ → Built m w (entryOf c t) m′ w′ (I.Accepted 1 0)
 unfolding cellRect
 first-done m w c t empty leaf p w′ m′ fresh long grid n i h put q =
     let one : leaf ≡ leafOf (entryOf c t ∷ []) = i ∙ ap (λ (l : Node). withEntry l (entryOf c t)) (n ∙ no-entries) ∙ entry-more [] (entryOf c t) (omega arith) in

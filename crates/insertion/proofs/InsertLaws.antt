@@ -32,7 +32,7 @@ use Rattle.memory.proofs.NodeImage.{length-node}
 use Rattle.memory.specs.Fanout.{fanout}
 use Rattle.index.specs.declared.answer.Inserted.{Inserted}
 use Rattle.index.specs.declared.answer.Inserted.the-variants as I
-use Rattle.index.specs.Answers.{insertEnd, insertRead}
+use Rattle.index.specs.Answers.{cellsRemoved, insertEnd, insertRead}
 use Rattle.index.specs.Changes.{entryOf, insertedIndex}
 use Rattle.index.specs.Walks.{Walkable}
 use Rattle.index.proofs.TreeWalk.{tree-walkable}
@@ -47,6 +47,7 @@ use Rattle.layout.specs.Nodes.{countAt}
 use Rattle.layout.specs.Writing.{written}
 use Rattle.insertion.specs.Planning.{Plannable, FullLevels, PlanMade}
 use Rattle.insertion.specs.Insert.{Inserting, PathReady, PathPlanned, PathRefused, PathFound, Built, BuiltInPlace}
+use Rattle.insertion.specs.Removed.{RemovedIs}
 use Rattle.layout.proofs.WritingLaws.{written-image}
 use Rattle.insertion.specs.Growing.{grownTree, Growing, Grown}
 use Rattle.insertion.proofs.PlanLoop.{plan-start, plan-end}
@@ -96,7 +97,9 @@ module _ (m : List ℕ) (level root : ℕ) (c : Cell) (t : ℕ) (v : Inserting m
   not-held = sym (ap (heldRead c) reads) ∙ v .new
 
   -- the insertion as the answer and the memory have it
-  read-is : insertRead N e (reading fanout m) ≡ insertEnd (limited (planeSpace fanout) N (insertTree (planeSpace fanout) (planeRoot fanout) (some x) e))
+  read-is : insertRead N e (reading fanout m)
+      ≡ insertEnd (cellsRemoved (some x) c)
+      (limited (planeSpace fanout) N (insertTree (planeSpace fanout) (planeRoot fanout) (some x) e))
   unfolding insertRead
   read-is = rw (reads, not-held)
 
@@ -166,13 +169,15 @@ module _ (m : List ℕ) (level root : ℕ) (c : Cell) (t : ℕ) (v : Inserting m
         omega arith
 
     -- the insertion is accepted: the memory reads as the tree after, which has no more nodes than there are parts
-    built-accepted : (w m′ w′ : List ℕ) (n : ℕ) → count ≤ N → reading fanout m′ ≡ some (some y) → length m′ ≡ length m → length w′ ≡ length w
-        → n ≡ length (entries (planeSpace fanout) (some x)) → Built m w e m′ w′ (I.Accepted (n + 1))
+    built-accepted : (w m′ w′ : List ℕ) (n u : ℕ) → count ≤ N → reading fanout m′ ≡ some (some y) → length m′ ≡ length m → length w′ ≡ length w
+        → n ≡ length (entries (planeSpace fanout) (some x)) → RemovedIs m c u → Built m w e m′ w′ (I.Accepted (n + 1) u)
     unfolding insertEnd
-    built-accepted w m′ w′ n fits r l k b =
+    built-accepted w m′ w′ n u fits r l k b o =
         let outcome : limited (planeSpace fanout) N (insertTree (planeSpace fanout) (planeRoot fanout) (some x) e) ≡ accepted (some y) = rw (gives, le-leb count N fits) in
+        let held : n + 1 ≡ length (entries (planeSpace fanout) (some y)) = let f = entries-y in omega arith in
         record {
-          answer = ap I.Accepted (let f = entries-y in let g : n + 1 ≡ length (entries (planeSpace fanout) (some y)) = omega arith in g) ∙ sym (read-is ∙ ap insertEnd outcome);
+          answer = ap (λ (i : ℕ). I.Accepted i u) held ∙ ap (I.Accepted (length (entries (planeSpace fanout) (some y)))) (o .is x reads)
+              ∙ sym (read-is ∙ ap (insertEnd (cellsRemoved (some x) c)) outcome);
           memory = r ∙ sym (index-is ∙ ap (λ o. some (outcomeIndex (planeSpace fanout) (some x) o)) outcome);
           memory-length = l;
           work-length = k;
@@ -218,14 +223,16 @@ module _ (m : List ℕ) (level root : ℕ) (c : Cell) (t : ℕ) (v : Inserting m
             ap (λ (j : ℕ). written j (r .parts) (r .height) w′) i ∙ written-image N (r .height) (emitNode fanout (y .level) 0 (top (planeSpace fanout) y)) w w′ (r .parts) n (let s = sound-x .some-parts in omega arith) (let a = parts-fit in let b = work-long in omega arith) (z .written)
             ∙ ap (λ (j : ℕ). memoryOf N j (emitNode fanout (y .level) 0 (top (planeSpace fanout) y))) (z .height-is)
 
-        pub built-tree : (m′ : List ℕ) (n : ℕ) → m′ ≡ written (length m) (r .parts) (r .height) w′ → n ≡ length (entries (planeSpace fanout) (some x)) → Built m w e m′ w′ (I.Accepted (n + 1))
-        built-tree m′ n a b =
+        pub built-tree : (m′ : List ℕ) (n u : ℕ) → m′ ≡ written (length m) (r .parts) (r .height) w′
+            → n ≡ length (entries (planeSpace fanout) (some x)) → RemovedIs m c u
+            → Built m w e m′ w′ (I.Accepted (n + 1) u)
+        built-tree m′ n u a b o =
             let i = length-right m (sound-x .right) .length-is in
             let tested = test-of-sound fanout y sound-y in
             let c-le : nodes (planeSpace fanout) (suc (y .level)) (top (planeSpace fanout) y) ≤ N = let f = fits in let d = count-y in omega arith in
             let im = a ∙ image-is in
-            built-accepted w m′ w′ n fits (ap (reading fanout) im ∙ image-reads fanout N y (omega arith) (sound-x .some-parts) few c-le tested)
-            (ap length im ∙ image-length fanout N y (omega arith) (sound-x .some-parts) few c-le tested ∙ sym i) (z .same-length) b
+            built-accepted w m′ w′ n u fits (ap (reading fanout) im ∙ image-reads fanout N y (omega arith) (sound-x .some-parts) few c-le tested)
+            (ap length im ∙ image-length fanout N y (omega arith) (sound-x .some-parts) few c-le tested ∙ sym i) (z .same-length) b o
 
     -- no node is split, and the path was written in place
     module _ (u : (j : ℕ) → j ≤ level → lineOn path j ≡ 0) where
@@ -238,13 +245,15 @@ module _ (m : List ℕ) (level root : ℕ) (c : Cell) (t : ℕ) (v : Inserting m
       y-grown : y ≡ grownTree (x .level) path m e
       y-grown = tree-grown m level path e (p .good .from) u ∙ ap (λ (i : ℕ). grownTree i path m e) (sym (v .tree-in .level-is))
 
-      pub built-grown : (w m′ : List ℕ) (n : ℕ) → Grown level path m e m′ → n ≡ length (entries (planeSpace fanout) (some x)) → Built m w e m′ w (I.Accepted (n + 1))
-      built-grown w m′ n g b =
+      pub built-grown : (w m′ : List ℕ) (n u : ℕ) → Grown level path m e m′
+          → n ≡ length (entries (planeSpace fanout) (some x)) → RemovedIs m c u
+          → Built m w e m′ w (I.Accepted (n + 1) u)
+      built-grown w m′ n u g b o =
           let g′ : Grown (x .level) path m e m′ = subst (λ (i : ℕ). Grown i path m e m′) (sym (v .tree-in .level-is)) g in
           let sound = subst (λ (u : Tree (planeSpace fanout)). SoundTree (planeSpace fanout) (planeRoot fanout) u) y-grown sound-y in
           let c-is : count ≡ nodeCount (planeSpace fanout) (some x) = ap (λ (u : Tree (planeSpace fanout)). nodeCount (planeSpace fanout) (some u)) y-grown ∙ nodes-grown m c x reads path planned-x t m′ g′ in
           let f : nodeCount (planeSpace fanout) (some x) ≤ N = unfold nodes in sound-x .fits in
-          built-accepted w m′ w n (omega arith) (reads-grown m c x reads path planned-x t m′ g′ sound ∙ ap (λ (u : Tree (planeSpace fanout)). some (some u)) (sym y-grown)) (g .same-length) refl b
+          built-accepted w m′ w n u (omega arith) (reads-grown m c x reads path planned-x t m′ g′ sound ∙ ap (λ (u : Tree (planeSpace fanout)). some (some u)) (sym y-grown)) (g .same-length) refl b o
 
 -- in place, for the work area that there is
 pub built-in-place : (m w : List ℕ) (e : CellEntry) (m′ : List ℕ) (r : Inserted) → BuiltInPlace m e m′ r → Built m w e m′ w r
@@ -302,8 +311,10 @@ module _ (m : List ℕ) (level root : ℕ) (c : Cell) (v : Inserting m level roo
         pub build-growing : Growing level path m
         build-growing = grow-path m level root c 0 v path none-planned (r .plannable .unsplit) leaf-room
 
-        pub build-grown : (t : ℕ) (m′ : List ℕ) (x : ℕ) → Grown level path m (entryOf c t) m′ → x ≡ length (entriesAt level m 0 root) → BuiltInPlace m (entryOf c t) m′ (I.Accepted (x + 1))
-        build-grown t m′ x g e w = built-grown m level root c t v path none-planned (r .plannable .unsplit) w m′ x g (e ∙ held-is)
+        pub build-grown : (t : ℕ) (m′ : List ℕ) (x u : ℕ) → Grown level path m (entryOf c t) m′
+            → x ≡ length (entriesAt level m 0 root) → RemovedIs m c u
+            → BuiltInPlace m (entryOf c t) m′ (I.Accepted (x + 1) u)
+        build-grown t m′ x u g e o w = built-grown m level root c t v path none-planned (r .plannable .unsplit) w m′ x u g (e ∙ held-is) o
 
   module _ (path : List ℕ) (p : PathPlanned m level c path) where
     pub build-path : PathFrom level path m
@@ -334,5 +345,7 @@ module _ (m : List ℕ) (level root : ℕ) (c : Cell) (v : Inserting m level roo
           pub put-long : length w′ ≡ length m
           put-long = work-long m level root c t v path p k q h w w′ r l z
 
-          pub build-accepted : (m′ : List ℕ) (x : ℕ) → m′ ≡ written (length m) (r .parts) (r .height) w′ → x ≡ length (entriesAt level m 0 root) → Built m w (entryOf c t) m′ w′ (I.Accepted (x + 1))
-          build-accepted m′ x a e = built-tree m level root c t v path p k q h w w′ r l z m′ x a (e ∙ held-is)
+          pub build-accepted : (m′ : List ℕ) (x u : ℕ) → m′ ≡ written (length m) (r .parts) (r .height) w′
+              → x ≡ length (entriesAt level m 0 root) → RemovedIs m c u
+              → Built m w (entryOf c t) m′ w′ (I.Accepted (x + 1) u)
+          build-accepted m′ x u a e o = built-tree m level root c t v path p k q h w w′ r l z m′ x u a (e ∙ held-is) o

@@ -1,12 +1,14 @@
 -- The start of an insertion at the root, and its path found: the tree after is the planned one.
-use Prim.Native.Nat.{ℕ, zero, suc, _+_, _*_, _≤_}
+use Prim.Native.Nat.{ℕ, zero, suc, _+_, _*_, _≤_, _<_}
 use mathlib.Core.Bool.{Bool, true, false}
 use mathlib.Core.Path.{_≡_, refl, sym, ap, _∙_, subst}
 use mathlib.Core.List.{List, [], _∷_, flatMap}
 use mathlib.Core.Option.{Option, none, some, bind, Option·some-injective}
 use native.Mathlib.Omega.{arith}
-use native.Mathlib.Nat.{le-refl}
+use native.Mathlib.Nat.{le-refl, zero-add}
 use native.Mathlib.Decide.{ℕ-discrete}
+use mir.Syntax.{w32}
+use mir.Val.{Fits}
 use lib.ListN.{length}
 use Rattle.geometry.specs.declared.rect.Cell.{Cell}
 use Rattle.geometry.specs.declared.rect.Rect.{Rect}
@@ -20,6 +22,7 @@ use Rattle.tree.specs.Nodes.{Item, held}
 use Rattle.tree.specs.Sound.{Count, SoundItem, SoundItems}
 use Rattle.tree.specs.Tree.{Tree, top, entries, nodeCount, SoundTree}
 use Rattle.tree.specs.Insert.{insertTree}
+use Rattle.tree.specs.Removed.{removedAt, removedTotal}
 use Rattle.tree.specs.Plan.{Way, descend}
 use Rattle.tree.specs.Query.{ofCell, holds}
 use Rattle.tree.proofs.Any.{any-false}
@@ -38,6 +41,7 @@ use Rattle.memory.specs.Reading.{reading}
 use Rattle.memory.proofs.ReadingLaws.{ReadAs, read-as, read-sound}
 use Rattle.memory.specs.Fanout.{fanout}
 use Rattle.layout.proofs.NodeLaws.{rects-length}
+use Rattle.index.specs.Answers.{cellsRemoved}
 use Rattle.index.specs.Changes.{entryOf}
 use Rattle.index.specs.Walks.{Walkable}
 use Rattle.index.proofs.CheckLaws.{node-polygon}
@@ -46,7 +50,9 @@ use Rattle.index.proofs.TreeWalk.{tree-walkable}
 use Rattle.emission.specs.Path.{partOn, polygonOn, wayAt, plannedTree}
 use Rattle.index.specs.Held.{heldRead}
 use Rattle.tree.proofs.GoodWays.{GoodWay}
+use Rattle.insertion.specs.declared.descent.Descent.{Descent}
 use Rattle.insertion.specs.Descent.{itemsAt, LevelPut, Descending, Kept, Reached, Stopped, Descended}
+use Rattle.insertion.specs.Removed.{RemovedBelow, RemovedFound}
 use Rattle.insertion.specs.Planning.{GoodPath, FullLevels, PlanMade}
 use Rattle.insertion.specs.Insert.{Inserting, PathReady, PathPlanned, PathRefused, PathFound}
 use Rattle.insertion.proofs.DescentLaws.{items-are, same-drop, same-polygon}
@@ -116,6 +122,18 @@ module _ (m : List ℕ) (c : Cell) (x : Tree (planeSpace fanout)) (reads : readi
 
   has-p : planeSpace fanout .has p c ≡ true
   has-p = plane-root-laws fanout .grow-has (x .root) c (sound .one)
+
+  -- the cells removed from the root down
+  root-removed : (path path₁ : List ℕ) → LevelPut path (x .level) root p path₁ → (u : Descent)
+      → RemovedBelow (x .level) path₁ m c 0 u
+      → u .reached ≡ true → u .removed ≡ cellsRemoved (some x) c
+  unfolding removedTotal
+  root-removed path path₁ v u w g =
+      w .is g ∙ zero-add _
+      ∙ ap (λ (l : List Rect). removedAt (planeSpace fanout) (x .level) l
+      (itemsAt (x .level) m (partOn path₁ (x .level))) c) (v .polygon)
+      ∙ ap (λ (l : List (Item (planeSpace fanout) (x .level))). removedAt (planeSpace fanout) (x .level) p l c)
+      (ap (itemsAt (x .level) m) (v .part) ∙ items-x)
 
   -- the descent starts at the root
   root-descending : (path path₁ : List ℕ) → 68 * x .level + 68 ≤ length path → LevelPut path (x .level) root p path₁ → Descending (x .level) path₁ m c
@@ -215,6 +233,10 @@ first-in p l n e = let d = rects-length p l n e in omega arith
 pub first-is : (m : List ℕ) (k : ℕ) (p l : List ℕ) (r : Rect) → p ≡ part m k → l ≡ rectNumbers p → r ≡ rectAt l 0 → r ≡ rectAt (rectNumbers (part m k)) 0
 first-is m k p l r e f g = g ∙ ap (λ (x : List ℕ). rectAt x 0) (f ∙ ap rectNumbers e)
 
+-- no cells are removed above the root
+pub start-room : (level : ℕ) → Fits w32 level → 0 + level * 4294967296 < 18446744073709551616
+start-room level h = omega arith
+
 -- The same for the code: the tree's level and root by their numbers.
 module _ (m : List ℕ) (level root : ℕ) (c : Cell) (v : Inserting m level root c) where
   abbrev tree : Tree (planeSpace fanout)
@@ -251,6 +273,18 @@ module _ (m : List ℕ) (level root : ℕ) (c : Cell) (v : Inserting m level roo
     pub find-start : Descending level path₁ m c
     find-start = subst (λ (i : ℕ). Descending i path₁ m c) (v .tree-in .level-is)
         (root-descending m c tree (v .tree-in .reads) (v .grid) tree-new path path₁ (subst (λ (i : ℕ). 68 * i + 68 ≤ length path) (sym (v .tree-in .level-is)) h) put-tree)
+
+    pub find-removed : (u : Descent) → RemovedBelow level path₁ m c 0 u → RemovedFound m c u
+    find-removed u w = record {
+      is = λ g. record {
+        is = λ y k.
+            let same : some tree ≡ some y = Option·some-injective (some tree) (some y) (sym (v .tree-in .reads) ∙ k) in
+            let w′ : RemovedBelow (tree .level) path₁ m c 0 u = subst (λ (i : ℕ). RemovedBelow i path₁ m c 0 u)
+            (sym (v .tree-in .level-is)) w in
+            subst (λ (o : Option (Tree (planeSpace fanout))). u .removed ≡ cellsRemoved o c) same
+            (root-removed m c tree (v .tree-in .reads) (v .grid) tree-new path path₁ put-tree u w′ g);
+      };
+    }
 
     module _ (path₂ : List ℕ) (b : Bool) (z : Descended level path₁ m c path₂ b) where
       find-refused : b ≡ false → PathRefused m c

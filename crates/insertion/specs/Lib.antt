@@ -1,4 +1,5 @@
 pub mod Descent
+pub mod Removed
 pub mod Planning
 pub mod Growing
 pub mod Insert

@@ -9,6 +9,8 @@ ghost use Rattle.layout.specs.Nodes.{PartIn};
 ghost use Rattle.index.specs.Changes.{entryOf};
 ghost use Rattle.insertion.specs.Insert.{Inserting, PathReady, PathPlanned, PathFound, Built, BuiltInPlace};
 ghost use Rattle.insertion.specs.Planning.{FullLevels};
+ghost use Rattle.insertion.specs.Removed.{RemovedIs, RemovedFound};
+use crate::descent::Descent;
 use crate::descent::descend;
 use crate::descent::put_level;
 use crate::growing::grow_path;
@@ -38,29 +40,41 @@ fn first_rect(m: &[u32], k: u32) -> Rect
     rect_at(rects(part_at(m, k)), 0)
 }
 
-// Steps 1 to 3: the path from the root, whose rectangle grows to the cell, down to the leaf. False where step 2
-// refuses.
-fn find_path(m: &[u32], level: u32, root: u32, c: Cell, path: &mut [u32]) -> bool
+// Steps 1 to 3: the path from the root, whose rectangle grows to the cell, down to the leaf.
+fn find_path(m: &[u32], level: u32, root: u32, c: Cell, path: &mut [u32]) -> Descent
     requires { ⌜ Inserting (now m) level root c ⌝ }
     requires { ⌜ 68 * level + 68 ≤ length (now path) ⌝ }
-    ensures { λ b. ⌜ PathFound (now (m .entry)) level c (now (path .exit)) b ⌝ }
+    ensures { λ r. ⌜ PathFound (now (m .entry)) level c (now (path .exit)) (r .reached) ⌝ }
+    ensures { λ r. ⌜ RemovedFound (now (m .entry)) c r ⌝ }
     ensures { λ _. ⌜ length (now (path .exit)) ≡ length (now (path .entry)) ⌝ }
 {
     let r = first_rect(m, root);
     put_level(path, level as usize, root, Polygon::of(r.grow(c)));
-    descend(m, level, c, path)
+    descend(m, level, c, path, 0)
 }
 
-// The end of an insertion that splits no node: the nodes on the path are written in place.
-fn build_in_place(m: &mut [u32], path: &[u32], level: u32, root: u32, c: Cell, tag: u32) -> Inserted
+// The end of an insertion that splits no node and removed so many cells: the nodes on the path are written in place.
+fn build_in_place(
+    m: &mut [u32],
+    path: &[u32],
+    level: u32,
+    root: u32,
+    c: Cell,
+    tag: u32,
+    removed: u64,
+) -> Inserted
     requires { ⌜ Inserting (now m) level root c ⌝ }
     requires { ⌜ PathReady (now m) level c (now path) ⌝ }
     requires { ⌜ FullLevels level (now path) (now m) 0 ⌝ }
+    requires { ⌜ RemovedIs (now m) c removed ⌝ }
     ensures { λ r. ⌜ BuiltInPlace (now (m .entry)) (entryOf c tag) (now (m .exit)) r ⌝ }
 {
     let held = entries_below(m, level, 0, root);
     grow_path(m, path, level, c, tag);
-    Inserted::Accepted(held + 1)
+    Inserted::Accepted {
+        held: held + 1,
+        removed,
+    }
 }
 
 // The end of an insertion that splits nodes: the tree after is written to the work area and copied back.
@@ -72,10 +86,12 @@ fn build_anew(
     root: u32,
     c: Cell,
     tag: u32,
+    removed: u64,
 ) -> Inserted
     requires { ⌜ Inserting (now m) level root c ⌝ }
     requires { ⌜ PathPlanned (now m) level c (now path) ⌝ }
     requires { ⌜ length (now work) ≡ length (now m) ⌝ }
+    requires { ⌜ RemovedIs (now m) c removed ⌝ }
     ensures { λ r. ⌜ Built (now (m .entry)) (now (work .entry)) (entryOf c tag) (now (m .exit)) (now (work .exit)) r ⌝ }
 {
     let room = part_count(m);
@@ -85,7 +101,10 @@ fn build_anew(
     let held = entries_below(m, level, 0, root);
     let done = emit_tree(m, path, level, c, tag, work);
     put_tree(m, work, done.parts, done.height);
-    Inserted::Accepted(held + 1)
+    Inserted::Accepted {
+        held: held + 1,
+        removed,
+    }
 }
 
 // The insertion into a tree, which leaves the work area to be zeroed; the path has room for each level.
@@ -103,19 +122,20 @@ fn build(
     requires { ⌜ 68 * level + 68 ≤ length (now path) ⌝ }
     ensures { λ r. ⌜ Built (now (m .entry)) (now (work .entry)) (entryOf c tag) (now (m .exit)) (now (work .exit)) r ⌝ }
 {
-    if !find_path(m, level, root, c, path) {
+    let way = find_path(m, level, root, c, path);
+    if !way.reached {
         return Inserted::PolygonLimit;
     }
     let splits = split_count(m, path, level);
     if splits == 0 {
-        return build_in_place(m, path, level, root, c, tag);
+        return build_in_place(m, path, level, root, c, tag, way.removed);
     }
     // each split adds a node at least, so 8 is found before the lines and the tree after
     if part_count(m) < bits_set(m) + splits {
         return Inserted::NodeLimit;
     }
     plan(m, level, splits, c, path);
-    build_anew(m, work, path, level, root, c, tag)
+    build_anew(m, work, path, level, root, c, tag, way.removed)
 }
 
 // The same with a path of the tree's height: few trees have more than 16 levels.

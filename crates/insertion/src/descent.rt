@@ -1,9 +1,10 @@
 // Steps 1 to 3 of an insertion: the path from the root down to the leaf that gets the entry, with each polygon as it
 // grows.
-ghost use Prim.Native.Nat.{_*_, _+_, _≤_};
+ghost use Prim.Native.Nat.{_*_, _+_, _≤_, _<_};
 ghost use lib.ListN.{length};
 ghost use Rattle.geometry.specs.Numbers.{rectsOf};
 ghost use Rattle.insertion.specs.Descent.{LevelPut, Descending, Descended};
+ghost use Rattle.insertion.specs.Removed.{RemovedBelow};
 use emission::PATH_COUNT;
 use emission::PATH_LEVEL;
 use emission::PATH_LINE;
@@ -30,13 +31,26 @@ pub fn put_level(path: &mut [u32], level: usize, k: u32, p: Polygon)
     p.store(&mut path[from..to]);
 }
 
-// Goes on from the node on the path at a level down to the leaf; false where step 2 refuses.
-pub fn descend(m: &[u32], level: u32, c: Cell, path: &mut [u32]) -> bool
+// Whether the leaf was reached, and how many cells siblings removed on the way. Not reached, where step 2 refuses: the
+// number means nothing.
+pub struct Descent {
+    pub reached: bool,
+    pub removed: u64,
+}
+
+// Goes on from the node on the path at a level down to the leaf. So many cells were removed above; a level removes no
+// more than the grid has.
+pub fn descend(m: &[u32], level: u32, c: Cell, path: &mut [u32], removed: u64) -> Descent
     requires { ⌜ Descending level (now path) (now m) c ⌝ }
-    ensures { λ b. ⌜ Descended level (now (path .entry)) (now (m .entry)) c (now (path .exit)) b ⌝ }
+    requires { ⌜ removed + level * 4294967296 < 18446744073709551616 ⌝ }
+    ensures { λ r. ⌜ Descended level (now (path .entry)) (now (m .entry)) c (now (path .exit)) (r .reached) ⌝ }
+    ensures { λ r. ⌜ RemovedBelow level (now (path .entry)) (now (m .entry)) c removed r ⌝ }
 {
     if level == 0 {
-        return true;
+        return Descent {
+            reached: true,
+            removed,
+        };
     }
     let n = level as usize;
     let at = PATH_LEVEL * n;
@@ -45,10 +59,13 @@ pub fn descend(m: &[u32], level: u32, c: Cell, path: &mut [u32]) -> bool
     let choice = choose(m, k, p, c);
     let taken = choice.taken;
     let Taken::Branch(place) = taken else {
-        return false;
+        return Descent {
+            reached: false,
+            removed,
+        };
     };
     path[at + PATH_PLACE] = place as u32;
     let child = child_at(m, k, place);
     put_level(path, n - 1, child, choice.polygon);
-    descend(m, level - 1, c, path)
+    descend(m, level - 1, c, path, removed + choice.removed)
 }

@@ -30,5 +30,8 @@ pub fn insert_first(m: &mut [u32], work: &mut [u32], c: Cell, tag: u32) -> Inser
     let empty = Node::empty();
     put_node(work, 0, Polygon::of(r), empty.with_entry(c, tag));
     put_tree(m, work, 1, 1);
-    Inserted::Accepted(1)
+    Inserted::Accepted {
+        held: 1,
+        removed: 0,
+    }
 }

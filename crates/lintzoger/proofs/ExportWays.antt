@@ -25,39 +25,43 @@ use Rattle.index.specs.Changes.{InsertMemory, workAfter, InsertCall, RemoveMemo
 use Rattle.index.specs.Answers.{clearAnswer, cleared, pointAnswer, windowAnswer, windowList, nearestAnswer, emptyAnswer}
 use Rattle.lintzoger.specs.Exports.{stored, InsertExported, RemoveExported, ClearExported, PointExported, WindowExported, NearestExported, EmptyExported}
 
-module _ (m w : List ℕ) (e : CellEntry) (held : ℕ) (m′ w′ : List ℕ) (a : Inserted) (z : InsertCall m w e m′ w′ a) where
-  insert-told : (n h : ℕ) → n ≡ insertTold a .number → h ≡ stored (insertTold a) 0 held → InsertExported m w e held n m′ w′ h
-  insert-told n h p q = record {
+module _ (m w : List ℕ) (e : CellEntry) (held removed : ℕ) (m′ w′ : List ℕ) (a : Inserted)
+    (z : InsertCall m w e m′ w′ a) where
+  insert-told : (n h r : ℕ) → n ≡ insertTold a .number → h ≡ stored (insertTold a) 0 held
+      → r ≡ stored (insertTold a) 1 removed
+      → InsertExported m w e held removed n m′ w′ h r
+  insert-told n h r p q o = record {
     number = p ∙ ap (λ (x : Inserted). insertTold x .number) (z .answer);
     memory = subst (λ (x : Inserted). InsertMemory x m e m′) (z .answer) (z .memory);
     memory-length = z .memory-length;
     work = z .work ∙ ap (λ (x : Inserted). workAfter x w) (z .answer);
     held-is = q ∙ ap (λ (x : Inserted). stored (insertTold x) 0 held) (z .answer);
+    removed-is = o ∙ ap (λ (x : Inserted). stored (insertTold x) 1 removed) (z .answer);
   }
 
-  pub insert-accepted : (n : ℕ) → a ≡ I.Accepted n → InsertExported m w e held 0 m′ w′ n
-  insert-accepted n f = insert-told 0 n (rw f) (rw f)
+  pub insert-accepted : (n r : ℕ) → a ≡ I.Accepted n r → InsertExported m w e held removed 0 m′ w′ n r
+  insert-accepted n r f = insert-told 0 n r (rw f) (rw f) (rw f)
 
-  pub insert-length : a ≡ I.WrongLength → InsertExported m w e held 1 m′ w′ held
-  insert-length f = insert-told 1 held (rw f) (rw f)
+  pub insert-length : a ≡ I.WrongLength → InsertExported m w e held removed 1 m′ w′ held removed
+  insert-length f = insert-told 1 held removed (rw f) (rw f) (rw f)
 
-  pub insert-work : a ≡ I.WrongWorkLength → InsertExported m w e held 2 m′ w′ held
-  insert-work f = insert-told 2 held (rw f) (rw f)
+  pub insert-work : a ≡ I.WrongWorkLength → InsertExported m w e held removed 2 m′ w′ held removed
+  insert-work f = insert-told 2 held removed (rw f) (rw f) (rw f)
 
-  pub insert-off-grid : a ≡ I.OffGrid → InsertExported m w e held 3 m′ w′ held
-  insert-off-grid f = insert-told 3 held (rw f) (rw f)
+  pub insert-off-grid : a ≡ I.OffGrid → InsertExported m w e held removed 3 m′ w′ held removed
+  insert-off-grid f = insert-told 3 held removed (rw f) (rw f) (rw f)
 
-  pub insert-no-tree : a ≡ I.NoTree → InsertExported m w e held 4 m′ w′ held
-  insert-no-tree f = insert-told 4 held (rw f) (rw f)
+  pub insert-no-tree : a ≡ I.NoTree → InsertExported m w e held removed 4 m′ w′ held removed
+  insert-no-tree f = insert-told 4 held removed (rw f) (rw f) (rw f)
 
-  pub insert-cell-held : a ≡ I.CellHeld → InsertExported m w e held 5 m′ w′ held
-  insert-cell-held f = insert-told 5 held (rw f) (rw f)
+  pub insert-cell-held : a ≡ I.CellHeld → InsertExported m w e held removed 5 m′ w′ held removed
+  insert-cell-held f = insert-told 5 held removed (rw f) (rw f) (rw f)
 
-  pub insert-seven : a ≡ I.PolygonLimit → InsertExported m w e held 7 m′ w′ held
-  insert-seven f = insert-told 7 held (rw f) (rw f)
+  pub insert-seven : a ≡ I.PolygonLimit → InsertExported m w e held removed 7 m′ w′ held removed
+  insert-seven f = insert-told 7 held removed (rw f) (rw f) (rw f)
 
-  pub insert-eight : a ≡ I.NodeLimit → InsertExported m w e held 8 m′ w′ held
-  insert-eight f = insert-told 8 held (rw f) (rw f)
+  pub insert-eight : a ≡ I.NodeLimit → InsertExported m w e held removed 8 m′ w′ held removed
+  insert-eight f = insert-told 8 held removed (rw f) (rw f) (rw f)
 
 module _ (m : List ℕ) (c : Cell) (held : ℕ) (m′ : List ℕ) (a : Removed) (z : RemoveCall m c m′ a) where
   remove-told : (n h : ℕ) → n ≡ removeTold a .number → h ≡ stored (removeTold a) 0 held → RemoveExported m c held n m′ h

@@ -37,7 +37,7 @@ use Rattle.history.specs.Emptiness.{EmptyAsWindow}
 use Rattle.history.proofs.History.{kept-history}
 use Rattle.history.proofs.Emptiness.{empty-as-window}
 use Rattle.lintzoger.specs.Exports.{stored}
-use Rattle.lintzoger.specs.Seen.{changeSeen, pointSeen, windowSeen, nearestSeen, emptySeen}
+use Rattle.lintzoger.specs.Seen.{insertSeen, changeSeen, pointSeen, windowSeen, nearestSeen, emptySeen}
 use Rattle.lintzoger.proofs.exports.lintzoger_insert as insert-fn
 use Rattle.lintzoger.proofs.exports.lintzoger_insert.Reads as insert
 use Rattle.lintzoger.proofs.exports.lintzoger_insert.Kinds as insert-kinds
@@ -60,12 +60,13 @@ use Rattle.lintzoger.proofs.exports.lintzoger_is_empty as empty-fn
 use Rattle.lintzoger.proofs.exports.lintzoger_is_empty.Reads as empty
 use Rattle.lintzoger.proofs.exports.lintzoger_is_empty.Kinds as empty-kinds
 
--- A call of `lintzoger_insert`: the index, the work area, x, y, the tag, the place for the entries held.
+-- A call of `lintzoger_insert`: the index, the work area, x, y, the tag, the places for the entries held and the
+-- cells removed.
 pub record Insert : Type 0 where
-  pub κs : Lfts 3
+  pub κs : Lfts 4
   pub args : ArgsD insert-fn.signature κs
   pub out : ResD insert-fn.signature κs
-  pub exits : AtExit (endedOf 3 insert-kinds.ps insert-kinds.r) κs
+  pub exits : AtExit (endedOf 4 insert-kinds.ps insert-kinds.r) κs
   pub meets : insert.Post κs args out exits
 
 -- A call of `lintzoger_remove`: the index, x, y, the place for the entries held.
@@ -126,16 +127,17 @@ pub data Step : Type 0 where
   empties : Emptiness → Step
 
 -- The number and the values stored are those of the answer: one law for each kind of call, by the cases of its answer.
-insert-tells : (r : Inserted) (n held held′ : ℕ) → n ≡ insertTold r .number → held′ ≡ stored (insertTold r) 0 held
-    → changeSeen n held′ ≡ insertTold r
-insert-tells (I.Accepted k) n held held′ p q = rw (p, q)
-insert-tells I.WrongLength n held held′ p q = rw p
-insert-tells I.WrongWorkLength n held held′ p q = rw p
-insert-tells I.OffGrid n held held′ p q = rw p
-insert-tells I.NoTree n held held′ p q = rw p
-insert-tells I.CellHeld n held held′ p q = rw p
-insert-tells I.PolygonLimit n held held′ p q = rw p
-insert-tells I.NodeLimit n held held′ p q = rw p
+insert-tells : (r : Inserted) (n held removed held′ removed′ : ℕ) → n ≡ insertTold r .number
+    → held′ ≡ stored (insertTold r) 0 held → removed′ ≡ stored (insertTold r) 1 removed
+    → insertSeen n held′ removed′ ≡ insertTold r
+insert-tells (I.Accepted k x) n held removed held′ removed′ p q o = rw (p, q, o)
+insert-tells I.WrongLength n held removed held′ removed′ p q o = rw p
+insert-tells I.WrongWorkLength n held removed held′ removed′ p q o = rw p
+insert-tells I.OffGrid n held removed held′ removed′ p q o = rw p
+insert-tells I.NoTree n held removed held′ removed′ p q o = rw p
+insert-tells I.CellHeld n held removed held′ removed′ p q o = rw p
+insert-tells I.PolygonLimit n held removed held′ removed′ p q o = rw p
+insert-tells I.NodeLimit n held removed held′ removed′ p q o = rw p
 
 remove-tells : (r : Removed) (n held held′ : ℕ) → n ≡ removeTold r .number → held′ ≡ stored (removeTold r) 0 held
     → changeSeen n held′ ≡ removeTold r
@@ -198,7 +200,7 @@ made (inserts s) =
       after = now (z .0);
       lent = now (a .1 .0);
       left = now (z .1 .0);
-      told = changeSeen (s .out) (now (z .1 .1 .1 .1 .1 .0));
+      told = insertSeen (s .out) (now (z .1 .1 .1 .1 .1 .0)) (now (z .1 .1 .1 .1 .1 .1 .0));
     }
 made (removes s) =
     let a = s .args in
@@ -272,7 +274,7 @@ kept (inserts s) =
     let v = s .meets in
     record {
       result = _;
-      told = insert-tells (insertAnswer _ _ _) (s .out) _ _ (v .number) (v .held-is);
+      told = insert-tells (insertAnswer _ _ _) (s .out) _ _ _ _ (v .number) (v .held-is) (v .removed-is);
       contract = record { answer = refl; memory = v .memory; memory-length = v .memory-length; work = v .work };
     }
 kept (removes s) =

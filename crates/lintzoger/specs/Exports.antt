@@ -16,12 +16,14 @@ use Rattle.index.specs.Changes.{InsertMemory, workAfter, RemoveMemory}
 abbrev pub stored : Told → ℕ → ℕ → ℕ
 stored t k before = getD (t .values) k before
 
-pub record InsertExported (m w : List ℕ) (e : CellEntry) (held : ℕ) (n : ℕ) (m' w' : List ℕ) (held' : ℕ) : Type 0 where
+pub record InsertExported (m w : List ℕ) (e : CellEntry) (held removed : ℕ) (n : ℕ) (m' w' : List ℕ)
+    (held' removed' : ℕ) : Type 0 where
   pub number : n ≡ insertTold (insertAnswer m (length w) e) .number
   pub memory : InsertMemory (insertAnswer m (length w) e) m e m'
   pub memory-length : length m' ≡ length m
   pub work : w' ≡ workAfter (insertAnswer m (length w) e) w
   pub held-is : held' ≡ stored (insertTold (insertAnswer m (length w) e)) 0 held
+  pub removed-is : removed' ≡ stored (insertTold (insertAnswer m (length w) e)) 1 removed
 
 pub record RemoveExported (m : List ℕ) (c : Cell) (held : ℕ) (n : ℕ) (m' : List ℕ) (held' : ℕ) : Type 0 where
   pub number : n ≡ removeTold (removeAnswer m c) .number

@@ -7,7 +7,11 @@ use mathlib.Core.List.{[], _∷_}
 use lib.Dec.{eqb}
 use Rattle.index.specs.Numbers.{Told}
 
--- an insertion, a removal or a clear: the entries held
+-- an insertion: the entries held and the cells removed
+abbrev pub insertSeen : ℕ → ℕ → ℕ → Told
+insertSeen number held removed = record { number = number; values = cond (eqb number 0) (held ∷ removed ∷ []) [] }
+
+-- a removal or a clear: the entries held
 abbrev pub changeSeen : ℕ → ℕ → Told
 changeSeen number held = record { number = number; values = cond (eqb number 0) (held ∷ []) [] }
 

@@ -27,13 +27,19 @@ pub extern "C" fn lintzoger_insert(
     y: u32,
     tag: u32,
     held: &mut u32,
+    removed: &mut u64,
 ) -> u32
-    ensures { λ r. ⌜ InsertExported (now (index .entry)) (now (work .entry)) (entryOf (cellOf x y) tag) (now (held .entry)) r
-        (now (index .exit)) (now (work .exit)) (now (held .exit)) ⌝ }
+    ensures { λ r. ⌜ InsertExported (now (index .entry)) (now (work .entry)) (entryOf (cellOf x y) tag)
+        (now (held .entry)) (now (removed .entry)) r
+        (now (index .exit)) (now (work .exit)) (now (held .exit)) (now (removed .exit)) ⌝ }
 {
     match insert(index, work, Cell { x, y }, tag) {
-        Inserted::Accepted(n) => {
+        Inserted::Accepted {
+            held: n,
+            removed: cells,
+        } => {
             *held = n;
+            *removed = cells;
             0
         }
         Inserted::WrongLength => 1,

@@ -11,6 +11,7 @@ pub mod Steps
 pub mod Windows
 pub mod Insert
 pub mod Worked
+pub mod RemovedCases
 pub mod Extents
 pub mod ExtentJoins
 pub mod Keys

@@ -24,7 +24,7 @@ use Rattle.plane.specs.Lines.{CellEntry, leafLine}
 use Rattle.plane.specs.Plane.{plane, planeSpace, planeRoot}
 use Rattle.plane.proofs.Rects.{extra-area}
 
-abbrev entry : ℕ → ℕ → ℕ → CellEntry
+abbrev pub entry : ℕ → ℕ → ℕ → CellEntry
 entry a b t = record { cell = cellOf a b; tag = t }
 
 -- G10's leaf before its ninth cell

@@ -2,3 +2,4 @@ pub mod LimitLaws
 pub mod LeastLaws
 pub mod PlaceLaws
 pub mod FlatLaws
+pub mod LineCases

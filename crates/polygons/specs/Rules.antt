@@ -1,6 +1,6 @@
 -- The rules of lists of rectangles, over any rectangles: they look at a rectangle only through its own rules, which are their first argument.
 -- The geometry's rules and the tree's are both instances of these.
--- docs/RULES.md 2.6, 2.10, 2.13, 2.14, 4.5, 4.6, 4.9, 4.15, 5.14
+-- docs/RULES.md 2.6, 2.10, 2.13, 2.14, 2.32, 4.5, 4.6, 4.9, 4.15, 4.26, 5.14
 use Prim.Native.Nat.{ℕ}
 use mathlib.Core.Bool.{Bool, _&&_, not}
 use mathlib.Core.List.{List, [], _∷_, flatMap}
@@ -20,6 +20,11 @@ lackedBy count has p r = count (λ c. has r c && not (unionHas has p c))
 -- its rectangles, and the cell that the rectangle grows to
 abbrev pub extraAreaBy : {A C : Type 0} → ((C → Bool) → ℕ) → (A → C → Bool) → (A → C → A) → List A → A → C → ℕ
 extraAreaBy count has grow p r c = lackedBy count has p (grow r c)
+
+-- A.6: 'the number of cells it removed, a cell under several rectangles counted once': of a list that is cut by a
+-- polygon, the cells that both have
+abbrev pub removedBy : {A C : Type 0} → ((C → Bool) → ℕ) → (A → C → Bool) → List A → List A → ℕ
+removedBy count has l p = count (λ c. unionHas has l c && unionHas has p c)
 
 -- 'A list is cut by S piece by piece, in order.'
 abbrev pub cutPieces : {A : Type 0} → (A → A → List A) → List A → A → List A

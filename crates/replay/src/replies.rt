@@ -40,11 +40,19 @@ fn refuses(number: u32) -> Reply
     short_reply(number, 0, 0, 0)
 }
 
+// An accepted insertion: the entries held and the cells removed.
+fn inserted(held: u32, removed: u64) -> Reply
+    ensures { λ r. ⌜ r ≡ record { number = 0; values = sevenOf (held ∷ removed ∷ []) } ⌝ }
+{
+    let values = [held as u64, removed, 0, 0, 0, 0, 0];
+    Reply { number: 0, values }
+}
+
 pub fn insert_reply(answer: Inserted) -> Reply
     ensures { λ r. ⌜ r ≡ replyOf (insertTold answer) ⌝ }
 {
     match answer {
-        Inserted::Accepted(n) => accepts(n, 0, 0),
+        Inserted::Accepted { held, removed } => inserted(held, removed),
         Inserted::WrongLength => refuses(1),
         Inserted::WrongWorkLength => refuses(2),
         Inserted::OffGrid => refuses(3),

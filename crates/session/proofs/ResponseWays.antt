@@ -63,9 +63,9 @@ module _ (line : List ℕ) (m w l m′ w′ l′ out : List ℕ) (at : ℕ) (out
   ends j text h d v = record { text = text; done = rw e at d; put = append-wider out at j (longest l) text out′ next h v }
 
   pub respond-insert : (x y tag : ℕ) (r : Inserted) → k ≡ Insert x y tag → InsertCall m w (entryOf (cellOf x y) tag) m′ w′ r → l′ ≡ l
-      → Appended 24 out at (insertText r) out′ next → Responded line (lent m w l) (lent m′ w′ l′) out at out′ next
+      → Appended 36 out at (insertText r) out′ next → Responded line (lent m w l) (lent m′ w′ l′) out at out′ next
   unfolding CarriedOut
-  respond-insert x y tag r f c q v = ends 24 (insertText r) (omega arith) (rw f (record { answer = r; call = c; list-kept = q; text-is = refl })) v
+  respond-insert x y tag r f c q v = ends 36 (insertText r) (omega arith) (rw f (record { answer = r; call = c; list-kept = q; text-is = refl })) v
 
   pub respond-remove : (x y : ℕ) (r : Removed) → k ≡ Remove x y → RemoveCall m (cellOf x y) m′ r → w′ ≡ w → l′ ≡ l
       → Appended 24 out at (removeText r) out′ next → Responded line (lent m w l) (lent m′ w′ l′) out at out′ next

@@ -32,9 +32,10 @@ callsOf Other = []
 unfoldable pub listedTold : Told → ℕ
 listedTold t = cond (eqb (t .number) 0) (getD (t .values) 0 0) 0
 
--- what is printed for a call of a kind, by what it answered and left in its list: 'I, R and C print 0 and entries held. P prints 1 or 0,
--- visits, then the tag if held. S prints matches and visits, then an E line per entry'. No line makes a nearest query or
--- an emptiness query.
+-- what is printed for a call of a kind, by what it answered and left in its list: 'I, R and C print 0 and entries held.
+-- P prints 1 or 0, visits, then the tag if held. S prints matches and visits, then an E line per entry'. A.6, of the total
+-- removed by siblings: 'The line program prints it after the entries held in an accepted `I` line'. No line makes a
+-- nearest query or an emptiness query.
 abbrev pub textBy : IndexCall → Made → List ℕ
 textBy (insertCall e) d = heldText letterI (d .told)
 textBy (removeCall c) d = heldText letterR (d .told)

@@ -13,12 +13,14 @@ use Rattle.polygons.specs.Lists.{any, least}
 use Rattle.geometry.specs.declared.rect.Cell.{Cell}
 use Rattle.geometry.specs.declared.rect.Rect.{Rect}
 use Rattle.geometry.specs.Cells.{noRect}
+use Rattle.geometry.specs.Grow.{grown}
 use Rattle.area.specs.Lacked.{extraArea}
+use Rattle.area.specs.Removed.{removed}
 use Rattle.tree.specs.Lists.{All}
 use Rattle.tree.specs.Space.{Branch}
-use Rattle.tree.specs.Search.{Focus, first}
+use Rattle.tree.specs.Search.{first}
 use Rattle.tree.specs.Boxes.{anyHas, extra}
-use Rattle.tree.specs.Step2.{grownPoly, allBoxes, extras, hasExtra, chosen, growing, choose}
+use Rattle.tree.specs.Step2.{grownPoly, extras, chosen, Growth, leastGrowth, choose, removed as treeRemoved}
 use Rattle.tree.proofs.Any.{any-append, any-none}
 use Rattle.tree.proofs.Lists.{flatMap-append, all-append, all-map, all-second, all-flatMap, all-of-map, all-head}
 use Rattle.plane.specs.Plane.{plane}
@@ -26,7 +28,7 @@ use Rattle.plane.proofs.Best.{least-low, least-high}
 use Rattle.memory.specs.Fanout.{fanout}
 use Rattle.index.specs.Walks.{hasTest}
 use Rattle.step2.specs.Least.{extraIn}
-use Rattle.step2.specs.Pieces.{rectsAll, siblings, focusAt, grownAt}
+use Rattle.step2.specs.Pieces.{rectsAll, siblings, focusAt, grownAt, grownRect}
 use Rattle.step2.proofs.LeastLaws.{AtLeast, More, FirstOf}
 
 -- the first that passes, where none before it does
@@ -105,15 +107,16 @@ module _ {A : Type 0} (p : List Rect) (c : Cell) (bs : List (Branch (List Rect) 
       ap (first t) (s .row) ∙ first-at t (take i bs) (drop (suc i) bs) (s .old) n (rw (s .poly) e) in
       rw (g, s .poly)
 
-  module _ (K : Focus Rect) (F : Focus (Branch (List Rect) A)) (m : ℕ) where
-    -- the rectangle of least extra area is found and grown
-    grows : least (λ x. x) (extras (plane fanout) bs c) ≡ m
-        → first (λ b. any (hasExtra (plane fanout) c m (b .poly)) (b .poly)) bs ≡ some F
-        → first (hasExtra (plane fanout) c m (F .at .poly)) (F .at .poly) ≡ some K
-        → growing (plane fanout) p bs c
-        ≡ bind (grownPoly (plane fanout) p (allBoxes (plane fanout) (F .before ++ F .after)) K c) (λ q. some (chosen (plane fanout) F q))
-    unfolding bind
-    grows e f g = rw (e, f, g)
+  -- then nothing grows
+  pub removed-has : (i : ℕ) (before after : List (List Rect)) (q : List Rect) (s : BranchAt bs i before q after)
+      → hasTest c q ≡ true → treeRemoved (plane fanout) bs c ≡ 0
+  unfolding treeRemoved hasTest any
+  removed-has i before after q s e =
+      let t : Branch (List Rect) A → Bool = λ b. anyHas (plane fanout) (b .poly) c in
+      let h : t (s .old) ≡ true = rw (s .poly) e in
+      let g : any t bs ≡ true =
+      ap (any t) (s .row) ∙ any-append t (take i bs) (s .old ∷ drop (suc i) bs) ∙ rw h (or-true (any t (take i bs))) in
+      rw g
 
 -- the least of a list that has it between others that are not less
 least-is : (u v : List ℕ) (a : ℕ) → All (λ x. a ≤ x) u → All (λ x. a ≤ x) v → least (λ x. x) (u ++ (a ∷ v)) ≡ a
@@ -218,25 +221,56 @@ module _ (c : Cell) (ps : List (List Rect)) (limit : ℕ) (f : FirstOf c limit p
   unfolding grownAt
   grown-is p = sym (ap (λ q. grownPoly (plane fanout) p (siblings ps (length (f .before))) (focusAt q (length (f .inside .left))) c) polygon-at ∙ rw (siblings-are, focus-is))
 
-  module _ {A : Type 0} (p : List Rect) (bs : List (Branch (List Rect) A)) (s : BranchAt bs (length (f .before)) (f .before) (f .polygon) (f .after)) where
-    -- no branch has the cell: the first of least extra area
-    pub choose-grown : map (λ b. b .poly) bs ≡ ps → All (λ x. hasTest c x ≡ false) ps
-        → choose (plane fanout) p bs c
-        ≡ bind (grownAt p ps (length (f .before)) (length (f .inside .left)) c)
-        (λ q. some (record { before = take (length (f .before)) bs; old = s .old; grown = q; after = drop (suc (length (f .before))) bs }))
-    unfolding choose hasTest extra extraArea
-    choose-grown e h =
-        let x = extraArea (f .polygon) (f .inside .at) c in
-        let n = length (f .before) in
-        let t : Branch (List Rect) A → Bool = λ b. any (λ r. eqb (extraArea (b .poly) r c) x) (b .poly) in
-        let F : Focus (Branch (List Rect) A) = record { before = take n bs; at = s .old; after = drop (suc n) bs } in
-        let K : Focus Rect = record { before = f .inside .left; at = f .inside .at; after = f .inside .right } in
-        let none-has = first-miss (λ b. anyHas (plane fanout) (b .poly) c) bs (all-unmap (λ x. anyHas (plane fanout) x c ≡ false) (λ b. b .poly) bs (rw e h)) in
-        let a : least (λ y. y) (extras (plane fanout) bs c) ≡ x = ap (least (λ y. y)) (extras-are c bs ∙ ap (extrasOf c) e) ∙ least-found in
-        let k : All (λ b. t b ≡ false) (take n bs) = all-unmap (λ q. any (λ r. eqb (extraArea q r c) x) q ≡ false) (λ b. b .poly) (take n bs) (rw (s .front) none-least) in
-        let b : first t bs ≡ some F = ap (first t) (s .row) ∙ first-at t (take n bs) (drop (suc n) bs) (s .old) k (rw (s .poly) has-least) in
-        let d : first (λ r. eqb (extraArea (s .old .poly) r c) x) (s .old .poly) ≡ some K = rw (s .poly) rect-found in
-        let w : allBoxes (plane fanout) (take n bs ++ drop (suc n) bs) ≡ rectsAll (f .before ++ f .after) = others s in
-        rw none-has (grows p c bs K F x a b d)
-        ∙ ap (λ ss. bind (grownPoly (plane fanout) p ss K c) (λ q. some (chosen (plane fanout) F q))) w
-        ∙ ap (λ o. bind o (λ q. some (chosen (plane fanout) F q))) (grown-is p)
+  module _ {A : Type 0} (bs : List (Branch (List Rect) A)) (s : BranchAt bs (length (f .before)) (f .before) (f .polygon) (f .after)) where
+    -- the rectangle of least extra area, in its branch
+    abbrev growth : Growth (plane fanout) A
+    growth = record {
+      branch = record { before = take (length (f .before)) bs; at = s .old; after = drop (suc (length (f .before))) bs };
+      rect = record { before = f .inside .left; at = f .inside .at; after = f .inside .right };
+    }
+
+    module _ (e : map (λ b. b .poly) bs ≡ ps) where
+      least-extra : least (λ y. y) (extras (plane fanout) bs c) ≡ extraArea (f .polygon) (f .inside .at) c
+      least-extra = ap (least (λ y. y)) (extras-are c bs ∙ ap (extrasOf c) e) ∙ least-found
+
+      -- step 2 finds it
+      growth-found : leastGrowth (plane fanout) bs c ≡ some growth
+      unfolding bind extra extraArea
+      growth-found =
+          let x = extraArea (f .polygon) (f .inside .at) c in
+          let n = length (f .before) in
+          let t : Branch (List Rect) A → Bool = λ b. any (λ r. eqb (extraArea (b .poly) r c) x) (b .poly) in
+          let k : All (λ b. t b ≡ false) (take n bs) =
+          all-unmap (λ q. any (λ r. eqb (extraArea q r c) x) q ≡ false) (λ b. b .poly) (take n bs) (rw (s .front) none-least) in
+          let b : first t bs ≡ some (growth .branch) =
+          ap (first t) (s .row) ∙ first-at t (take n bs) (drop (suc n) bs) (s .old) k (rw (s .poly) has-least) in
+          let d : first (λ r. eqb (extraArea (s .old .poly) r c) x) (s .old .poly) ≡ some (growth .rect) = rw (s .poly) rect-found in
+          rw (least-extra, b, d)
+
+      module _ (h : All (λ x. hasTest c x ≡ false) ps) where
+        none-there : All (λ b. anyHas (plane fanout) (b .poly) c ≡ false) bs
+        unfolding hasTest
+        none-there = all-unmap (λ x. anyHas (plane fanout) x c ≡ false) (λ b. b .poly) bs (rw e h)
+
+        -- no branch has the cell: the first of least extra area
+        pub choose-grown : (p : List Rect) → choose (plane fanout) p bs c
+            ≡ bind (grownAt p ps (length (f .before)) (length (f .inside .left)) c)
+            (λ q. some (record { before = take (length (f .before)) bs; old = s .old; grown = q; after = drop (suc (length (f .before))) bs }))
+        unfolding choose bind
+        choose-grown p =
+            rw (first-miss (λ b. anyHas (plane fanout) (b .poly) c) bs none-there, growth-found)
+            (ap (λ ss. bind (grownPoly (plane fanout) p ss (growth .rect) c) (λ q. some (chosen (plane fanout) (growth .branch) q))) (others s)
+            ∙ ap (λ o. bind o (λ q. some (chosen (plane fanout) (growth .branch) q))) (grown-is p))
+
+        -- and the cells that its siblings remove
+        pub removed-grown : treeRemoved (plane fanout) bs c
+            ≡ removed (grownRect ps (length (f .before)) (length (f .inside .left)) c ∷ [])
+            (siblings ps (length (f .before)))
+        unfolding treeRemoved removed
+        removed-grown =
+            let n = length (f .inside .left) in
+            let r : getD (getD ps (length (f .before)) []) n noRect ≡ f .inside .at =
+            ap (λ q. getD q n noRect) (polygon-at ∙ f .inside .list) ∙ getD-at (f .inside .left) (f .inside .at) (f .inside .right) noRect n refl in
+            rw (any-none (λ b. anyHas (plane fanout) (b .poly) c) bs none-there, growth-found)
+            (ap (λ ss. removed (grown (f .inside .at) c ∷ []) ss) (others s ∙ sym siblings-are)
+            ∙ ap (λ x. removed (grown x c ∷ []) (siblings ps (length (f .before)))) (sym r))

@@ -17,25 +17,29 @@ use Rattle.geometry.specs.declared.cut.Count.{Count}
 use Rattle.geometry.specs.declared.cut.Count.the-variants.{Rects, Over}
 use Rattle.geometry.specs.Numbers.{rectsIn, rectsOf, counted, Written, PolygonOf}
 use Rattle.geometry.proofs.NumberLaws.{length-rects}
+use Rattle.area.specs.Removed.{removed}
 use Rattle.tree.specs.Lists.{All}
 use Rattle.tree.specs.Nodes.{Item}
-use Rattle.tree.specs.Step2.{choose}
+use Rattle.tree.specs.Step2.{choose, removed as treeRemoved}
 use Rattle.plane.specs.Plane.{plane, planeSpace}
 use Rattle.memory.specs.Layout.{part, polygonIn}
 use Rattle.memory.specs.Fanout.{fanout}
 use Rattle.layout.specs.Nodes.{countAt, childAt, PolygonPart}
 use Rattle.index.specs.Walks.{hasTest}
+use Rattle.step2.specs.declared.choosing.Taken.the-variants as B
 use Rattle.step2.specs.declared.least.Least.{Least}
+use Rattle.step2.specs.declared.pieces.Grown.{Grown}
 use Rattle.step2.specs.Branches.{polygonsIn, Branches}
 use Rattle.step2.specs.Choose.{ChosenBranch, ChosenAt, NoneChosen}
 use Rattle.step2.specs.Least.{leastAll}
-use Rattle.step2.specs.Pieces.{grownAt}
+use Rattle.step2.specs.Pieces.{siblings, grownAt, grownRect}
+use Rattle.step2.specs.Removed.{RemovedBy, RemovedAt}
 use Rattle.step2.proofs.ChildParts.{next-polygon, child-polygon, polygon-there}
 use Rattle.step2.proofs.ReadBranches.{polygons-read}
 use Rattle.step2.proofs.FirstLoop.{none-before}
 use Rattle.step2.proofs.LeastLaws.{FoundLeast, least-first}
 use Rattle.step2.proofs.PieceLaws.{grown-few}
-use Rattle.step2.proofs.ChooseLaws.{BranchAt, branch-at, choose-has, choose-grown, place-below, polygon-at, rect-below}
+use Rattle.step2.proofs.ChooseLaws.{BranchAt, branch-at, choose-has, choose-grown, removed-has, removed-grown, place-below, polygon-at, rect-below}
 
 -- a chosen branch, from its place in the row
 chosen-branch : (n : ℕ) (b : Item (planeSpace fanout) (suc (suc n))) (p : List Rect) (c : Cell) (i : ℕ) (before after : List (List Rect)) (x q : List Rect)
@@ -73,6 +77,32 @@ module _ (m : List ℕ) (k : ℕ) (p : List Rect) (c : Cell) (v : Branches m k) 
           subst (λ (x : List Rect). ChosenBranch n b p c place x) at
           (chosen-branch n b p c place (take place ps) (drop (suc place) ps) (getD ps place []) (getD ps place []) s
           (choose-has p c (b .child) place (take place ps) (drop (suc place) ps) (getD ps place []) s none-has has))
+
+  -- then no cell is removed
+  pub has-removed : (x place : ℕ) (q : Polygon) → x ≡ countAt m k → place ≡ firstPlace (hasTest c) (polygonsIn m k)
+      → place < x
+      → RemovedAt m k c (record { taken = B.Branch place; polygon = q; removed = 0 })
+  has-removed x place q y e h = record {
+    is = λ i z n lo b r. sym (one n b (polygons-read n m lo k b r));
+    small = omega arith;
+  }
+    where
+      one : (n : ℕ) (b : Item (planeSpace fanout) (suc (suc n))) → map (λ x. x .poly) (b .child) ≡ polygonsIn m k
+          → treeRemoved (plane fanout) (b .child) c ≡ 0
+      one n b r =
+          let ps = polygonsIn m k in
+          let l : place < length ps = let z = v .count in omega arith in
+          let has : hasTest c (getD ps place []) ≡ true = rw e (place-passes (hasTest c) ps [] (rw (← e) l)) in
+          let s = branch-at (b .child) (take place ps) (getD ps place []) (drop (suc place) ps) (r ∙ split-at ps place [] l) in
+          removed-has p c (b .child) (length (take place ps)) (take place ps) (drop (suc place) ps)
+          (getD ps place []) s has
+
+  -- step 2 refuses: the number means nothing
+  pub over-removed : (q : Polygon) → RemovedAt m k c (record { taken = B.Over; polygon = q; removed = 0 })
+  over-removed q = record {
+    is = λ i z n lo b r. let w : _≡_ {A = ℕ} 0 1 = cc in absurd (omega arith);
+    small = omega arith;
+  }
 
   module _ (x : Least) (e : x ≡ leastAll c (polygonsIn m k)) where
     found : FoundLeast c (polygonsIn m k) x
@@ -112,7 +142,16 @@ module _ (m : List ℕ) (k : ℕ) (p : List Rect) (c : Cell) (v : Branches m k) 
         choice : choose (plane fanout) p (b .child) c
             ≡ bind (grownAt p (polygonsIn m k) (length (found .first .before)) (length (found .first .inside .left)) c)
             (λ q. some (record { before = take (length (found .first .before)) (b .child); old = taken .old; grown = q; after = drop (suc (length (found .first .before))) (b .child) }))
-        choice = choose-grown c (polygonsIn m k) _ (found .first) p (b .child) taken r none-has
+        choice = choose-grown c (polygonsIn m k) _ (found .first) (b .child) taken r none-has p
+
+        one-removed : treeRemoved (plane fanout) (b .child) c
+            ≡ removed (grownRect (polygonsIn m k) (x .branch) (x .rect) c ∷ []) (siblings (polygonsIn m k) (x .branch))
+        one-removed =
+            let ps = polygonsIn m k in
+            removed-grown c ps _ (found .first) (b .child) taken r none-has
+            ∙ ap (λ (i : ℕ). removed (grownRect ps i (length (found .first .inside .left)) c ∷ []) (siblings ps i))
+            (sym (found .branch))
+            ∙ ap (λ (i : ℕ). removed (grownRect ps (x .branch) i c ∷ []) (siblings ps (x .branch))) (sym (found .rect))
 
         one-none : grownAt p (polygonsIn m k) (x .branch) (x .rect) c ≡ none → choose (plane fanout) p (b .child) c ≡ none
         unfolding bind
@@ -125,6 +164,16 @@ module _ (m : List ℕ) (k : ℕ) (p : List Rect) (c : Cell) (v : Branches m k) 
         one-some q o =
             let w : grownAt p (polygonsIn m k) (length (found .first .before)) (length (found .first .inside .left)) c ≡ some q = rw (← (found .branch), ← (found .rect)) o in
             rw (found .branch) (chosen-branch n b p c (length (found .first .before)) (found .first .before) (found .first .after) (found .first .polygon) q taken (choice ∙ rw w))
+
+      -- the cells that the siblings of the grown one remove
+      pub grown-removed : (u : Grown)
+          → RemovedBy (grownRect (polygonsIn m k) (x .branch) (x .rect) c) (siblings (polygonsIn m k) (x .branch)) u
+          → (n : ℕ) → u .count ≡ Rects n → (q : Polygon)
+          → RemovedAt m k c (record { taken = B.Branch (x .branch); polygon = q; removed = u .removed })
+      grown-removed u z n o q = record {
+        is = λ i y j lo b r. z .is n o ∙ sym (one-removed j b (polygons-read j m lo k b r));
+        small = z .small;
+      }
 
       module _ (l₀ l : List ℕ) (a : Count) (w : Written l₀ (grownAt p (polygonsIn m k) (x .branch) (x .rect) c) a l) where
         pub over-way : a ≡ Over → NoneChosen m k p c

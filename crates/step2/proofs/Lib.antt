@@ -6,9 +6,10 @@ pub mod AloneLaws
 pub mod AloneLoops
 pub mod LeastLoops
 pub mod LeastLaws
-pub mod PutLoop
+pub mod ReplacedWays
 pub mod PieceLaws
 pub mod SiblingLoop
 pub mod GrownWays
+pub mod RemovedLaws
 pub mod ChooseLaws
 pub mod ChooseWays

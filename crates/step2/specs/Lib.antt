@@ -2,3 +2,4 @@ pub mod Choose
 pub mod Branches
 pub mod Least
 pub mod Pieces
+pub mod Removed

@@ -8,6 +8,7 @@ use Rattle.geometry.specs.declared.rect.Cell.{Cell}
 use Rattle.geometry.specs.declared.rect.Rect.{Rect}
 use Rattle.geometry.specs.Cells.{noRect}
 use Rattle.geometry.specs.Cut.{cutLimited, commonLimited}
+use Rattle.geometry.specs.Grow.{grown}
 use Rattle.geometry.specs.Refine.{refine}
 use Rattle.tree.specs.Search.{Focus}
 use Rattle.tree.specs.Step2.{grownPoly}
@@ -37,6 +38,10 @@ refinedLimited l = atMost mostOfPolygon (refine l)
 -- the k-th rectangle of a list, with what stands before and after it
 abbrev pub focusAt : List Rect → ℕ → Focus Rect
 focusAt l k = record { before = take k l; at = getD l k noRect; after = drop (k + 1) l }
+
+-- the k-th rectangle of the branch at a place, grown to the cell
+abbrev pub grownRect : List (List Rect) → ℕ → ℕ → Cell → Rect
+grownRect ps place k c = grown (getD (getD ps place []) k noRect) c
 
 -- the polygon of the branch at a place, its k-th rectangle grown to the cell; none: refusal 7
 unfoldable pub grownAt : List Rect → List (List Rect) → ℕ → ℕ → Cell → Option (List Rect)

@@ -9,6 +9,7 @@ ghost use Rattle.geometry.specs.Numbers.{rectsIn};
 ghost use Rattle.memory.specs.Layout.{part, polygonIn};
 ghost use Rattle.step2.specs.Branches.{polygonsIn, GoodPart, Branches};
 ghost use Rattle.step2.specs.Least.{aloneIn, aloneFrom, allCells};
+use area::ALL_CELLS;
 use area::extra_of_one;
 use geometry::Cell;
 use geometry::rect_at;
@@ -17,9 +18,6 @@ use layout::node_at;
 use layout::part_at;
 use layout::rect_count;
 use layout::rects;
-
-// More cells than any rectangle adds.
-const ALL_CELLS: u64 = 4294967296;
 
 // The lesser of two numbers.
 fn lesser_of(a: u64, b: u64) -> u64

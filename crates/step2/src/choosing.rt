@@ -9,6 +9,7 @@ ghost use Rattle.layout.specs.Nodes.{countAt};
 ghost use Rattle.index.specs.Walks.{hasTest};
 ghost use Rattle.step2.specs.Branches.{polygonsIn, Branches};
 ghost use Rattle.step2.specs.Choose.{Routing, ChoiceIs};
+ghost use Rattle.step2.specs.Removed.{RemovedAt};
 use crate::branch::first_with;
 use crate::branch::polygon_at;
 use crate::least::find_least;
@@ -26,16 +27,19 @@ pub enum Taken {
     Over,
 }
 
-// The branch that insertion goes to, and its polygon from now on. Over: the polygon means nothing.
+// The branch that insertion goes to, its polygon from now on, and how many cells siblings removed. Over: the polygon
+// and the number mean nothing.
 pub struct Choice {
     pub taken: Taken,
     pub polygon: Polygon,
+    pub removed: u64,
 }
 
 // The branch of least extra area, where none has the cell, with its polygon grown.
 fn choose_least(m: &[u32], k: u32, p: Polygon, c: Cell) -> Choice
     requires { ⌜ Branches (now m) k × (firstPlace (hasTest c) (polygonsIn (now m) k) ≡ countAt (now m) k) × (p .count ≤ 16) × (onGrid c ≡ true) ⌝ }
     ensures { λ r. ⌜ ChoiceIs (now (m .entry)) k (rectsOf p) c r ⌝ }
+    ensures { λ r. ⌜ RemovedAt (now (m .entry)) k c r ⌝ }
 {
     let found = find_least(m, k, c);
     let place = found.branch;
@@ -43,19 +47,29 @@ fn choose_least(m: &[u32], k: u32, p: Polygon, c: Cell) -> Choice
     let mut list = [0u32; WORK_NUMBERS];
     let mut spare = [0u32; WORK_NUMBERS];
     let grown = put_grown(m, k, place, rect, p, c, &mut list, &mut spare);
-    let Count::Rects(n) = grown else {
+    let count = grown.count;
+    let Count::Rects(n) = count else {
         let taken = Taken::Over;
-        return Choice { taken, polygon: p };
+        return Choice {
+            taken,
+            polygon: p,
+            removed: 0,
+        };
     };
     let polygon = Polygon::load(&list, n);
     let taken = Taken::Branch(place);
-    Choice { taken, polygon }
+    Choice {
+        taken,
+        polygon,
+        removed: grown.removed,
+    }
 }
 
 // The branch that has the cell, or the one of least extra area.
 fn choose_branch(m: &[u32], k: u32, p: Polygon, c: Cell) -> Choice
     requires { ⌜ Branches (now m) k × (p .count ≤ 16) × (onGrid c ≡ true) ⌝ }
     ensures { λ r. ⌜ ChoiceIs (now (m .entry)) k (rectsOf p) c r ⌝ }
+    ensures { λ r. ⌜ RemovedAt (now (m .entry)) k c r ⌝ }
 {
     let n = count_at(m, k) as usize;
     let place = first_with(m, k, c);
@@ -65,7 +79,11 @@ fn choose_branch(m: &[u32], k: u32, p: Polygon, c: Cell) -> Choice
     let j = child_at(m, k, place);
     let polygon = polygon_at(m, j);
     let taken = Taken::Branch(place);
-    Choice { taken, polygon }
+    Choice {
+        taken,
+        polygon,
+        removed: 0,
+    }
 }
 
 // The branch of the routing node at part k for the cell; p is the node's own polygon, as grown in this
@@ -73,6 +91,7 @@ fn choose_branch(m: &[u32], k: u32, p: Polygon, c: Cell) -> Choice
 pub fn choose(m: &[u32], k: u32, p: Polygon, c: Cell) -> Choice
     requires { ⌜ Routing (now m) k × (p .count ≤ 16) × (onGrid c ≡ true) ⌝ }
     ensures { λ r. ⌜ ChoiceIs (now (m .entry)) k (rectsOf p) c r ⌝ }
+    ensures { λ r. ⌜ RemovedAt (now (m .entry)) k c r ⌝ }
 {
     choose_branch(m, k, p, c)
 }

@@ -5,15 +5,17 @@ ghost use mathlib.Core.Bool.{true};
 ghost use mathlib.Core.List.{[]};
 ghost use Prim.Native.Nat.{_≤_, _<_};
 ghost use lib.ListN.{length, getD};
-ghost use Rattle.geometry.specs.Cells.{onGrid, noRect};
+ghost use Rattle.geometry.specs.Cells.{onGrid, valid, noRect};
 ghost use Rattle.geometry.specs.Grow.{grown};
 ghost use Rattle.geometry.specs.Numbers.{rectsOf, Written};
 ghost use Rattle.memory.specs.Layout.{part, rectCount, polygonIn};
 ghost use Rattle.layout.specs.Nodes.{countAt, PolygonPart};
 ghost use Rattle.step2.specs.Branches.{polygonsIn, Branches};
-ghost use Rattle.step2.specs.Pieces.{siblings, innerPieces, grownAt};
+ghost use Rattle.step2.specs.Pieces.{siblings, innerPieces, grownAt, grownRect};
+ghost use Rattle.step2.specs.Removed.{RemovedBy};
 use crate::replacing::put_polygon;
 use crate::siblings::cut_by_siblings;
+use area::total_area;
 use geometry::Cell;
 use geometry::Count;
 use geometry::Polygon;
@@ -25,6 +27,13 @@ use layout::child_at;
 use layout::part_at;
 use layout::rects;
 
+// A list that was written, or refusal 7, and how many cells siblings removed from the grown rectangle. Over: the
+// number means nothing.
+pub struct Grown {
+    pub count: Count,
+    pub removed: u64,
+}
+
 // Writes the pieces of the grown rectangle g of the branch at a place: outside its siblings, inside the parent's
 // polygon p. The list holds the pieces on the way.
 fn put_inner(
@@ -35,17 +44,24 @@ fn put_inner(
     p: Polygon,
     list: &mut [u32],
     out: &mut [u32],
-) -> Count
-    requires { ⌜ Branches (now m) k × (place < countAt (now m) k) × (p .count ≤ 16) × (1088 ≤ length (now list)) × (1088 ≤ length (now out)) ⌝ }
-    ensures { λ c. ⌜ Written (now (out .entry)) (innerPieces (rectsOf p) (siblings (polygonsIn (now (m .entry)) k) place) g) c (now (out .exit)) ⌝ }
+) -> Grown
+    requires { ⌜ Branches (now m) k × (place < countAt (now m) k) × (valid g ≡ true) × (p .count ≤ 16) × (1088 ≤ length (now list)) × (1088 ≤ length (now out)) ⌝ }
+    ensures { λ r. ⌜ Written (now (out .entry))
+        (innerPieces (rectsOf p) (siblings (polygonsIn (now (m .entry)) k) place) g) (r .count) (now (out .exit)) ⌝ }
+    ensures { λ r. ⌜ RemovedBy g (siblings (polygonsIn (now (m .entry)) k) place) r ⌝ }
     ensures { λ _. ⌜ length (now (list .exit)) ≡ length (now (list .entry)) ⌝ }
 {
     put_rect(list, 0, g);
     let cut = cut_by_siblings(m, k, place, list, 1, out);
     let Count::Rects(n) = cut else {
-        return Count::Over;
+        let count = Count::Over;
+        return Grown { count, removed: 0 };
     };
-    common_parts(list, n, p, out)
+    // the pieces share no cell; those outside the parent's polygon are still among them
+    let left = total_area(list, n);
+    let removed = g.area() - left;
+    let count = common_parts(list, n, p, out);
+    Grown { count, removed }
 }
 
 // The rect-th rectangle of the polygon at part j, grown to the cell.
@@ -69,15 +85,24 @@ pub fn put_grown(
     c: Cell,
     list: &mut [u32],
     spare: &mut [u32],
-) -> Count
+) -> Grown
     requires { ⌜ Branches (now m) k × (place < countAt (now m) k) × (rect < length (getD (polygonsIn (now m) k) place [])) × (p .count ≤ 16) × (onGrid c ≡ true) × (1088 ≤ length (now list)) × (1088 ≤ length (now spare)) ⌝ }
-    ensures { λ n. ⌜ Written (now (list .entry)) (grownAt (rectsOf p) (polygonsIn (now (m .entry)) k) place rect c) n (now (list .exit)) ⌝ }
+    ensures { λ r. ⌜ Written (now (list .entry)) (grownAt (rectsOf p) (polygonsIn (now (m .entry)) k) place rect c)
+        (r .count) (now (list .exit)) ⌝ }
+    ensures { λ r. ⌜ RemovedBy (grownRect (polygonsIn (now (m .entry)) k) place rect c)
+        (siblings (polygonsIn (now (m .entry)) k) place) r ⌝ }
 {
     let j = child_at(m, k, place);
     let g = grown_rect(m, j, rect, c);
     let inner = put_inner(m, k, place, g, p, list, spare);
-    let Count::Rects(count) = inner else {
-        return Count::Over;
+    let pieces = inner.count;
+    let Count::Rects(n) = pieces else {
+        let count = Count::Over;
+        return Grown { count, removed: 0 };
     };
-    put_polygon(m, j, rect, list, spare, count)
+    let count = put_polygon(m, j, rect, list, spare, n);
+    Grown {
+        count,
+        removed: inner.removed,
+    }
 }

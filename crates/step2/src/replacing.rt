@@ -1,34 +1,17 @@
 // A polygon with pieces in place of one rectangle, refined.
-ghost use Prim.Native.Nat.{_+_, _*_, _-_, _≤_, _<_};
-ghost use lib.ListN.{length, drop};
+ghost use Prim.Native.Nat.{_*_, _≤_, _<_};
+ghost use lib.ListN.{length};
 ghost use Rattle.geometry.specs.Numbers.{rectsIn, Appended, Written};
 ghost use Rattle.memory.specs.Layout.{part, rectCount, polygonIn};
 ghost use Rattle.layout.specs.Nodes.{PolygonPart};
 ghost use Rattle.step2.specs.Pieces.{replaced, refinedLimited};
 use geometry::Count;
 use geometry::MOST_OF_POLYGON;
-use geometry::put_rect;
-use geometry::rect_at;
+use geometry::put_rects;
 use layout::part_at;
 use layout::rect_count;
 use layout::rects;
 use refinement::refine_list;
-
-// Writes the rectangles from the given one up to before the e-th of one list behind the first n of another.
-fn put_rects(list: &mut [u32], n: usize, source: &[u32], from: usize, e: usize) -> usize
-    requires { ⌜ (from ≤ e) × (4 * e ≤ length (now source)) × (4 * (n + (e - from)) ≤ length (now list)) ⌝ }
-    ensures { λ m. ⌜ Appended (now (list .entry)) n (drop from (rectsIn (now (source .entry)) e)) (e - from) (now (list .exit)) m ⌝ }
-{
-    let mut m = n;
-    let mut i = from;
-    while i < e {
-        let r = rect_at(source, i);
-        put_rect(list, m, r);
-        m += 1;
-        i += 1;
-    }
-    m
-}
 
 // Writes the polygon's n rectangles with the pieces in place of its k-th one.
 fn put_replaced(

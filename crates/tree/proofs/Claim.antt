@@ -12,10 +12,11 @@ use Rattle.tree.specs.Nodes.{EntryOf}
 use Rattle.tree.specs.Root.{Root}
 use Rattle.tree.specs.Tree.{Index, entries, nodeCount, Sound}
 use Rattle.tree.specs.Insert.{Outcome, refused, accepted, insert}
+use Rattle.tree.specs.Removed.{removedTotal}
 use Rattle.tree.specs.Remove.{other, remove}
 use Rattle.tree.specs.Query.{ofCell, Window, holds}
 use Rattle.tree.specs.Nearest.{nearest, walk}
-use Rattle.tree.specs.Calls.{Call, insertCall, removeCall, clearCall, pointCall, windowCall, nearestCall, emptyCall, Answer, refusal, reports, isAccepted, outcomeAnswer, outcomeIndex, insertion, nearestEnd, answer, after, afterAll, answers}
+use Rattle.tree.specs.Calls.{Call, insertCall, removeCall, clearCall, pointCall, windowCall, nearestCall, emptyCall, Answer, refusal, inserted, isAccepted, outcomeAnswer, insertedAnswer, outcomeIndex, insertion, nearestEnd, answer, after, afterAll, answers}
 use Rattle.tree.specs.Record.{recorded, recordOf}
 use Rattle.tree.specs.Claim.{Reported, ReportedAll, IndexClaim, OnGrid, Claim}
 use Rattle.tree.proofs.Counts.{countOf-both, countOf-append, countOf-keep, countOf-every}
@@ -71,11 +72,11 @@ module _ (S : Space) (W : Laws S) (T : Steps S) (R : Root S) (X : RootLaws S R) 
     same = λ q. ap (countOf q) (remove-entries S c i) ∙ countOf-keep q (other S c) (entries S i) ∙ s .same (λ e. other S c e && q e) ∙ sym (countOf-keep q (other S c) r);
   }
 
-  insert-step : (i : Index S) (r : List (EntryOf S)) (e : EntryOf S) → S .Real (e .cell) → State i r → (o : Outcome S) → insertion S R N i e ≡ o → Stepped i r (insertCall e) (outcomeIndex S i o) (outcomeAnswer S o)
+  insert-step : (i : Index S) (r : List (EntryOf S)) (e : EntryOf S) → S .Real (e .cell) → State i r → (o : Outcome S) → insertion S R N i e ≡ o → Stepped i r (insertCall e) (outcomeIndex S i o) (insertedAnswer S (removedTotal S R i (e .cell)) o)
   insert-step i r e on s (refused n) h = refused-step i r (insertCall e) n s
   insert-step i r e on s (accepted j) h = go (holds S (e .cell) i) refl h
     where
-      go : (b : Bool) → holds S (e .cell) i ≡ b → cond b (refused 5) (insert S R N i e) ≡ accepted j → Stepped i r (insertCall e) j (reports (length (entries S j)))
+      go : (b : Bool) → holds S (e .cell) i ≡ b → cond b (refused 5) (insert S R N i e) ≡ accepted j → Stepped i r (insertCall e) j (inserted (length (entries S j)) (removedTotal S R i (e .cell)))
       go true f h = let z : _≡_ {A = ℕ} 0 1 = cc in absurd (omega arith)
       go false f h =
           let t = inserted-state i j r e s (insert-accepted S W T R X wide N i e j h (s .sound) on f) in

@@ -8,13 +8,27 @@ use Rattle.tree.specs.Lists.{All, Pairs}
 use Rattle.tree.specs.Space.{Branch, Chosen}
 use Rattle.tree.specs.Boxes.{Boxes, anyHas, GoodPolygon, Poly}
 use Rattle.tree.specs.Search.{first, Focus, orElse}
-use Rattle.tree.specs.Step2.{grownPoly, allBoxes, extras, hasExtra, chosen, whole, growing, choose}
+use Rattle.tree.specs.Step2.{grownPoly, allBoxes, extras, hasExtra, chosen, whole, Growth, siblingBoxes, leastGrowth, growing, choose}
 use Rattle.tree.specs.BoxSpace.{spaceOf}
 use Rattle.tree.proofs.BoxLaws.{BoxLaws}
 use Rattle.tree.proofs.Lists.{all-append, all-first, all-second, all-map, pairs-parts, all-head, all-tail, pairs-head}
 use Rattle.tree.proofs.Laws.{Chose}
 use Rattle.tree.proofs.Any.{bind-some, any-flatMap, first-none, first-some, Found, any-none, any-has, any-from}
 use Rattle.tree.proofs.GrownPolygon.{Sub, Sep, grown-good}
+
+-- The rectangle that grows stands in the polygon of one of the branches.
+pub record GrowthIn (B : Boxes) {A : Type 0} (bs : List (Branch (Poly B) A)) (g : Growth B A) : Type 0 where
+  pub branches : bs ≡ g .branch .before ++ (g .branch .at ∷ g .branch .after)
+  pub rects : g .branch .at .poly ≡ g .rect .before ++ (g .rect .at ∷ g .rect .after)
+
+pub growth-in : (B : Boxes) {A : Type 0} (bs : List (Branch (Poly B) A)) (c : B .Cell) (g : Growth B A)
+    → leastGrowth B bs c ≡ some g → GrowthIn B bs g
+growth-in B bs c g h =
+    let m = least (λ x. x) (extras B bs c) in
+    let i = bind-some (first (λ b. any (hasExtra B c m (b .poly)) (b .poly)) bs) _ g h in
+    let j = bind-some (first (hasExtra B c m (i .0 .at .poly)) (i .0 .at .poly)) _ g (i .2) in
+    let e : g ≡ record { branch = i .0; rect = j .0 } = cc (j .2) in
+    rw e (record { branches = first-some _ bs (i .0) (i .1) .list; rects = first-some _ (i .0 .at .poly) (j .0) (j .1) .list })
 
 module _ (B : Boxes) (W : BoxLaws B) where
   -- step 2 is as the tree needs it
@@ -85,12 +99,11 @@ module _ (B : Boxes) (W : BoxLaws B) where
         go : (m : Option (Focus (Branch (Poly B) A))) → first (λ b. anyHas B (b .poly) c) bs ≡ m → orElse (whole B m) (growing B p bs c) ≡ some ch → Chose (spaceOf B) p bs c ch
         go (some f) e h = let q : ch ≡ chosen B f (f .at .poly) = cc in rw q (whole-chose f (first-some (λ b. anyHas B (b .poly) c) bs f e))
         go none e h =
-            let m = least (λ x. x) (extras B bs c) in
-            let i = bind-some (first (λ b. any (hasExtra B c m (b .poly)) (b .poly)) bs) _ ch h in
-            let j = bind-some (first (hasExtra B c m (i .0 .at .poly)) (i .0 .at .poly)) _ ch (i .2) in
-            let k = bind-some (grownPoly B p (allBoxes B (i .0 .before ++ i .0 .after)) (j .0) c) _ ch (j .2) in
-            let q : ch ≡ chosen B (i .0) (k .0) = cc (k .2) in
-            rw q (grown-chose (i .0) (j .0) (k .0) (first-some _ bs (i .0) (i .1) .list) (first-some _ (i .0 .at .poly) (j .0) (j .1) .list) (first-none (λ b. anyHas B (b .poly) c) bs e) (k .1))
+            let i = bind-some (leastGrowth B bs c) _ ch h in
+            let g = growth-in B bs c (i .0) (i .1) in
+            let k = bind-some (grownPoly B p (siblingBoxes B (i .0)) (i .0 .rect) c) _ ch (i .2) in
+            let q : ch ≡ chosen B (i .0 .branch) (k .0) = cc (k .2) in
+            rw q (grown-chose (i .0 .branch) (i .0 .rect) (k .0) (g .branches) (g .rects) (first-none (λ b. anyHas B (b .poly) c) bs e) (k .1))
 
 -- Step 2 takes one of the branches.
 pub chose-row : (B : Boxes) {A : Type 0} (p : Poly B) (bs : List (Branch (Poly B) A)) (c : B .Cell) (ch : Chosen (Poly B) A) → choose B p bs c ≡ some ch → bs ≡ ch .before ++ (ch .old ∷ ch .after)
@@ -100,9 +113,8 @@ chose-row B {A = A} p bs c ch h = go (first (λ b. anyHas B (b .poly) c) bs) ref
     go : (m : Option (Focus (Branch (Poly B) A))) → first (λ b. anyHas B (b .poly) c) bs ≡ m → orElse (whole B m) (growing B p bs c) ≡ some ch → bs ≡ ch .before ++ (ch .old ∷ ch .after)
     go (some f) e h = let q : ch ≡ chosen B f (f .at .poly) = cc in rw q (first-some (λ b. anyHas B (b .poly) c) bs f e .list)
     go none e h =
-        let m = least (λ x. x) (extras B bs c) in
-        let i = bind-some (first (λ b. any (hasExtra B c m (b .poly)) (b .poly)) bs) _ ch h in
-        let j = bind-some (first (hasExtra B c m (i .0 .at .poly)) (i .0 .at .poly)) _ ch (i .2) in
-        let k = bind-some (grownPoly B p (allBoxes B (i .0 .before ++ i .0 .after)) (j .0) c) _ ch (j .2) in
-        let q : ch ≡ chosen B (i .0) (k .0) = cc (k .2) in
-        rw q (first-some _ bs (i .0) (i .1) .list)
+        let i = bind-some (leastGrowth B bs c) _ ch h in
+        let g = growth-in B bs c (i .0) (i .1) in
+        let k = bind-some (grownPoly B p (siblingBoxes B (i .0)) (i .0 .rect) c) _ ch (i .2) in
+        let q : ch ≡ chosen B (i .0 .branch) (k .0) = cc (k .2) in
+        rw q (g .branches)

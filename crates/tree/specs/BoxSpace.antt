@@ -9,7 +9,7 @@ use Rattle.tree.specs.Space.{Space}
 use Rattle.tree.specs.Root.{Root}
 use Rattle.tree.specs.Query.{Window}
 use Rattle.tree.specs.Boxes.{Boxes, anyHas, GoodPolygon, clipPoly, polyDistance}
-use Rattle.tree.specs.Step2.{choose}
+use Rattle.tree.specs.Step2.{choose, removed}
 
 -- Polygons are lists of rectangles, and step 2 is document 01's.
 abbrev pub spaceOf : Boxes → Space
@@ -24,6 +24,7 @@ spaceOf B = record {
   below = B .below;
   clip = clipPoly B;
   choose = choose B;
+  removed = removed B;
   leafLine = B .leafLine;
   nodeLine = B .nodeLine;
   distance = B .distance;

@@ -1,5 +1,5 @@
 -- The calls at the level of trees, and what each answers and leaves by the definitions.
--- docs/RULES.md 4.22, 7.2
+-- docs/RULES.md 4.22, 4.26, 7.2
 use Prim.Native.Nat.{ℕ}
 use mathlib.Core.Bool.{Bool, true, false, cond}
 use mathlib.Core.List.{List, [], _∷_}
@@ -10,6 +10,7 @@ use Rattle.tree.specs.Nodes.{EntryOf}
 use Rattle.tree.specs.Root.{Root}
 use Rattle.tree.specs.Tree.{Index, entries}
 use Rattle.tree.specs.Insert.{Outcome, refused, accepted, insert}
+use Rattle.tree.specs.Removed.{removedTotal}
 use Rattle.tree.specs.Remove.{remove}
 use Rattle.tree.specs.Query.{Window, holds, entryAt, visits, matches, windowVisits}
 use Rattle.tree.specs.Nearest.{nearest, walk}
@@ -25,11 +26,13 @@ pub data Call (S : Space) (Win : Window S) : Type 0 where
   nearestCall : S .Cell → Call S Win
   emptyCall : Win .W → Call S Win
 
--- An answer: a refusal by its number; "Insertion, removal and clearing report the entries held after the call"; a point
--- query the entry, if held, and visits; a window query the matches in order and visits; a nearest query "the entry, the
--- squared distance and the number of nodes entered"; an emptiness query "a yes or no for a window" and visits.
+-- An answer: a refusal by its number; "Insertion, removal and clearing report the entries held after the call",
+-- insertion also "the total removed by siblings"; a point query the entry, if held, and visits; a window query the
+-- matches in order and visits; a nearest query "the entry, the squared distance and the number of nodes entered"; an
+-- emptiness query "a yes or no for a window" and visits.
 pub data Answer (S : Space) : Type 0 where
   refusal : ℕ → Answer S
+  inserted : ℕ → ℕ → Answer S
   reports : ℕ → Answer S
   pointAnswer : Option (EntryOf S) → ℕ → Answer S
   windowAnswer : List (EntryOf S) → ℕ → Answer S
@@ -39,6 +42,7 @@ pub data Answer (S : Space) : Type 0 where
 -- Whether the call was accepted.
 abbrev pub isAccepted : {S : Space} → Answer S → Bool
 isAccepted (refusal k) = false
+isAccepted (inserted n r) = true
 isAccepted (reports n) = true
 isAccepted (pointAnswer e v) = true
 isAccepted (windowAnswer es v) = true
@@ -50,6 +54,11 @@ module _ (S : Space) where
   abbrev pub outcomeAnswer : Outcome S → Answer S
   outcomeAnswer (refused k) = refusal k
   outcomeAnswer (accepted i) = reports (length (entries S i))
+
+  -- The same of an insertion, which removed r cells: a refused one reports none.
+  abbrev pub insertedAnswer : ℕ → Outcome S → Answer S
+  insertedAnswer r (refused k) = refusal k
+  insertedAnswer r (accepted i) = inserted (length (entries S i)) r
 
   abbrev pub outcomeIndex : Index S → Outcome S → Index S
   outcomeIndex i (refused k) = i
@@ -72,7 +81,7 @@ module _ (S : Space) where
     module _ (Win : Window S) where
       -- The answer of a call on an index.
       unfoldable pub answer : Index S → Call S Win → Answer S
-      answer i (insertCall e) = outcomeAnswer (insertion i e)
+      answer i (insertCall e) = insertedAnswer (removedTotal S R i (e .cell)) (insertion i e)
       answer i (removeCall c) = outcomeAnswer (removal i c)
       answer i clearCall = reports 0
       answer i (pointCall c) = pointAnswer (entryAt S c i) (visits S c i)

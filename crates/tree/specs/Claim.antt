@@ -18,7 +18,7 @@ use Rattle.tree.specs.Query.{Window, ofCell, holds, visits, matches, win
 use Rattle.tree.specs.Nearest.{IsNearest, nearest, walk}
 use Rattle.tree.specs.Emptiness.{isEmpty, emptyVisits}
 use Rattle.tree.specs.Calls.{Call, insertCall, removeCall, clearCall, pointCall, windowCall, nearestCall, emptyCall}
-use Rattle.tree.specs.Calls.{Answer, refusal, reports, pointAnswer, windowAnswer, nearestAnswer, emptyAnswer}
+use Rattle.tree.specs.Calls.{Answer, refusal, inserted, reports, pointAnswer, windowAnswer, nearestAnswer, emptyAnswer}
 use Rattle.tree.specs.Calls.{isAccepted, afterAll, answers}
 use Rattle.tree.specs.Record.{recorded, recordOf}
 
@@ -34,6 +34,7 @@ module _ (S : Space) where
   -- "Wherever a call reports the number of entries held, that is the record's length after the call."
   abbrev pub Reported : Answer S → List (EntryOf S) → Type 0
   Reported (refusal k) r = Unit {0}
+  Reported (inserted n k) r = n ≡ length r
   Reported (reports n) r = n ≡ length r
   Reported (pointAnswer e v) r = Unit {0}
   Reported (windowAnswer es v) r = Unit {0}

@@ -10,6 +10,7 @@ pub mod Boxes
 pub mod Step2
 pub mod Split
 pub mod Insert
+pub mod Removed
 pub mod Remove
 pub mod Query
 pub mod Order

@@ -46,6 +46,8 @@ pub record Space : Type 1 where
   pub clip : Side Line → Poly → Poly
   -- step 2 at a routing node with this polygon and these branches; nothing where it refuses with 7
   pub choose : {A : Type 0} → Poly → List (Branch Poly A) → Cell → Option (Chosen Poly A)
+  -- how many cells siblings remove in step 2 at a routing node with these branches; 0 where nothing grows
+  pub removed : {A : Type 0} → List (Branch Poly A) → Cell → ℕ
   -- the line that splits a leaf with these entries
   pub leafLine : List (Entry Cell) → Line
   -- the line that splits a routing node whose branches hold these entries

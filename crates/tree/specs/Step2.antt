@@ -1,11 +1,11 @@
 -- Document 01, 'Insertion', step 2: the branch that is gone to, and its polygon grown.
--- docs/RULES.md 4.3 to 4.9
+-- docs/RULES.md 4.3 to 4.9, 4.26
 use Prim.Native.Nat.{ℕ}
-use mathlib.Core.Bool.{Bool}
+use mathlib.Core.Bool.{Bool, cond}
 use mathlib.Core.List.{List, [], _∷_, _++_, map, flatMap}
 use mathlib.Core.Option.{Option, none, some, bind}
 use lib.Dec.{eqb}
-use Rattle.polygons.specs.Rules.{cutEach, commons}
+use Rattle.polygons.specs.Rules.{cutEach, commons, removedBy}
 use Rattle.polygons.specs.Limits.{atMost, mostOfPolygon, mostPieces}
 use Rattle.polygons.specs.Lists.{any, least}
 use Rattle.tree.specs.Search.{Focus, first, orElse}
@@ -41,15 +41,39 @@ module _ (B : Boxes) where
   abbrev pub hasExtra : B .Cell → ℕ → Poly B → B .Box → Bool
   hasExtra c m q r = eqb (extra B q r c) m
 
-  -- "choose the rectangle of least extra area, first branch then first rectangle on ties", and grow it
-  abbrev pub growing : {A : Type 0} → Poly B → List (Branch (Poly B) A) → B .Cell → Option (Chosen (Poly B) A)
-  growing p bs c =
+  -- The rectangle that grows: its branch, and its place in that branch's polygon.
+  pub record Growth (A : Type 0) : Type 0 where
+    pub branch : Focus (Branch (Poly B) A)
+    pub rect : Focus (B .Box)
+
+  -- The rectangles of its siblings.
+  abbrev pub siblingBoxes : {A : Type 0} → Growth A → Poly B
+  siblingBoxes g = allBoxes (g .branch .before ++ g .branch .after)
+
+  -- "choose the rectangle of least extra area, first branch then first rectangle on ties"
+  abbrev pub leastGrowth : {A : Type 0} → List (Branch (Poly B) A) → B .Cell → Option (Growth A)
+  leastGrowth bs c =
       let m = least (λ x. x) (extras bs c) in
       bind (first (λ b. any (hasExtra c m (b .poly)) (b .poly)) bs) λ f.
       bind (first (hasExtra c m (f .at .poly)) (f .at .poly)) λ k.
-      bind (grownPoly p (allBoxes (f .before ++ f .after)) k c) λ q.
-      some (chosen f q)
+      some (record { branch = f; rect = k })
+
+  -- and grow it
+  abbrev pub growing : {A : Type 0} → Poly B → List (Branch (Poly B) A) → B .Cell → Option (Chosen (Poly B) A)
+  growing p bs c =
+      bind (leastGrowth bs c) λ g.
+      bind (grownPoly p (siblingBoxes g) (g .rect) c) λ q.
+      some (chosen (g .branch) q)
 
   -- "At a routing node, go to the branch that has the cell. If none has it, choose .."
   unfoldable pub choose : {A : Type 0} → Poly B → List (Branch (Poly B) A) → B .Cell → Option (Chosen (Poly B) A)
   choose p bs c = orElse (whole (first (λ b. anyHas B (b .poly) c) bs)) (growing p bs c)
+
+  -- A.6: "the cells of each grown rectangle that some sibling has"
+  abbrev pub removedFrom : {A : Type 0} → Option (Growth A) → B .Cell → ℕ
+  removedFrom none c = 0
+  removedFrom (some g) c = removedBy (B .count) (B .has) (B .grow (g .rect .at) c ∷ []) (siblingBoxes g)
+
+  -- The cells that siblings remove at a routing node, "and 0 where nothing grew": where a branch has the cell
+  unfoldable pub removed : {A : Type 0} → List (Branch (Poly B) A) → B .Cell → ℕ
+  removed bs c = cond (any (λ b. anyHas B (b .poly) c) bs) 0 (removedFrom (leastGrowth bs c) c)

@@ -29,9 +29,29 @@ struct Input {
     cell: [u32; 2],
 }
 
-/// A call on an input, which returns the call's number. It is lent a result list, an output and a
-/// number to store, and uses some of them.
-type Job = fn(&Input, &mut [u32], &mut [u8], &mut u32) -> u32;
+/// What is lent to a call to be written: a result list, an output, and two numbers to store. It
+/// uses some of them.
+#[derive(Debug, PartialEq, Eq)]
+struct Lent {
+    result: [u32; RESULT_LENGTH],
+    out: [u8; OUTPUT_LENGTH],
+    written: u32,
+    removed: u64,
+}
+
+impl Lent {
+    fn new() -> Lent {
+        Lent {
+            result: [0; RESULT_LENGTH],
+            out: [0; OUTPUT_LENGTH],
+            written: 0,
+            removed: 0,
+        }
+    }
+}
+
+/// A call on an input, which returns the call's number.
+type Job = fn(&Input, &mut Lent) -> u32;
 
 fn first(polygon: &[u32]) -> [u32; 4] {
     [polygon[0], polygon[1], polygon[2], polygon[3]]
@@ -45,58 +65,72 @@ fn number(answer: Result<(), drawing::Refusal>) -> u32 {
 const JOBS: [(&str, Job, Job); 3] = [
     (
         "cut by a rectangle",
-        |input, result, _, written| {
-            proved::cut(&input.list, first(&input.polygon), result, written)
+        |input, lent| {
+            let rectangle = first(&input.polygon);
+            proved::cut(&input.list, rectangle, &mut lent.result, &mut lent.written)
         },
-        |input, result, _, written| {
-            number(drawing::cut(
-                &input.list,
-                first(&input.polygon),
-                result,
-                written,
-            ))
+        |input, lent| {
+            let rectangle = first(&input.polygon);
+            let (result, written) = (&mut lent.result, &mut lent.written);
+            number(drawing::cut(&input.list, rectangle, result, written))
         },
     ),
     (
         "cut by a polygon of 4",
-        |input, result, _, written| {
-            proved::cut_polygon(&input.list, &input.polygon, result, written)
+        |input, lent| {
+            proved::cut_polygon(
+                &input.list,
+                &input.polygon,
+                &mut lent.result,
+                &mut lent.written,
+                &mut lent.removed,
+            )
         },
-        |input, result, _, written| {
+        |input, lent| {
             number(drawing::cut_polygon(
                 &input.list,
                 &input.polygon,
-                result,
-                written,
+                &mut lent.result,
+                &mut lent.written,
+                &mut lent.removed,
             ))
         },
     ),
     (
         "refine",
-        |input, result, _, written| proved::refine(&input.list, result, written),
-        |input, result, _, written| number(drawing::refine(&input.list, result, written)),
+        |input, lent| proved::refine(&input.list, &mut lent.result, &mut lent.written),
+        |input, lent| {
+            number(drawing::refine(
+                &input.list,
+                &mut lent.result,
+                &mut lent.written,
+            ))
+        },
     ),
 ];
 
 /// The containment test stores `has` in the result list's first place, and `compared` as written.
 const CONTAINS: [Job; 2] = [
-    |input, result, _, written| {
-        proved::contains(&input.polygon, input.cell, &mut result[0], written)
+    |input, lent| {
+        let (has, compared) = (&mut lent.result[0], &mut lent.written);
+        proved::contains(&input.polygon, input.cell, has, compared)
     },
-    |input, result, _, written| {
-        number(drawing::contains(
-            &input.polygon,
-            input.cell,
-            &mut result[0],
-            written,
-        ))
+    |input, lent| {
+        let (has, compared) = (&mut lent.result[0], &mut lent.written);
+        number(drawing::contains(&input.polygon, input.cell, has, compared))
     },
 ];
 
 /// The call that writes Well-Known Binary stores its length as written.
 const WKB: [Job; 2] = [
-    |input, _, out, length| proved::wkb(&input.polygon, out, length),
-    |input, _, out, length| number(drawing::wkb(&input.polygon, out, length)),
+    |input, lent| proved::wkb(&input.polygon, &mut lent.out, &mut lent.written),
+    |input, lent| {
+        number(drawing::wkb(
+            &input.polygon,
+            &mut lent.out,
+            &mut lent.written,
+        ))
+    },
 ];
 
 /// Where the cell is in a polygon of 16: name, `has`, `compared`.
@@ -131,11 +165,8 @@ fn input(random: &mut Random, count: usize) -> Input {
             polygon,
             cell,
         };
-        let mut result = [0; RESULT_LENGTH];
-        if JOBS
-            .iter()
-            .all(|job| job.2(&input, &mut result, &mut [], &mut 0) == 0)
-        {
+        let mut lent = Lent::new();
+        if JOBS.iter().all(|job| job.2(&input, &mut lent) == 0) {
             return input;
         }
     }
@@ -144,7 +175,7 @@ fn input(random: &mut Random, count: usize) -> Input {
 /// A polygon of 16 rectangles and a cell of which the containment test reports this.
 fn containment_input(random: &mut Random, has: u32, compared: u32) -> Input {
     let [_, plain] = CONTAINS;
-    let mut result = [0; RESULT_LENGTH];
+    let mut lent = Lent::new();
     loop {
         let polygon = (0..POLYGON_LIMIT).flat_map(|_| rectangle(random, 10, 4));
         let input = Input {
@@ -152,9 +183,8 @@ fn containment_input(random: &mut Random, has: u32, compared: u32) -> Input {
             polygon: polygon.collect(),
             cell: [0, 1].map(|_| random.between(0, 9)),
         };
-        let mut written = 0;
-        plain(&input, &mut result, &mut [], &mut written);
-        if [result[0], written] == [has, compared] {
+        plain(&input, &mut lent);
+        if [lent.result[0], lent.written] == [has, compared] {
             return input;
         }
     }
@@ -171,11 +201,10 @@ fn wkb_input(random: &mut Random, count: usize) -> Input {
 }
 
 /// What the call gives: its number, and all that it was lent to be written.
-fn outcome(input: &Input, job: Job) -> (u32, Vec<u32>, Vec<u8>, u32) {
-    let (mut result, mut out) = (vec![0; RESULT_LENGTH], vec![0; OUTPUT_LENGTH]);
-    let mut written = 0;
-    let answer = job(input, &mut result, &mut out, &mut written);
-    (answer, result, out, written)
+fn outcome(input: &Input, job: Job) -> (u32, Lent) {
+    let mut lent = Lent::new();
+    let answer = job(input, &mut lent);
+    (answer, lent)
 }
 
 /// Both calls give the same, so the comparison is about the same job.
@@ -187,13 +216,12 @@ fn check(inputs: &[Input], proved: Job, plain: Job) {
 
 /// Nanoseconds a call, over `repeats` passes through the inputs.
 fn time(inputs: &[Input], job: Job, repeats: u32) -> f64 {
-    let (mut result, mut out) = ([0; RESULT_LENGTH], [0; OUTPUT_LENGTH]);
-    let mut written = 0;
+    let mut lent = Lent::new();
     let start = Instant::now();
     for _ in 0..repeats {
         for input in inputs {
-            black_box(job(black_box(input), &mut result, &mut out, &mut written));
-            black_box((&mut result, &mut out));
+            black_box(job(black_box(input), &mut lent));
+            black_box(&mut lent);
         }
     }
     start.elapsed().as_nanos() as f64 / f64::from(repeats) / inputs.len() as f64

@@ -80,7 +80,7 @@ fn fill(n: usize, cells: &[Cell]) -> Filled {
     let mut filled = Filled::default();
     for &cell in cells {
         let held = &mut filled.last;
-        let answer = insert(&mut index, &mut work, cell, 0, held);
+        let answer = insert(&mut index, &mut work, cell, 0, held, &mut 0);
         assert!(matches!(answer, 0 | 5 | 7 | 8), "{cell:?}: {answer}");
         if matches!(answer, 7 | 8) && filled.first.is_none() {
             filled.first = Some(*held);

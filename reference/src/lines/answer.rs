@@ -1,7 +1,7 @@
 //! The index of the line program and its answers.
 
 use super::{read_command, Command};
-use crate::tree::{Index, PointAnswer, Refusal, WindowAnswer};
+use crate::tree::{Index, InsertAnswer, PointAnswer, Refusal, WindowAnswer};
 
 /// `bench` has N = 64.
 const BENCH_N: usize = 64;
@@ -29,7 +29,7 @@ impl Bench {
     pub fn answer(&mut self, line: &[u8]) -> String {
         match read_command(line) {
             None => "?\n".to_string(),
-            Some(Command::Insert { cell, tag }) => held_line('I', self.index.insert(cell, tag)),
+            Some(Command::Insert { cell, tag }) => insert_line(self.index.insert(cell, tag)),
             Some(Command::Remove { cell }) => held_line('R', self.index.remove(cell)),
             Some(Command::Point { cell }) => point_line(self.index.point(cell)),
             Some(Command::Window { window }) => {
@@ -46,7 +46,15 @@ fn refusal_line(letter: char, refusal: Refusal) -> String {
     format!("{letter} ! {}\n", refusal.number())
 }
 
-/// 'I, R and C print 0 and entries held.'
+/// 'I, R and C print 0 and entries held'; after it an accepted I prints the total of cells removed.
+fn insert_line(answer: Result<InsertAnswer, Refusal>) -> String {
+    match answer {
+        Ok(InsertAnswer { held, removed }) => format!("I 0 {held} {removed}\n"),
+        Err(refusal) => refusal_line('I', refusal),
+    }
+}
+
+/// R and C print 0 and entries held.
 fn held_line(letter: char, answer: Result<usize, Refusal>) -> String {
     match answer {
         Ok(held) => format!("{letter} 0 {held}\n"),

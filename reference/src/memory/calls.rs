@@ -160,12 +160,15 @@ impl Reading {
         cell: Cell,
         tag: u32,
         held: &mut u32,
+        removed: &mut u64,
     ) -> Result<(), Refusal> {
         if !work_fits && !matches!(self.0, Err(Refusal::WrongLength)) {
             return Err(Refusal::WorkLength);
         }
         let index = self.after_test_mut(is_cell(cell))?;
-        *held = index.insert(cell, tag)? as u32;
+        let answer = index.insert(cell, tag)?;
+        *held = answer.held as u32;
+        *removed = answer.removed;
         Ok(())
     }
 

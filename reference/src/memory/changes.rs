@@ -3,17 +3,19 @@
 use super::{image, Reading, Refusal};
 use crate::geometry::Cell;
 
-/// Puts the entry in and stores the entries held after. The work area is zeros after acceptance
-/// and after refusals 7 and 8; else a refused call changes nothing. Refusals 1 to 5, 7 and 8.
+/// Puts the entry in and stores the entries held after, and the total of cells removed by siblings.
+/// The work area is zeros after acceptance and after refusals 7 and 8; else a refused call changes
+/// nothing. Refusals 1 to 5, 7 and 8.
 pub fn insert(
     index: &mut [u32],
     work: &mut [u32],
     cell: Cell,
     tag: u32,
     held: &mut u32,
+    removed: &mut u64,
 ) -> Result<(), Refusal> {
     let mut reading = Reading::of(index);
-    let answer = reading.insert(work.len() == index.len(), cell, tag, held);
+    let answer = reading.insert(work.len() == index.len(), cell, tag, held, removed);
     match answer {
         Ok(()) => {
             write(index, &reading);

@@ -3,22 +3,40 @@
 use super::extra_area::extra_area;
 use super::polygon::{common_parts, has};
 use super::{Branch, PolygonLimit};
-use crate::geometry::{cut_list_by_polygon, refine, Cell, Rectangle, LIST_LIMIT, POLYGON_LIMIT};
+use crate::geometry::{
+    cut_list_by_polygon, refine, shared_cells, Cell, Rectangle, LIST_LIMIT, POLYGON_LIMIT,
+};
 
-/// 'Go to the branch that has the cell.' If none has it, one is grown. Returns the place of the
-/// branch, whose polygon then has the cell. `parent` is the node's own polygon, as grown in this
-/// insertion.
+/// Step 2 at one routing node.
+pub struct Step {
+    /// The place of the branch to go on in, whose polygon now has the cell.
+    pub place: usize,
+    /// 'The cells of each grown rectangle that some sibling has', of request A.6: their number,
+    /// 'and 0 where nothing grew'.
+    pub removed: u64,
+}
+
+/// 'Go to the branch that has the cell.' If none has it, one is grown. `parent` is the node's own
+/// polygon, as grown in this insertion.
 pub fn choose_branch(
     branches: &mut [Branch],
     parent: &[Rectangle],
     cell: Cell,
-) -> Result<usize, PolygonLimit> {
+) -> Result<Step, PolygonLimit> {
     if let Some(place) = branches.iter().position(|b| has(&b.polygon, cell)) {
-        return Ok(place);
+        return Ok(Step { place, removed: 0 });
     }
     let chosen = least_extra_area(branches, cell);
-    branches[chosen.branch].polygon = grown_polygon(branches, chosen, parent, cell)?;
-    Ok(chosen.branch)
+    let grown = branches[chosen.branch].polygon[chosen.rectangle].grow(cell);
+    let siblings = siblings_of(branches, chosen.branch);
+    let pieces = cut_by_siblings(grown, &siblings)?;
+    let pieces = common_parts_with_parent(&pieces, parent)?;
+    let polygon = &mut branches[chosen.branch].polygon;
+    *polygon = with_pieces(polygon, chosen.rectangle, &pieces)?;
+    Ok(Step {
+        place: chosen.branch,
+        removed: shared_cells(&[grown], &siblings),
+    })
 }
 
 /// The place of a rectangle in the polygons of a routing node's branches.
@@ -43,45 +61,24 @@ fn least_extra_area(branches: &[Branch], cell: Cell) -> Chosen {
     least.expect("a routing node has a branch").1
 }
 
-/// The chosen branch's polygon after: 'grow it; cut the grown one by every sibling's polygon in
-/// order; replace each piece by its common parts with the parent's rectangles; put the pieces
-/// where the chosen rectangle stood; refine.'
-fn grown_polygon(
-    branches: &[Branch],
-    chosen: Chosen,
-    parent: &[Rectangle],
-    cell: Cell,
-) -> Result<Vec<Rectangle>, PolygonLimit> {
-    let old = &branches[chosen.branch].polygon;
-    let grown = old[chosen.rectangle].grow(cell);
-    let pieces = cut_by_siblings(grown, branches, chosen.branch)?;
-    let pieces = common_parts_with_parent(&pieces, parent)?;
-    let before = &old[..chosen.rectangle];
-    let after = &old[chosen.rectangle + 1..];
-    let refined = refine(&[before, &pieces, after].concat());
-    if refined.len() > POLYGON_LIMIT {
-        return Err(PolygonLimit::Refined);
-    }
-    Ok(refined)
+/// The rectangles of the other branches' polygons, in order.
+fn siblings_of(branches: &[Branch], chosen: usize) -> Vec<Rectangle> {
+    let (before, after) = (&branches[..chosen], &branches[chosen + 1..]);
+    let polygons = before.iter().chain(after).map(|b| b.polygon.as_slice());
+    polygons.collect::<Vec<_>>().concat()
 }
 
-/// The limit of 256 is tested after the cut by each rectangle of each sibling.
+/// 'Cut the grown one by every sibling's polygon in order.' The limit of 256 is tested after the
+/// cut by each rectangle of each sibling.
 fn cut_by_siblings(
     grown: Rectangle,
-    branches: &[Branch],
-    chosen: usize,
+    siblings: &[Rectangle],
 ) -> Result<Vec<Rectangle>, PolygonLimit> {
-    let mut pieces = vec![grown];
-    for (place, sibling) in branches.iter().enumerate() {
-        if place != chosen {
-            pieces = cut_list_by_polygon(&pieces, &sibling.polygon)
-                .map_err(|_| PolygonLimit::AfterCut)?;
-        }
-    }
-    Ok(pieces)
+    cut_list_by_polygon(&[grown], siblings).map_err(|_| PolygonLimit::AfterCut)
 }
 
-/// Each piece in order, and for each piece the parent's rectangles in order.
+/// 'Replace each piece by its common parts with the parent's rectangles': each piece in order, and
+/// for each piece the parent's rectangles in order.
 fn common_parts_with_parent(
     pieces: &[Rectangle],
     parent: &[Rectangle],
@@ -94,4 +91,18 @@ fn common_parts_with_parent(
         return Err(PolygonLimit::AfterCommonParts);
     }
     Ok(parts)
+}
+
+/// 'Put the pieces where the chosen rectangle stood; refine.'
+fn with_pieces(
+    polygon: &[Rectangle],
+    chosen: usize,
+    pieces: &[Rectangle],
+) -> Result<Vec<Rectangle>, PolygonLimit> {
+    let (before, after) = (&polygon[..chosen], &polygon[chosen + 1..]);
+    let refined = refine(&[before, pieces, after].concat());
+    if refined.len() > POLYGON_LIMIT {
+        return Err(PolygonLimit::Refined);
+    }
+    Ok(refined)
 }

@@ -2,13 +2,21 @@
 
 use super::emptiness::{is_empty, stopping_walk};
 use super::nearest::{nearest, squared_distance, walk};
-use super::{insert, query, remove, Entry, Refusal, Tree, MOST_NODES};
+use super::{insert, query, remove, Entry, Inserted, Refusal, Tree, MOST_NODES};
 use crate::geometry::{is_cell, Cell, Rectangle};
 
 #[derive(Clone, Debug, PartialEq, Eq)]
 pub struct Index {
     n: usize,
     tree: Option<Tree>,
+}
+
+/// An accepted insertion 'passes on the total removed by siblings' beside the entries held after
+/// it.
+#[derive(Clone, Copy, Debug, PartialEq, Eq)]
+pub struct InsertAnswer {
+    pub held: usize,
+    pub removed: u64,
 }
 
 /// 'A point query answers held with tag, or not held, and the visits.'
@@ -73,18 +81,22 @@ impl Index {
         self.tree.as_ref().map_or(0, Tree::height)
     }
 
-    /// Puts the entry in; reports the entries held after the call. Refusals 3, 5, 7 and 8.
-    pub fn insert(&mut self, cell: Cell, tag: u32) -> Result<usize, Refusal> {
+    /// Puts the entry in. Refusals 3, 5, 7 and 8.
+    pub fn insert(&mut self, cell: Cell, tag: u32) -> Result<InsertAnswer, Refusal> {
         test_cell(cell)?;
         if self.holds(cell) {
             return Err(Refusal::Held);
         }
-        let after = insert(self.tree(), Entry { cell, tag }).map_err(Refusal::Polygon)?;
-        if after.nodes() > self.n {
+        let inserted = insert(self.tree(), Entry { cell, tag });
+        let Inserted { tree, removed } = inserted.map_err(Refusal::Polygon)?;
+        if tree.nodes() > self.n {
             return Err(Refusal::Nodes);
         }
-        self.tree = Some(after);
-        Ok(self.held())
+        self.tree = Some(tree);
+        Ok(InsertAnswer {
+            held: self.held(),
+            removed,
+        })
     }
 
     /// Takes the cell's entry out; reports the entries held after the call. Refusals 3 and 6.

@@ -1,23 +1,35 @@
-//! Insertion, steps 1 to 4: the tree after, from the tree before.
+//! Insertion, steps 1 to 4: the tree after, from the tree before, and request A.6's total.
 
-use super::choose::choose_branch;
+use super::choose::{choose_branch, Step};
 use super::line::line;
 use super::split::split;
 use super::{Branch, Entry, Node, PolygonLimit, Tree, F};
 use crate::geometry::Rectangle;
 
-/// The tree with the entry put in, of any number of nodes. The cell is not held before.
-pub fn insert(tree: Option<&Tree>, entry: Entry) -> Result<Tree, PolygonLimit> {
+/// What an insertion gives.
+#[derive(Clone, Debug, PartialEq, Eq)]
+pub struct Inserted {
+    /// The tree with the entry put in, of any number of nodes.
+    pub tree: Tree,
+    /// 'The total removed by siblings, summed over all levels.'
+    pub removed: u64,
+}
+
+/// Puts the entry in. The cell is not held before.
+pub fn insert(tree: Option<&Tree>, entry: Entry) -> Result<Inserted, PolygonLimit> {
     let Some(tree) = tree else {
-        return Ok(single_entry(entry));
+        return Ok(Inserted {
+            tree: single_entry(entry),
+            removed: 0,
+        });
     };
     let mut tree = tree.clone();
     tree.rectangle = tree.rectangle.grow(entry.cell);
-    insert_below(&mut tree.root, &[tree.rectangle], entry)?;
+    let removed = insert_below(&mut tree.root, &[tree.rectangle], entry)?;
     if tree.root.count() > F {
         tree.root = new_root(tree.root, tree.rectangle);
     }
-    Ok(tree)
+    Ok(Inserted { tree, removed })
 }
 
 /// Step 1: 'an empty index gets a leaf with that cell alone.'
@@ -29,21 +41,26 @@ fn single_entry(entry: Entry) -> Tree {
     }
 }
 
-/// Steps 2 and 3 on the way down, step 4 for the children on the way up.
-fn insert_below(node: &mut Node, polygon: &[Rectangle], entry: Entry) -> Result<(), PolygonLimit> {
+/// Steps 2 and 3 on the way down, step 4 for the children on the way up. Returns the cells removed
+/// here and below.
+fn insert_below(node: &mut Node, polygon: &[Rectangle], entry: Entry) -> Result<u64, PolygonLimit> {
     match node {
-        Node::Leaf(leaf) => leaf.entries.push(entry),
+        Node::Leaf(leaf) => {
+            leaf.entries.push(entry);
+            Ok(0)
+        }
         Node::Routing(routing) => {
-            let place = choose_branch(&mut routing.branches, polygon, entry.cell)?;
+            let Step { place, removed } =
+                choose_branch(&mut routing.branches, polygon, entry.cell)?;
             let branch = &mut routing.branches[place];
-            insert_below(&mut branch.child, &branch.polygon, entry)?;
+            let below = insert_below(&mut branch.child, &branch.polygon, entry)?;
             if branch.child.count() > F {
                 let halves = halves(branch);
                 routing.branches.splice(place..=place, halves);
             }
+            Ok(removed + below)
         }
     }
-    Ok(())
 }
 
 /// Step 4: a branch with nine below it, split at its line. 'The left node takes the old place, the

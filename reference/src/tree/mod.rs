@@ -1,6 +1,6 @@
 //! Document 01, 'The tree and its memory' up to 'Causes for saying no', with document 02's nearest
-//! query, emptiness query and extra area: the index as an owned tree, with the tree after a call named
-//! from the tree before. Memory and its layout are not part of it.
+//! query, emptiness query, extra area and total of cells removed: the index as an owned tree, with
+//! the tree after a call named from the tree before. Memory and its layout are not part of it.
 
 mod choose;
 mod emptiness;
@@ -18,8 +18,8 @@ mod split;
 
 pub use emptiness::{is_empty, stopping_walk, StoppingWalk};
 pub use extra_area::extra_area;
-pub use index::{EmptinessAnswer, Index, NearestAnswer, PointAnswer, WindowAnswer};
-pub use insert::insert;
+pub use index::{EmptinessAnswer, Index, InsertAnswer, NearestAnswer, PointAnswer, WindowAnswer};
+pub use insert::{insert, Inserted};
 pub use line::{leaf_line, routing_line, Line};
 pub use nearest::{least_distance, nearest, squared_distance, walk, Walk};
 pub use node::{Branch, Entry, Leaf, Node, Routing, Tree};

@@ -4,7 +4,7 @@ use super::asked::{number, Asked, Proved, Second};
 use super::emptiness::EmptinessOutput;
 use super::guard::{fill, guarded, GUARD};
 use super::nearest::NearestOutput;
-use super::outcome::{ClearOutput, HeldOutput, PointOutput, WindowOutput};
+use super::outcome::{ClearOutput, InsertOutput, PointOutput, RemoveOutput, WindowOutput};
 use super::work::Work;
 use reference::geometry::Cell;
 use reference::memory::{self, read_back, Reading};
@@ -125,44 +125,49 @@ impl Lent {
         cell: Cell,
         tag: u32,
         place: Arguments,
-    ) -> HeldOutput {
-        let (mut second, mut proved) = (HeldOutput::before(), HeldOutput::before());
+    ) -> InsertOutput {
         let fits = work.length() == self.index().len();
-        second.answer = number(reading.insert(fits, cell, tag, &mut second.held));
+        let second = InsertOutput::of(|held, removed| {
+            number(reading.insert(fits, cell, tag, held, removed))
+        });
         let range = self.range();
-        let (index, held) = (&mut self.numbers[range], &mut proved.held);
-        proved.answer = proved_index::insert(index, work.lend(), cell, tag, held);
+        let index = &mut self.numbers[range];
+        let proved = InsertOutput::of(|held, removed| {
+            proved_index::insert(index, work.lend(), cell, tag, held, removed)
+        });
         let call = format_args!(
             "{place}: insert {cell:?} {tag}, work area of {}",
             work.length()
         );
-        self.check_change(reading, &second, &proved, call);
+        second.check_untouched(call);
+        self.check_change(reading, second.answer, &second, &proved, call);
         work.check(proved.answer, call);
         proved
     }
 
     /// Takes the entry out where the call accepts; the reading follows.
-    pub fn remove(&mut self, reading: &mut Reading, cell: Cell, place: Arguments) -> HeldOutput {
-        let (mut second, mut proved) = (HeldOutput::before(), HeldOutput::before());
-        second.answer = number(reading.remove(cell, &mut second.held));
+    pub fn remove(&mut self, reading: &mut Reading, cell: Cell, place: Arguments) -> RemoveOutput {
+        let second = RemoveOutput::of(|held| number(reading.remove(cell, held)));
         let range = self.range();
-        proved.answer = proved_index::remove(&mut self.numbers[range], cell, &mut proved.held);
+        let index = &mut self.numbers[range];
+        let proved = RemoveOutput::of(|held| proved_index::remove(index, cell, held));
         let call = format_args!("{place}: remove {cell:?}");
-        self.check_change(reading, &second, &proved, call);
+        second.check_untouched(call);
+        self.check_change(reading, second.answer, &second, &proved, call);
         proved
     }
 
     /// After acceptance the index reads back as the second implementation's tree, and nothing next
     /// to it was changed; else all is as it was. `reading` is the second implementation's after.
-    fn check_change(
+    fn check_change<T: Debug + PartialEq>(
         &mut self,
         reading: &Reading,
-        second: &HeldOutput,
-        proved: &HeldOutput,
+        answer: u32,
+        second: &T,
+        proved: &T,
         call: Arguments,
     ) {
-        second.check_untouched(call);
-        if second.answer != 0 || second != proved {
+        if answer != 0 || second != proved {
             self.check(second, proved, call);
             return;
         }

@@ -22,6 +22,7 @@ pub mod orders;
 pub mod outcome;
 pub mod queries;
 pub mod ragged;
+pub mod removed;
 pub mod same_points;
 pub mod session;
 pub mod small;

@@ -7,6 +7,9 @@ use std::fmt::Arguments;
 /// What stands in a lent number before the call.
 const BEFORE: [u32; 3] = [0xaaaa_0001, 0xbbbb_0002, 0xcccc_0003];
 
+/// The same in the 64 bits of an insertion's total, which is far below it.
+const REMOVED_BEFORE: u64 = 0xdddd_0004_eeee_0005;
+
 #[derive(Clone, Debug, PartialEq, Eq)]
 pub struct ClearOutput {
     pub answer: u32,
@@ -33,19 +36,49 @@ impl ClearOutput {
     }
 }
 
-/// What an insertion or a removal returns and stores.
+/// What an insertion returns and stores.
 #[derive(Clone, Copy, Debug, PartialEq, Eq)]
-pub struct HeldOutput {
+pub struct InsertOutput {
+    pub answer: u32,
+    pub held: u32,
+    pub removed: u64,
+}
+
+impl InsertOutput {
+    /// What the insertion leaves behind that gets held and removed and returns the answer.
+    pub fn of(insert: impl FnOnce(&mut u32, &mut u64) -> u32) -> InsertOutput {
+        let mut output = InsertOutput {
+            answer: 0,
+            held: BEFORE[0],
+            removed: REMOVED_BEFORE,
+        };
+        output.answer = insert(&mut output.held, &mut output.removed);
+        output
+    }
+
+    /// An acceptance stores both numbers, a refusal none.
+    pub fn check_untouched(&self, call: Arguments) {
+        let are_stored = [self.held != BEFORE[0], self.removed != REMOVED_BEFORE];
+        assert_eq!(are_stored, [self.answer == 0; 2], "{call}: {self:?}");
+    }
+}
+
+/// What a removal returns and stores.
+#[derive(Clone, Copy, Debug, PartialEq, Eq)]
+pub struct RemoveOutput {
     pub answer: u32,
     pub held: u32,
 }
 
-impl HeldOutput {
-    pub fn before() -> HeldOutput {
-        HeldOutput {
+impl RemoveOutput {
+    /// What the removal leaves behind that gets held and returns the answer.
+    pub fn of(remove: impl FnOnce(&mut u32) -> u32) -> RemoveOutput {
+        let mut output = RemoveOutput {
             answer: 0,
             held: BEFORE[0],
-        }
+        };
+        output.answer = remove(&mut output.held);
+        output
     }
 
     /// A refusal stores nothing.

@@ -25,6 +25,8 @@ pub struct Session {
     reading: Reading,
     work: Work,
     record: Vec<Entry>,
+    /// The cells removed that the last accepted insertion reported.
+    removed: u64,
     pub tally: Tally,
     label: String,
     commands: usize,
@@ -46,6 +48,7 @@ impl Session {
         Session {
             reading,
             record,
+            removed: 0,
             work: Work::new(image.len(), dirt),
             lent,
             tally: Tally::default(),
@@ -117,6 +120,11 @@ impl Session {
         assert_eq!(given, answer, "{label}, command {number}: {command:?}");
     }
 
+    /// The cells removed that the last accepted insertion reported.
+    pub fn removed(&self) -> u64 {
+        self.removed
+    }
+
     /// Counts an insertion that is to be made, where step 2 by area alone would decide it otherwise.
     pub fn count_choice(&mut self, cell: Cell) {
         let is_held = self.record.iter().any(|e| e.cell == cell);
@@ -142,6 +150,10 @@ impl Session {
         if output.answer == 0 {
             self.record.push(entry);
             self.check_held(output.held, place);
+            self.removed = output.removed;
+            if output.removed > 0 {
+                self.tally.count("insert, cells removed");
+            }
         }
         self.tally
             .count(insert_kind(output.answer, before, self.size()));

@@ -79,6 +79,7 @@ pub struct Output {
     /// 0, or the number of the refusal.
     pub answer: u32,
     pub written: u32,
+    pub removed: u64,
     pub extra: u64,
     pub has: u32,
     pub compared: u32,
@@ -121,6 +122,7 @@ impl Case {
         Output {
             answer: 0,
             written: random.number() as u32,
+            removed: random.number(),
             extra: random.number(),
             has: random.number() as u32,
             compared: random.number() as u32,
@@ -154,7 +156,10 @@ impl Case {
             Call::Grow => drawing::grow(&self.list, self.cell, result, written),
             Call::ExtraArea => drawing::extra_area(self.rectangle, self.cell, &mut output.extra),
             Call::Cut => drawing::cut(&self.list, self.rectangle, result, written),
-            Call::CutPolygon => drawing::cut_polygon(&self.list, &self.polygon, result, written),
+            Call::CutPolygon => {
+                let (list, polygon, removed) = (&self.list, &self.polygon, &mut output.removed);
+                drawing::cut_polygon(list, polygon, result, written, removed)
+            }
             Call::Refine => drawing::refine(&self.list, result, written),
             Call::Contains => {
                 let (has, compared) = (&mut output.has, &mut output.compared);
@@ -177,7 +182,10 @@ impl Case {
             Call::Grow => proved::grow(&self.list, self.cell, result, written),
             Call::ExtraArea => proved::extra_area(self.rectangle, self.cell, &mut output.extra),
             Call::Cut => proved::cut(&self.list, self.rectangle, result, written),
-            Call::CutPolygon => proved::cut_polygon(&self.list, &self.polygon, result, written),
+            Call::CutPolygon => {
+                let (list, polygon, removed) = (&self.list, &self.polygon, &mut output.removed);
+                proved::cut_polygon(list, polygon, result, written, removed)
+            }
             Call::Refine => proved::refine(&self.list, result, written),
             Call::Contains => {
                 let (has, compared) = (&mut output.has, &mut output.compared);
@@ -222,6 +230,9 @@ impl Case {
         } else {
             let end = GUARD + 4 * output.written as usize;
             expected.written = output.written;
+            if self.call == Call::CutPolygon {
+                expected.removed = output.removed;
+            }
             expected.numbers[GUARD..end].copy_from_slice(&output.numbers[GUARD..end]);
         }
         assert_eq!(*output, expected, "{place}: written to\n{}", inputs(self));

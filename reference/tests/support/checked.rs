@@ -7,7 +7,7 @@ use super::tally::Tally;
 use super::trace::{differs_by_area, trace, Sizes, Trace};
 use super::GRID_END;
 use reference::geometry::{Cell, Rectangle};
-use reference::tree::{Entry, Index, Refusal, Tree};
+use reference::tree::{Entry, Index, InsertAnswer, Refusal, Tree};
 
 /// A call of the index.
 #[derive(Clone, Copy, Debug, PartialEq, Eq)]
@@ -125,10 +125,10 @@ impl Checked {
         } else if let Some(tree) = before.tree() {
             self.check_insert(tree, entry, answer, &place);
         } else {
-            assert!(answer.is_ok(), "{place}: {answer:?}");
+            assert_eq!(answer.map(|a| a.removed), Ok(0), "{place}");
             self.tally.count("I accepted, index was empty");
         }
-        let held_after = answer?;
+        let held_after = answer?.held;
         self.record.push(entry);
         assert_eq!(held_after, self.record.len(), "{place}: entries held");
         Ok(())
@@ -140,7 +140,7 @@ impl Checked {
         &mut self,
         tree: &Tree,
         entry: Entry,
-        answer: Result<usize, Refusal>,
+        answer: Result<InsertAnswer, Refusal>,
         place: &str,
     ) {
         let trace = trace(tree, entry);
@@ -156,17 +156,19 @@ impl Checked {
             .filter(|refusal| matches!(refusal, Refusal::Polygon(_)));
         assert_eq!(passed, expected, "{place}: limits of step 2");
         match answer {
-            Ok(_) => self.check_accepted(tree, &trace, place),
+            Ok(answer) => self.check_accepted(tree, &trace, answer, place),
             Err(Refusal::Nodes) => self.check_too_many_nodes(&trace, place),
             Err(Refusal::Polygon(_)) => {}
             Err(refusal) => panic!("{place}: {refusal:?}"),
         }
     }
 
-    /// The tree after is the one that the tests' own steps give.
-    fn check_accepted(&mut self, before: &Tree, trace: &Trace, place: &str) {
+    /// The tree after and the total are those that the tests' own steps give.
+    fn check_accepted(&mut self, before: &Tree, trace: &Trace, answer: InsertAnswer, place: &str) {
         let after = self.index.tree().expect("a tree");
         assert!(*after == settle(&trace.unsplit), "{place}: tree after");
+        let removed = trace.removed.iter().sum();
+        assert_eq!(answer.removed, removed, "{place}: cells removed");
         self.largest = self.largest.max(trace.sizes);
         for kind in accepted_kinds(before, after, trace) {
             self.tally.count(kind);

@@ -23,6 +23,12 @@ pub fn accepted_kinds(before: &Tree, after: &Tree, trace: &Trace) -> Vec<&'stati
         1 => "I accepted, a branch grown at one level",
         _ => "I accepted, branches grown at two or more levels",
     }];
+    let removing = trace.removed.iter().filter(|&&cells| cells > 0);
+    match removing.count() {
+        0 => {}
+        1 => kinds.push("I accepted, cells removed at one level"),
+        _ => kinds.push("I accepted, cells removed at two or more levels"),
+    }
     if new_leaves > 0 {
         kinds.push("I accepted, leaf split");
     }

@@ -18,8 +18,8 @@ P 20 12
 ";
 
 pub const SAMPLE_OUTPUT: &str = "\
-I 0 1
-I 0 2
+I 0 1 0
+I 0 2 0
 P 1 1 9
 P 0 1
 I ! 5

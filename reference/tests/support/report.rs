@@ -24,6 +24,7 @@ fn stored(output: &Output) -> String {
     let Output {
         answer,
         written,
+        removed,
         extra,
         has,
         compared,
@@ -31,8 +32,8 @@ fn stored(output: &Output) -> String {
         ..
     } = output;
     format!(
-        "answer {answer}, written {written}, extra {extra}, has {has}, compared {compared}, \
-         length {length}"
+        "answer {answer}, written {written}, removed {removed}, extra {extra}, has {has}, \
+         compared {compared}, length {length}"
     )
 }
 

@@ -10,7 +10,7 @@ type Row = (&'static str, &'static str);
 
 /// Fields of every length and size, in one session.
 pub const FIELDS: [Row; 15] = [
-    ("I 0000000001 0000065535 4294967295", "I 0 1"),
+    ("I 0000000001 0000065535 4294967295", "I 0 1 0"),
     ("P 1 65535", "P 1 1 4294967295"),
     ("P 00001 065535", "P 1 1 4294967295"),
     ("I 4294967295 0 1", "I ! 3"),
@@ -24,8 +24,8 @@ pub const FIELDS: [Row; 15] = [
     ("S 0 0 4294967295 4294967295", "S ! 3"),
     ("I 1 2 4294967296", "?"),
     ("I 00000000001 2 3", "?"),
-    ("I 1 2 0", "I 0 2"),
-    ("I 2 1 00", "I 0 3"),
+    ("I 1 2 0", "I 0 2 0"),
+    ("I 2 1 00", "I 0 3 0"),
     ("P 2 1", "P 1 1 0"),
     ("R 0000000001 65535", "R 0 2"),
 ];
@@ -45,7 +45,7 @@ pub const REFUSALS: [Row; 23] = [
     ("S 5 5 4 6", "S ! 3"),
     ("S 0 0 65537 1", "S ! 3"),
     ("S 0 0 1 65537", "S ! 3"),
-    ("I 3 4 5", "I 0 1"),
+    ("I 3 4 5", "I 0 1 0"),
     ("I 3 4 6", "I ! 5"),
     ("R 4 3", "R ! 6"),
     ("S 3 4 3 5", "S ! 3"),
@@ -57,20 +57,21 @@ pub const REFUSALS: [Row; 23] = [
     ("R 3 4", "R 0 0"),
 ];
 
-/// The worked stream of document 02's request A.2. Step 2 by area alone would have two visits of (0, 6).
+/// The worked stream of document 02's requests A.2 and A.6. Step 2 by area alone would have two
+/// visits of (0, 6), and no cell would be removed for (0, 3).
 pub const CELLS_GAINED: [Row; 15] = [
-    ("I 3 5 1", "I 0 1"),
-    ("I 6 3 1", "I 0 2"),
-    ("I 2 4 1", "I 0 3"),
-    ("I 2 6 1", "I 0 4"),
-    ("I 2 3 1", "I 0 5"),
-    ("I 5 4 1", "I 0 6"),
-    ("I 6 5 1", "I 0 7"),
-    ("I 4 4 1", "I 0 8"),
-    ("I 5 5 1", "I 0 9"),
-    ("I 1 1 1", "I 0 10"),
-    ("I 4 1 1", "I 0 11"),
-    ("I 0 3 1", "I 0 12"),
+    ("I 3 5 1", "I 0 1 0"),
+    ("I 6 3 1", "I 0 2 0"),
+    ("I 2 4 1", "I 0 3 0"),
+    ("I 2 6 1", "I 0 4 0"),
+    ("I 2 3 1", "I 0 5 0"),
+    ("I 5 4 1", "I 0 6 0"),
+    ("I 6 5 1", "I 0 7 0"),
+    ("I 4 4 1", "I 0 8 0"),
+    ("I 5 5 1", "I 0 9 0"),
+    ("I 1 1 1", "I 0 10 0"),
+    ("I 4 1 1", "I 0 11 4"),
+    ("I 0 3 1", "I 0 12 1"),
     ("P 0 6", "P 0 1"),
     ("P 0 1", "P 0 2"),
     (
@@ -89,6 +90,54 @@ pub const CELLS_GAINED: [Row; 15] = [
          E 4 4 1\n\
          E 5 5 1",
     ),
+];
+
+/// G10: the ninth cell splits the leaf, and the next two make leaves grow past no sibling.
+pub const G10: [Row; 12] = [
+    ("I 0 5 0", "I 0 1 0"),
+    ("I 1 5 1", "I 0 2 0"),
+    ("I 2 5 2", "I 0 3 0"),
+    ("I 3 5 3", "I 0 4 0"),
+    ("I 4 5 4", "I 0 5 0"),
+    ("I 5 5 5", "I 0 6 0"),
+    ("I 6 5 6", "I 0 7 0"),
+    ("I 7 5 7", "I 0 8 0"),
+    ("I 8 5 8", "I 0 9 0"),
+    ("I 9 9 1", "I 0 10 0"),
+    ("I 3 6 1", "I 0 11 0"),
+    (
+        "S 0 0 65536 65536",
+        "S 11 3\n\
+         E 0 5 0\n\
+         E 1 5 1\n\
+         E 2 5 2\n\
+         E 3 5 3\n\
+         E 4 5 4\n\
+         E 3 6 1\n\
+         E 5 5 5\n\
+         E 6 5 6\n\
+         E 7 5 7\n\
+         E 8 5 8\n\
+         E 9 9 1",
+    ),
+];
+
+/// A total of ten digits. The leaf is split in y, at 3855; the upper half grows to
+/// (0,3855)-(65536,34693). Then the lower one, which is half as wide, grows up to the grid's last
+/// row, past all 30838 rows of the upper one.
+pub const MANY_CELLS: [Row; 12] = [
+    ("I 0 0 1", "I 0 1 0"),
+    ("I 32767 0 2", "I 0 2 0"),
+    ("I 16380 0 3", "I 0 3 0"),
+    ("I 16381 0 4", "I 0 4 0"),
+    ("I 16382 0 5", "I 0 5 0"),
+    ("I 16383 0 6", "I 0 6 0"),
+    ("I 16384 0 7", "I 0 7 0"),
+    ("I 16385 0 8", "I 0 8 0"),
+    ("I 16386 34692 9", "I 0 9 0"),
+    ("I 65535 34692 10", "I 0 10 0"),
+    ("I 0 65535 11", "I 0 11 1010499584"),
+    ("I 0 65535 12", "I ! 5"),
 ];
 
 /// The rows one after another.
@@ -135,7 +184,7 @@ pub fn check_other_lines(print: impl Fn(&[u8], &[usize]) -> String) {
         let answer = if line.is_empty() { "" } else { "?\n" };
         assert_eq!(print(&last, &WHOLE), format!("C 0 0\n{answer}"), "{text}");
         among.extend([b"I 5 6 7\n", line, b"\nP 5 6\nC\n"].concat());
-        expected += "I 0 1\n?\nP 1 1 7\nC 0 0\n";
+        expected += "I 0 1 0\n?\nP 1 1 7\nC 0 0\n";
     }
     assert_eq!(print(&among, &WHOLE), expected);
 }
@@ -154,13 +203,13 @@ pub fn check_long_lines(print: impl Fn(&[u8], &[usize]) -> String) {
             for sizes in [&WHOLE[..], &[1000, 1, 80]] {
                 let label = format!("{length} bytes of {byte}, parts of {sizes:?}");
                 let output = print(&input, sizes);
-                assert_eq!(output, "I 0 1\n?\nP 1 1 3\n?\n", "{label}");
+                assert_eq!(output, "I 0 1 0\n?\nP 1 1 3\n?\n", "{label}");
             }
         }
     }
     // A command followed by too much is no command, also where a line of 80 bytes ends with one.
     let padded = format!("{:0>80}\nC{:>90}\nI 1 2 3\n", "C", "");
-    assert_eq!(print(padded.as_bytes(), &WHOLE), "?\n?\nI 0 1\n");
+    assert_eq!(print(padded.as_bytes(), &WHOLE), "?\n?\nI 0 1 0\n");
     let zeros = format!("{:\0<81}", "I 1 2 3");
     assert_eq!(print(zeros.as_bytes(), &WHOLE), "?\n");
 }

@@ -26,6 +26,12 @@ impl Tally {
                 _ => {}
             }
         }
+        if output.answer == 0 && case.call == Call::CutPolygon {
+            self.count(removed_kind(output.removed));
+            if removed_areas(case, output) != i128::from(output.removed) {
+                self.count(REMOVED[3]);
+            }
+        }
     }
 
     /// The counts of one case of that kind.
@@ -130,6 +136,31 @@ fn accepted_kind(case: &Case, output: &Output) -> &'static str {
         Call::Cut | Call::CutPolygon => cut_kind(case.list.len(), output.list().len()),
         Call::Refine => refine_kind(case, output),
     }
+}
+
+/// The kinds of a count of removed cells.
+pub const REMOVED: [&str; 4] = [
+    "no cell removed",
+    "cells removed",
+    "2^31 cells removed or more",
+    "removed, not the difference of the areas",
+];
+
+fn removed_kind(removed: u64) -> &'static str {
+    match removed {
+        0 => REMOVED[0],
+        1..=0x7fff_ffff => REMOVED[1],
+        _ => REMOVED[2],
+    }
+}
+
+/// The areas of the list's rectangles minus those of the rectangles written. It is not the number
+/// of cells removed where rectangles overlap.
+fn removed_areas(case: &Case, output: &Output) -> i128 {
+    let sides = |r: &[u32]| [r[2] - r[0], r[3] - r[1]].map(i128::from);
+    let area = |r: &[u32]| sides(r).iter().product::<i128>();
+    let areas = |list: &[u32]| list.chunks(4).map(area).sum::<i128>();
+    areas(&case.list) - areas(output.list())
 }
 
 fn cut_kind(before: usize, after: usize) -> &'static str {

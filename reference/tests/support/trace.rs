@@ -41,6 +41,8 @@ pub struct Trace {
     /// The tree after steps 1 to 3: a leaf may have nine entries. Not complete where a limit was
     /// passed.
     pub unsplit: Tree,
+    /// The cells that siblings removed at each level where a rectangle grew, from the root down.
+    pub removed: Vec<u64>,
 }
 
 /// Follows the insertion of an entry whose cell is not held.
@@ -63,6 +65,7 @@ pub fn trace_by(rule: Rule, tree: &Tree, entry: Entry) -> Trace {
     unsplit.rectangle = unsplit.rectangle.grow(entry.cell);
     let mut polygon = vec![unsplit.rectangle];
     let mut sizes = Sizes::default();
+    let mut removed = Vec::new();
     let mut limit = None;
     let mut node = &mut unsplit.root;
     loop {
@@ -73,15 +76,16 @@ pub fn trace_by(rule: Rule, tree: &Tree, entry: Entry) -> Trace {
             }
             Node::Routing(routing) => {
                 let level = follow(rule, &routing.branches, &polygon, entry, &mut sizes);
-                let (place, grown) = match level {
+                let level = match level {
                     Ok(level) => level,
                     Err(passed) => {
                         limit = Some(passed);
                         break;
                     }
                 };
-                let branch = &mut routing.branches[place];
-                branch.polygon = grown;
+                let branch = &mut routing.branches[level.place];
+                branch.polygon = level.polygon;
+                removed.extend(level.removed);
                 polygon = branch.polygon.clone();
                 node = &mut branch.child;
             }
@@ -91,20 +95,33 @@ pub fn trace_by(rule: Rule, tree: &Tree, entry: Entry) -> Trace {
         sizes,
         limit,
         unsplit,
+        removed,
     }
 }
 
-/// One level: the branch's place and its polygon after.
+/// What one level does.
+struct Level {
+    place: usize,
+    /// The branch's polygon after.
+    polygon: Vec<Rectangle>,
+    /// The cells that siblings removed; none where nothing grew.
+    removed: Option<u64>,
+}
+
 fn follow(
     rule: Rule,
     branches: &[Branch],
     parent: &[Rectangle],
     entry: Entry,
     sizes: &mut Sizes,
-) -> Result<(usize, Vec<Rectangle>), PolygonLimit> {
+) -> Result<Level, PolygonLimit> {
     for (place, branch) in branches.iter().enumerate() {
         if polygon_has(&branch.polygon, entry.cell) {
-            return Ok((place, branch.polygon.clone()));
+            return Ok(Level {
+                place,
+                polygon: branch.polygon.clone(),
+                removed: None,
+            });
         }
     }
     sizes.levels += 1;
@@ -121,6 +138,8 @@ fn follow(
         sizes.after_cut = sizes.after_cut.max(pieces.len());
         within(pieces.len(), LIST_LIMIT, PolygonLimit::AfterCut)?;
     }
+    // The pieces of one rectangle share no cell.
+    let left: u64 = pieces.iter().map(|piece| piece.area()).sum();
     let parts: Vec<Rectangle> = pieces
         .iter()
         .flat_map(|piece| parent.iter().filter_map(|&p| piece.common_part(p)))
@@ -131,7 +150,11 @@ fn follow(
     let refined = refine(&list);
     sizes.refined = sizes.refined.max(refined.len());
     within(refined.len(), POLYGON_LIMIT, PolygonLimit::Refined)?;
-    Ok((place, refined))
+    Ok(Level {
+        place,
+        polygon: refined,
+        removed: Some(grown.area() - left),
+    })
 }
 
 /// The branch and the rectangle of least extra area: the smallest of (extra area, branch,

@@ -77,10 +77,12 @@ pub struct Input {
     pub list: Vec<u32>,
     /// A list for window queries of which the matches alone count.
     pub unread: Vec<u32>,
-    /// What the last call stored; a nearest query also stores a cell and a distance.
+    /// What the last call stored; a nearest query also stores a cell and a distance, an insertion
+    /// the cells removed.
     pub stored: [u32; 3],
     pub near: Cell,
     pub distance: u64,
+    pub removed: u64,
     /// The entries held, as a plain list.
     pub entries: Vec<Entry>,
     /// Held cells.
@@ -127,6 +129,7 @@ impl Input {
             stored: [0; 3],
             near: [0, 0],
             distance: 0,
+            removed: 0,
             asked,
             empty_windows: empty_windows(index, points, &mut copy),
             index: memory,

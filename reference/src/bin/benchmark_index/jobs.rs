@@ -229,13 +229,15 @@ fn has_no_match(input: &mut Input, window: [u32; 4]) -> u32 {
 }
 
 fn proved_insert(input: &mut Input, cell: Cell) -> u32 {
-    let (index, work, held) = (&mut input.changed, &mut input.work, &mut input.stored[0]);
-    proved_index::insert(index, work, cell, TAG, held)
+    let (index, work) = (&mut input.changed, &mut input.work);
+    let (held, removed) = (&mut input.stored[0], &mut input.removed);
+    proved_index::insert(index, work, cell, TAG, held, removed)
 }
 
 fn second_insert(input: &mut Input, cell: Cell) -> u32 {
-    let (index, work, held) = (&mut input.changed, &mut input.work, &mut input.stored[0]);
-    number(memory::insert(index, work, cell, TAG, held))
+    let (index, work) = (&mut input.changed, &mut input.work);
+    let (held, removed) = (&mut input.stored[0], &mut input.removed);
+    number(memory::insert(index, work, cell, TAG, held, removed))
 }
 
 fn proved_remove(input: &mut Input, i: usize) -> u32 {

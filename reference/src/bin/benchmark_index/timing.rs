@@ -24,7 +24,7 @@ pub fn check(input: &mut Input, job: &Job) {
             let is_expected = answer == 0 || job.may_refuse && answer == 8;
             assert!(is_expected, "{}: answer {answer}", job.name);
             let tree = read_back(&input.changed).expect("the layout is kept");
-            let stored = (input.stored, input.near, input.distance);
+            let stored = (input.stored, input.near, input.distance, input.removed);
             (answer, stored, input.list.clone(), tree)
         });
         assert!(given == expected, "{}: the calls differ", job.name);

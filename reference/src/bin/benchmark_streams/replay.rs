@@ -18,7 +18,7 @@ pub struct Timed {
 /// The call's answer.
 fn call(command: Command, index: &mut [u32], work: &mut [u32]) -> u32 {
     match command {
-        Command::Insert(cell) => insert(index, work, cell, 7, &mut 0),
+        Command::Insert(cell) => insert(index, work, cell, 7, &mut 0, &mut 0),
         Command::Remove(cell) => remove(index, cell, &mut 0),
     }
 }

@@ -1,5 +1,5 @@
 -- `text::put_number` meets its contract.
-use Rattle.commands.proofs.TextLaws.{room-number}
+use Rattle.commands.proofs.TextLaws.{room-number, put-number}
 use borrow.Author.Needs.{needs}
 use Rattle.commands.proofs.text.put_number.Statement.{statement}
 use Rattle.commands.proofs.text.put_number.Tie as tie
@@ -11,7 +11,7 @@ same-length : tie.Need-same-length
 same-length c = search needs
 
 returns : tie.Need-returns
-returns c = search needs
+returns c = search put-number
 
 pub put-number-spec : {M : Type 1} → statement M
 put-number-spec = tie.close (tie.spec put-digits-requires same-length returns)

@@ -24,7 +24,13 @@ split-count-requires c κs = search (ready-path, build-ready, not-false)
 build-in-place-requires : tie.Need-build-in-place-requires
 build-in-place-requires c κs =
     let then = c .before .before in
-    (search needs, (search (build-ready, not-false), none-split _ _ _ _ (then .before .split-count .ensures) (then .if2 .taken)))
+    let found = then .before .before .before .before in
+    let path = found .before .before .before .before in
+    let start = path .before .before .before .before .before .before in
+    let reached = not-false (path .find-path .result .reached) (found .if1 .left) in
+    let ready = build-ready _ _ _ _ (start .pre .0) _ (path .find-path .result .reached) (path .find-path .ensures .0) reached in
+    let none = none-split _ _ _ _ (then .before .split-count .ensures) (then .if2 .taken) in
+    (start .pre .0, (ready, (none, path .find-path .ensures .1 .0 .is reached)))
 
 same-length-3 : tie.Need-same-length-3
 same-length-3 c = search needs
@@ -54,17 +60,26 @@ returns-3 : tie.Need-returns-3
 returns-3 c = search (build-early, build-ready, not-false)
 
 plan-requires : tie.Need-plan-requires
-plan-requires c κs = (search (ready-plannable, build-ready, not-false), search needs)
+plan-requires c κs =
+    let counted = c .before .before .before .before .before .before .before .before in
+    let found = counted .before .before .before in
+    let path = found .before .before .before .before in
+    let start = path .before .before .before .before .before .before in
+    let reached = not-false (path .find-path .result .reached) (found .if1 .left) in
+    let ready = build-ready _ _ _ _ (start .pre .0) _ (path .find-path .result .reached) (path .find-path .ensures .0) reached in
+    (ready-plannable _ _ _ _ (start .pre .0) _ ready, search needs)
 
 build-anew-requires : tie.Need-build-anew-requires
 build-anew-requires c κs =
     let planned = c .before .before .before .before .before in
     let counted = planned .before .before .before .before .before .before .before .before .before in
     let found = counted .before .before .before in
-    let start = found .before .before .before .before .before .before .before .before .before in
-    let path = found .before .before .before .find-path in
-    let ready = build-ready _ _ _ _ (start .pre .0) _ (path .result) (path .ensures .0) (not-false (path .result) (found .if1 .left)) in
-    (search needs, (build-planned _ _ _ _ (start .pre .0) _ ready _ (counted .split-count .ensures) _ (planned .plan .ensures), search needs))
+    let path = found .before .before .before .before in
+    let start = path .before .before .before .before .before .before in
+    let reached = not-false (path .find-path .result .reached) (found .if1 .left) in
+    let ready = build-ready _ _ _ _ (start .pre .0) _ (path .find-path .result .reached) (path .find-path .ensures .0) reached in
+    let plan = build-planned _ _ _ _ (start .pre .0) _ ready _ (counted .split-count .ensures) _ (planned .plan .ensures) in
+    (start .pre .0, (plan, (search needs, path .find-path .ensures .1 .0 .is reached)))
 
 same-length-7 : tie.Need-same-length-7
 same-length-7 c = search needs

@@ -23,17 +23,17 @@ emit-tree-requires : tie.Need-emit-tree-requires
 emit-tree-requires c κs =
     let left = c .before .before .before .before in
     let start = left .before .before .before .before .before .before .before .before in
-    (search build-path, search build-level, emit-room _ _ _ _ (start .pre .0) _ (start .pre .1 .0) _ _ (left .before .count-tree .ensures) _ (left .before .before .before .part-count .ensures) (left .if1 .left) _ (start .pre .1 .1))
+    (search build-path, search build-level, emit-room _ _ _ _ (start .pre .0) _ (start .pre .1 .0) _ _ (left .before .count-tree .ensures) _ (left .before .before .before .part-count .ensures) (left .if1 .left) _ (start .pre .1 .1 .0))
 
 put-tree-requires : tie.Need-put-tree-requires
 put-tree-requires c κs =
     let emitted = c .before .before .before .before in
     let left = emitted .before .before .before .before .before in
     let start = left .before .before .before .before .before .before .before .before in
-    (search put-some, search put-few, put-fit _ _ _ _ (start .pre .0) _ (start .pre .1 .0) _ _ (left .before .count-tree .ensures) _ (left .before .before .before .part-count .ensures) (left .if1 .left) _ (start .pre .1 .1) _ _ (emitted .emit-tree .ensures), put-long _ _ _ _ (start .pre .0) _ (start .pre .1 .0) _ _ (left .before .count-tree .ensures) _ (left .before .before .before .part-count .ensures) (left .if1 .left) _ (start .pre .1 .1) _ _ (emitted .emit-tree .ensures))
+    (search put-some, search put-few, put-fit _ _ _ _ (start .pre .0) _ (start .pre .1 .0) _ _ (left .before .count-tree .ensures) _ (left .before .before .before .part-count .ensures) (left .if1 .left) _ (start .pre .1 .1 .0) _ _ (emitted .emit-tree .ensures), put-long _ _ _ _ (start .pre .0) _ (start .pre .1 .0) _ _ (left .before .count-tree .ensures) _ (left .before .before .before .part-count .ensures) (left .if1 .left) _ (start .pre .1 .1 .0) _ _ (emitted .emit-tree .ensures))
 
-add-t13 : tie.Need-add-t13
-add-t13 c = search held-fits
+add-t14 : tie.Need-add-t14
+add-t14 c = search held-fits
 
 same-length-2 : tie.Need-same-length-2
 same-length-2 c = search needs
@@ -55,7 +55,7 @@ build-anew-spec =
     entries-below-requires
     emit-tree-requires
     put-tree-requires
-    add-t13
+    add-t14
     same-length-2
     same-length-3
     returns-2)

@@ -10,8 +10,8 @@ entries-below-requires c κs = search build-walk
 grow-path-requires : tie.Need-grow-path-requires
 grow-path-requires c κs = search build-growing
 
-add-t13 : tie.Need-add-t13
-add-t13 c = search held-fits
+add-t14 : tie.Need-add-t14
+add-t14 c = search held-fits
 
 same-length : tie.Need-same-length
 same-length c = search needs
@@ -21,4 +21,4 @@ returns c = search build-grown
 
 pub build-in-place-spec : {M : Type 1} → statement M
 build-in-place-spec =
-    tie.close (tie.spec entries-below-requires grow-path-requires add-t13 same-length returns)
+    tie.close (tie.spec entries-below-requires grow-path-requires add-t14 same-length returns)

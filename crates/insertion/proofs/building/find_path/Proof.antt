@@ -1,5 +1,5 @@
 -- `building::find_path` meets its contract; the laws that it needs are in RootLaws.
-use Rattle.insertion.proofs.RootLaws.{root-in, cell-x, cell-y, find-start, find-found, find-length}
+use Rattle.insertion.proofs.RootLaws.{root-in, cell-x, cell-y, find-start, start-room, find-removed, find-found, find-length}
 use borrow.Author.Needs.{needs}
 use Rattle.insertion.proofs.building.find_path.Statement.{statement}
 use Rattle.insertion.proofs.building.find_path.Tie as tie
@@ -17,13 +17,13 @@ put-level-requires : tie.Need-put-level-requires
 put-level-requires c κs = search needs
 
 descend-requires : tie.Need-descend-requires
-descend-requires c κs = search find-start
+descend-requires c κs = (search find-start, search start-room)
 
 same-length : tie.Need-same-length
 same-length c = search needs
 
 returns : tie.Need-returns
-returns c = (search find-found, search find-length)
+returns c = (search find-found, (search find-removed, search find-length))
 
 pub find-path-spec : {M : Type 1} → statement M
 find-path-spec =

@@ -1,8 +1,8 @@
 -- `descent::descend` meets its contract; the laws that it needs are in DescentLaws and DescentWays.
 use borrow.Author.Needs.{needs}
 use native.Mathlib.Omega.{arith}
-use Rattle.insertion.proofs.DescentLaws.{at-leaf}
-use Rattle.insertion.proofs.DescentWays.{descend-routing, descend-stop, descend-few, place-cast, place-few, child-room, descend-child, descend-on, descend-length}
+use Rattle.insertion.proofs.DescentLaws.{at-leaf, at-leaf-removed}
+use Rattle.insertion.proofs.DescentWays.{stop-removed, removed-fits, removed-room, removed-on, descend-routing, descend-stop, descend-few, place-cast, place-few, child-room, descend-child, descend-on, descend-length}
 use Prim.Native.Nat.{ℕ, _<_}
 use borrow.Fn.Kinds.{In}
 use borrow.Fn.PlainCycle.{Measures, is, falls, and}
@@ -41,7 +41,7 @@ descend-claims t = (
 )
 
 descend-returns : (t : ℕ) → descend-lts.Need-returns (descend-claims t) (descend-at t) descend.Post
-descend-returns t c = search at-leaf
+descend-returns t c = (search at-leaf, search at-leaf-removed)
 
 descend-mul-at : (t : ℕ) → descend-lts.Need-mul-at (descend-claims t) (descend-at t) descend.Post
 descend-mul-at t c = search needs
@@ -68,7 +68,7 @@ descend-same-length : (t : ℕ) → descend-lts.Need-same-length (descend-claims
 descend-same-length t c = search needs
 
 descend-returns-2 : (t : ℕ) → descend-lts.Need-returns-2 (descend-claims t) (descend-at t) descend.Post
-descend-returns-2 t c = search descend-stop
+descend-returns-2 t c = (search descend-stop, stop-removed _ _ _ _ _)
 
 descend-cast-path : (t : ℕ) → descend-lts.Need-cast-path (descend-claims t) (descend-at t) descend.Post
 descend-cast-path t c = search place-cast
@@ -94,14 +94,54 @@ descend-put-level-requires t c κs = (search child-room, search descend-few)
 descend-sub-descend : (t : ℕ) → descend-lts.Need-sub-descend (descend-claims t) (descend-at t) descend.Post
 descend-sub-descend t c = search needs
 
+descend-add-descend : (t : ℕ) → descend-lts.Need-add-descend (descend-claims t) (descend-at t) descend.Post
+descend-add-descend t c =
+    let chose = c .before .before .before .before .before .before .before .before .before .before in
+    let start = chose .before .before .before .before .before .before .before in
+    removed-fits _ _ _ _ (chose .choose .result) (chose .choose .ensures .1)
+    (chose .before .before .before .before .if1 .left) _ (start .pre .1 .1)
+
 descend-descend-requires : (t : ℕ) → descend-lts.Need-descend-requires (descend-claims t) (descend-at t) descend.Post
-descend-descend-requires t c κs = (omega arith, search (descend-child, c .before .before .before .put-level .ensures, c .before .before .before .before .before .child-at .ensures))
+descend-descend-requires t c κs =
+    let put = c .before .before .before .before in
+    let child = put .before .before in
+    let chose = child .before .before .before .before in
+    let start = chose .before .before .before .before .before .before .before in (
+      omega arith,
+      (
+        search (descend-child, put .put-level .ensures, child .child-at .ensures),
+        removed-room _ _ _ _ (chose .choose .result) (chose .choose .ensures .1)
+            (chose .before .before .before .before .if1 .left) _ (start .pre .1 .1),
+      ),
+    )
 
 descend-same-length-2 : (t : ℕ) → descend-lts.Need-same-length-2 (descend-claims t) (descend-at t) descend.Post
-descend-same-length-2 t c = search descend-length
+descend-same-length-2 t c =
+    let below = c .before .before in
+    let put = below .before .before .before .before .before in
+    let child = put .before .before in
+    let taken = child .before .before in
+    let chose = taken .before .before in
+    let start = chose .before .before .before .before .before .before .before in
+    descend-length _ _ _ _ (start .pre .1 .0) (chose .before .before .before .before .if1 .left) _ (chose .choose .result)
+    (chose .before .path-polygon .ensures) (chose .choose .ensures .0) _ (taken .taken .given .1)
+    _ _ (put .put-level .ensures) (child .child-at .ensures) _ (below .descend .result .reached) (below .descend .ensures .0)
 
 descend-returns-3 : (t : ℕ) → descend-lts.Need-returns-3 (descend-claims t) (descend-at t) descend.Post
-descend-returns-3 t c = search descend-on
+descend-returns-3 t c =
+    let below = c .before .before in
+    let put = below .before .before .before .before .before in
+    let child = put .before .before in
+    let taken = child .before .before in
+    let chose = taken .before .before in
+    let start = chose .before .before .before .before .before .before .before in (
+      descend-on _ _ _ _ (start .pre .1 .0) (chose .before .before .before .before .if1 .left) _ (chose .choose .result)
+          (chose .before .path-polygon .ensures) (chose .choose .ensures .0) _ (taken .taken .given .1)
+          _ _ (put .put-level .ensures) (child .child-at .ensures) _ (below .descend .result .reached) (below .descend .ensures .0),
+      removed-on _ _ _ _ (start .pre .1 .0) (chose .before .before .before .before .if1 .left) _ (chose .choose .result)
+          (chose .before .path-polygon .ensures) (chose .choose .ensures .0) _ (taken .taken .given .1)
+          _ _ (put .put-level .ensures) (child .child-at .ensures) (chose .choose .ensures .1) _ (below .descend .result) (below .descend .ensures .1),
+    )
 
 pub +descend-spec : {M : Type 1} → statement M
 +descend-spec = close μ-descend λ t. descend-lts.spec (descend-claims t)
@@ -125,6 +165,7 @@ pub +descend-spec : {M : Type 1} → statement M
     (descend-sub-put-level t)
     (descend-put-level-requires t)
     (descend-sub-descend t)
+    (descend-add-descend t)
     (descend-descend-requires t)
     (descend-same-length-2 t)
     (descend-returns-3 t)

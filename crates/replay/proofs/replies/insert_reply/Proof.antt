@@ -8,8 +8,8 @@ use Rattle.replay.proofs.replies.insert_reply.Tie as tie
 enum-known-answer : tie.Need-enum-known-answer
 enum-known-answer c = search needs
 
-accepts-requires : tie.Need-accepts-requires
-accepts-requires c κs = search needs
+inserted-requires : tie.Need-inserted-requires
+inserted-requires c κs = search needs
 
 enum-told : tie.Need-enum-told
 enum-told c = search needs
@@ -90,7 +90,7 @@ insert-reply-spec =
     tie.close
     (tie.spec
     enum-known-answer
-    accepts-requires
+    inserted-requires
     enum-told
     refuses-requires
     enum-told-2

@@ -1,6 +1,6 @@
 -- `choosing::choose_branch` meets its contract; a branch that has the cell is in ChooseWays.
 use borrow.Author.Needs.{needs}
-use Rattle.step2.proofs.ChooseWays.{has-polygon, has-way}
+use Rattle.step2.proofs.ChooseWays.{has-polygon, has-way, has-removed}
 use Rattle.step2.proofs.FirstLoop.{none-first}
 use Rattle.step2.proofs.choosing.choose_branch.Statement.{statement}
 use Rattle.step2.proofs.choosing.choose_branch.Tie as tie
@@ -27,7 +27,7 @@ polygon-at-requires : tie.Need-polygon-at-requires
 polygon-at-requires c κs = search has-polygon
 
 returns-2 : tie.Need-returns-2
-returns-2 c = search has-way
+returns-2 c = (search has-way, search has-removed)
 
 pub choose-branch-spec : {M : Type 1} → statement M
 choose-branch-spec =

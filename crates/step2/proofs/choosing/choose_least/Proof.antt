@@ -1,6 +1,6 @@
 -- `choosing::choose_least` meets its contract; its ways out are in ChooseWays.
 use borrow.Author.Needs.{needs}
-use Rattle.step2.proofs.ChooseWays.{least-place, least-rect, over-way, rects-few, grown-way}
+use Rattle.step2.proofs.ChooseWays.{least-place, least-rect, over-way, over-removed, rects-few, grown-way, grown-removed}
 use Rattle.step2.proofs.GrownWays.{array-room}
 use Rattle.step2.proofs.choosing.choose_least.Statement.{statement}
 use Rattle.step2.proofs.choosing.choose_least.Tie as tie
@@ -17,14 +17,14 @@ slice-aggregate-put-grown-2 c = search needs
 put-grown-requires : tie.Need-put-grown-requires
 put-grown-requires c κs = (search needs, search least-place, search least-rect, search needs, search needs, search needs, search needs)
 
-enum-known-grown : tie.Need-enum-known-grown
-enum-known-grown c = search needs
+enum-known-count : tie.Need-enum-known-count
+enum-known-count c = search needs
 
 enum-told : tie.Need-enum-told
 enum-told c = search needs
 
 returns : tie.Need-returns
-returns c = search over-way
+returns c = (search over-way, search over-removed)
 
 slice-aggregate-load : tie.Need-slice-aggregate-load
 slice-aggregate-load c = search needs
@@ -33,7 +33,7 @@ load-requires : tie.Need-load-requires
 load-requires c κs = (search rects-few, search array-room)
 
 returns-2 : tie.Need-returns-2
-returns-2 c = search grown-way
+returns-2 c = (search grown-way, search grown-removed)
 
 pub choose-least-spec : {M : Type 1} → statement M
 choose-least-spec =
@@ -43,7 +43,7 @@ choose-least-spec =
     slice-aggregate-put-grown
     slice-aggregate-put-grown-2
     put-grown-requires
-    enum-known-grown
+    enum-known-count
     enum-told
     returns
     slice-aggregate-load

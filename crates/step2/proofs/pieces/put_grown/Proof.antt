@@ -3,6 +3,7 @@ use borrow.Author.Needs.{needs}
 use Rattle.geometry.proofs.CutLoops.{few-of}
 use Rattle.step2.proofs.ChildParts.{child-polygon}
 use Rattle.step2.proofs.GrownWays.{counted-room, rect-counted, grown-over, grown-put}
+use Rattle.step2.proofs.RemovedLaws.{removed-over, removed-there, grown-good}
 use Rattle.step2.proofs.pieces.put_grown.Statement.{statement}
 use Rattle.step2.proofs.pieces.put_grown.Tie as tie
 
@@ -13,10 +14,10 @@ grown-rect-requires : tie.Need-grown-rect-requires
 grown-rect-requires c κs = (search child-polygon, search rect-counted, search needs)
 
 put-inner-requires : tie.Need-put-inner-requires
-put-inner-requires c κs = search needs
+put-inner-requires c κs = (search needs, search needs, search grown-good, search needs, search needs, search needs)
 
-enum-known-inner : tie.Need-enum-known-inner
-enum-known-inner c = search needs
+enum-known-pieces : tie.Need-enum-known-pieces
+enum-known-pieces c = search needs
 
 enum-told : tie.Need-enum-told
 enum-told c = search needs
@@ -28,7 +29,7 @@ same-length-2 : tie.Need-same-length-2
 same-length-2 c = search needs
 
 returns : tie.Need-returns
-returns c = search grown-over
+returns c = (search grown-over, removed-over _ _)
 
 put-polygon-requires : tie.Need-put-polygon-requires
 put-polygon-requires c κs = (search child-polygon, search rect-counted, search few-of, search counted-room, search needs)
@@ -40,7 +41,7 @@ same-length-4 : tie.Need-same-length-4
 same-length-4 c = search needs
 
 returns-2 : tie.Need-returns-2
-returns-2 c = search grown-put
+returns-2 c = (search grown-put, search removed-there)
 
 pub put-grown-spec : {M : Type 1} → statement M
 put-grown-spec =
@@ -49,7 +50,7 @@ put-grown-spec =
     child-at-requires
     grown-rect-requires
     put-inner-requires
-    enum-known-inner
+    enum-known-pieces
     enum-told
     same-length
     same-length-2

@@ -4,6 +4,7 @@ use native.Mathlib.Omega.{arith}
 use borrow.Author.Needs.{needs}
 use Rattle.geometry.proofs.CutLoops.{few-of}
 use Rattle.step2.proofs.GrownWays.{list-length, inner-over, inner-parts}
+use Rattle.step2.proofs.RemovedLaws.{wide, high, pieces-valid, left-less, removed-over, removed-left}
 use Rattle.step2.proofs.pieces.put_inner.Statement.{statement}
 use Rattle.step2.proofs.pieces.put_inner.Tie as tie
 
@@ -26,11 +27,27 @@ same-length-2 : tie.Need-same-length-2
 same-length-2 c = search needs
 
 returns : tie.Need-returns
-returns c = (search inner-over, search list-length)
+returns c = (search inner-over, (removed-over _ _, search list-length))
+
+total-area-requires : tie.Need-total-area-requires
+total-area-requires c κs =
+    let found = c .before .before in
+    let f : found .cut .given .0 .0 ≤ 256 = search few-of in
+    let cut = found .before .before .before .before .before .before in
+    let put = cut .before .before .before .before .before in
+    let start = put .before .before .before .before .before in
+    let valid = pieces-valid _ (start .pre .2) _ _ _ _ _ (start .pre .4) (put .put-rect .ensures) (cut .cut-by-siblings .ensures .0) _ (found .cut .given .1) in
+    (search few-of, (omega arith, valid))
+
+area-requires : tie.Need-area-requires
+area-requires c κs = (search wide, search high)
+
+sub-removed : tie.Need-sub-removed
+sub-removed c = search left-less
 
 common-parts-requires : tie.Need-common-parts-requires
 common-parts-requires c κs =
-    let f : c .before .before .before .cut .given .0 .0 ≤ 256 = search few-of in
+    let f : c .before .before .before .before .before .before .cut .given .0 .0 ≤ 256 = search few-of in
     (omega arith, search needs, search needs)
 
 same-length-3 : tie.Need-same-length-3
@@ -40,7 +57,7 @@ same-length-4 : tie.Need-same-length-4
 same-length-4 c = search needs
 
 returns-2 : tie.Need-returns-2
-returns-2 c = (search inner-parts, search list-length)
+returns-2 c = (search inner-parts, (search removed-left, search list-length))
 
 pub put-inner-spec : {M : Type 1} → statement M
 put-inner-spec =
@@ -53,6 +70,9 @@ put-inner-spec =
     same-length
     same-length-2
     returns
+    total-area-requires
+    area-requires
+    sub-removed
     common-parts-requires
     same-length-3
     same-length-4

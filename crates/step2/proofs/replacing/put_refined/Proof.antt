@@ -1,6 +1,6 @@
 -- `replacing::put_refined` meets its contract.
 use borrow.Author.Needs.{needs}
-use Rattle.step2.proofs.PutLoop.{refined-over, refined-fits}
+use Rattle.step2.proofs.ReplacedWays.{refined-over, refined-fits}
 use Rattle.step2.proofs.replacing.put_refined.Statement.{statement}
 use Rattle.step2.proofs.replacing.put_refined.Tie as tie
 

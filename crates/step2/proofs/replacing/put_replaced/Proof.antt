@@ -1,6 +1,6 @@
 -- `replacing::put_replaced` meets its contract.
 use borrow.Author.Needs.{needs}
-use Rattle.step2.proofs.PutLoop.{put-three}
+use Rattle.step2.proofs.ReplacedWays.{put-three}
 use Rattle.step2.proofs.replacing.put_replaced.Statement.{statement}
 use Rattle.step2.proofs.replacing.put_replaced.Tie as tie
 

@@ -1,4 +1,4 @@
--- `calls::cut_by_polygon` meets its contract; the laws that it needs are in Ways.
+-- `polygon_cut::cut_into` meets its contract; the laws that it needs are in Ways.
 use mathlib.Core.Path.{refl}
 use mathlib.Core.Path.{_≡_}
 use Prim.Native.Nat.{_≤_, _/_}
@@ -10,8 +10,8 @@ use Rattle.drawing.specs.Calls.{validWithPolygon, cutPolygonDrawn}
 use Rattle.drawing.proofs.Ways.{work-long}
 use Rattle.drawing.proofs.Ways.{bad-result, bad-list, bad-third, polygon-over, polygon-wrote, list-few}
 use Rattle.geometry.proofs.CutLoops.{few-of}
-use Rattle.drawing.proofs.calls.cut_by_polygon.Statement.{statement}
-use Rattle.drawing.proofs.calls.cut_by_polygon.Tie as tie
+use Rattle.drawing.proofs.polygon_cut.cut_into.Statement.{statement}
+use Rattle.drawing.proofs.polygon_cut.cut_into.Tie as tie
 
 returns : tie.Need-returns
 unfolding validWithPolygon
@@ -78,8 +78,8 @@ returns-5 : tie.Need-returns-5
 unfolding validWithPolygon cutPolygonDrawn
 returns-5 c = let at-cut = c .before .before .before .before .before .before .before .before .before .before in let at-load = at-cut .before .before .before in let at-list = at-load .before .before .before .before .before in polygon-wrote _ _ _ (search needs) _ (at-list .before .before .is-list .ensures) (search not-false) _ (at-list .is-list2 .ensures) (search not-false) _ (at-load .load .ensures) _ _ _ refl (at-load .before .before .copy .ensures) _ (at-cut .cut-polygon .ensures .0) _ _ (c .before .before .before .before .before .before .c .given .1) (c .before .before .copy2 .ensures)
 
-pub cut-by-polygon-spec : {M : Type 1} → statement M
-cut-by-polygon-spec =
+pub cut-into-spec : {M : Type 1} → statement M
+cut-into-spec =
     tie.close
     (tie.spec
     returns

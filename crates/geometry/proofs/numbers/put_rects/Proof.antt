@@ -1,9 +1,9 @@
--- `replacing::put_rects` meets its contract; its loop is in PutLoop.
+-- `numbers::put_rects` meets its contract; its loop is in PutLoop.
 use Prim.Native.Nat.{_-_}
 use borrow.Author.Needs.{needs}
-use Rattle.step2.proofs.PutLoop.{Putting, put-start, put-again, put-end}
-use Rattle.step2.proofs.replacing.put_rects.Statement.{statement}
-use Rattle.step2.proofs.replacing.put_rects.Tie as tie
+use Rattle.geometry.proofs.PutLoop.{Putting, put-start, put-again, put-end}
+use Rattle.geometry.proofs.numbers.put_rects.Statement.{statement}
+use Rattle.geometry.proofs.numbers.put_rects.Tie as tie
 
 abbrev Inv-loop : tie.InvT-loop
 Inv-loop list₀ n source from e m₀ i₀ list m i = Putting list₀ n source from e list m i
