@@ -1,5 +1,5 @@
--- The cells that a polygon removes from a list of rectangles: of one rectangle by areas, of any list rectangle by
--- rectangle of the polygon.
+-- The cells that a polygon removes from a list: no more than the grid has; from one rectangle its area less those of the
+-- pieces of the cut.
 use mathlib.Core.Path.{_≡_, sym, _∙_, ap}
 use mathlib.Core.Bool.{true, _&&_, not, or-false}
 use mathlib.Core.List.{List, [], _∷_}
