@@ -10,6 +10,7 @@ use lib.ListN.{length}
 use Rattle.geometry.specs.declared.rect.Cell.{Cell}
 use Rattle.geometry.specs.declared.rect.Rect.{Rect}
 use Rattle.geometry.specs.Cells.{onGrid}
+use Rattle.tree.specs.Lists.{nth}
 use Rattle.tree.specs.Tree.{Tree, nodeCount}
 use Rattle.tree.specs.Insert.{Outcome, refused, limited, insertTree}
 use Rattle.tree.specs.Insert.{accepted as acceptedAs}
@@ -121,30 +122,32 @@ module _ (N : ℕ) (i : PlaneIndex) (len : ℕ) where
   -- the entries reported
   outcome-reports : (o : Outcome (planeSpace fanout)) (r : List CellEntry) → Reported (planeSpace fanout) (outcomeAnswer (planeSpace fanout) o) r
       → accepted (toldOf len (outcomeAnswer (planeSpace fanout) o)) ≡ isAccepted (outcomeAnswer (planeSpace fanout) o)
-      → accepted (toldOf len (outcomeAnswer (planeSpace fanout) o)) ≡ true → heldTold (toldOf len (outcomeAnswer (planeSpace fanout) o)) ≡ length r
-  unfolding toldOf
+      → accepted (toldOf len (outcomeAnswer (planeSpace fanout) o)) ≡ true
+      → heldTold (toldOf len (outcomeAnswer (planeSpace fanout) o)) ≡ some (length r)
+  unfolding toldOf nth
   outcome-reports (refused k) r g e f = absurd (false≢true (sym e ∙ f))
-  outcome-reports (acceptedAs j) r g e f = g
+  outcome-reports (acceptedAs j) r g e f = ap some g
 
   inserted-reports : (n : ℕ) (o : Outcome (planeSpace fanout)) (r : List CellEntry)
       → Reported (planeSpace fanout) (insertedAnswer (planeSpace fanout) n o) r
       → accepted (toldOf len (insertedAnswer (planeSpace fanout) n o)) ≡ isAccepted (insertedAnswer (planeSpace fanout) n o)
-      → accepted (toldOf len (insertedAnswer (planeSpace fanout) n o)) ≡ true → heldTold (toldOf len (insertedAnswer (planeSpace fanout) n o)) ≡ length r
-  unfolding toldOf
+      → accepted (toldOf len (insertedAnswer (planeSpace fanout) n o)) ≡ true
+      → heldTold (toldOf len (insertedAnswer (planeSpace fanout) n o)) ≡ some (length r)
+  unfolding toldOf nth
   inserted-reports n (refused k) r g e f = absurd (false≢true (sym e ∙ f))
-  inserted-reports n (acceptedAs j) r g e f = g
+  inserted-reports n (acceptedAs j) r g e f = ap some g
 
   -- of a call that passed the early tests
   reports : (r : List CellEntry) (k : IndexCall) → Reported (planeSpace fanout) (treeAnswer N i k) r
       → accepted (toldOf len (treeAnswer N i k)) ≡ true → isChange k ≡ true
-      → heldTold (toldOf len (treeAnswer N i k)) ≡ length r
-  unfolding answer toldOf
+      → heldTold (toldOf len (treeAnswer N i k)) ≡ some (length r)
+  unfolding answer toldOf nth
   reports r (insertCall e) g f c =
       inserted-reports (cellsRemoved i (e .cell)) (insertion (planeSpace fanout) (planeRoot fanout) N i e) r g
       (insertion-accepts e) f
   reports r (removeCall c) g f d =
       outcome-reports (removal (planeSpace fanout) i c) r g (remove-accepts (holds (planeSpace fanout) c i) (remove (planeSpace fanout) c i)) f
-  reports r clearCall g f c = g
+  reports r clearCall g f c = ap some g
   reports r (pointCall c) g f d = absurd (false≢true d)
   reports r (windowCall w) g f d = absurd (false≢true d)
   reports r (nearestCall c) g f d = absurd (false≢true d)
@@ -153,7 +156,7 @@ module _ (N : ℕ) (i : PlaneIndex) (len : ℕ) where
   -- What is carried on by a call that was told t and left the index j.
   pub record Goes (r : List CellEntry) (k : IndexCall) (j : PlaneIndex) (t : Told) : Type 0 where
     pub state : PlaneState N j (fed r k (accepted t))
-    pub report : accepted t ≡ true → isChange k ≡ true → heldTold t ≡ length (fed r k (accepted t))
+    pub report : accepted t ≡ true → isChange k ≡ true → heldTold t ≡ some (length (fed r k (accepted t)))
 
   -- a call that failed an early test
   goes-early : (r : List CellEntry) (k : IndexCall) (n : ℕ) → PlaneState N i r → eqb n 0 ≡ false → Goes r k i (refusal n)

@@ -3,7 +3,7 @@
 use Prim.Native.Nat.{ℕ, suc, _≤_}
 use mathlib.Core.Bool.{Bool, true, cond}
 use mathlib.Core.List.{List, [], _∷_}
-use mathlib.Core.Option.{some}
+use mathlib.Core.Option.{Option, some}
 use mathlib.Core.Path.{_≡_}
 use lib.ListN.{length, getD}
 use Rattle.geometry.specs.declared.rect.Cell.{Cell}
@@ -37,13 +37,14 @@ EachWith P r [] = Unit {0}
 EachWith P r (d ∷ ds) =
     P d (fed r (d .call) (accepted (d .told))) × EachWith P (fed r (d .call) (accepted (d .told))) ds
 
--- the entries held that an accepted change reports: its first value, and the only one but for an insertion's total
-abbrev pub heldTold : Told → ℕ
-heldTold t = getD (t .values) 0 0
+-- the entries held that an accepted change reports: its first value, and the only one but for an insertion's total. A
+-- change that reports nothing has none.
+abbrev pub heldTold : Told → Option ℕ
+heldTold t = nth (t .values) 0
 
 -- 'Wherever a call reports the number of entries held, that is the record's length after the call.' r is the record after it.
 abbrev pub Reports : Made → List CellEntry → Type 0
-Reports d r = accepted (d .told) ≡ true → isChange (d .call) ≡ true → heldTold (d .told) ≡ length r
+Reports d r = accepted (d .told) ≡ true → isChange (d .call) ≡ true → heldTold (d .told) ≡ some (length r)
 
 -- the visits that an accepted point query reports: its second value
 abbrev pub visitsTold : Told → ℕ
