@@ -8,8 +8,8 @@ use reference::random::Random;
 use support::build::polygon as rectangles;
 use support::case::{Call, Case};
 use support::cell_set::{CellSet, SIDE};
-use support::dear_cuts::{nested_bars, polygons, squares};
-use support::tally::{Tally, REMOVED};
+use support::counts::{Tally, REMOVED};
+use support::many_pieces::{nested_bars, polygons, squares};
 use support::{say, seed, GRID_END, LIST_LIMIT, POLYGON_LIMIT};
 
 const GRID: [u32; 4] = [0, 0, GRID_END, GRID_END];

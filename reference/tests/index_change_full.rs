@@ -6,25 +6,25 @@
 mod memory_support;
 mod support;
 
+use memory_support::after_call::check_whole;
 use memory_support::built::below;
+use memory_support::calls::Session;
+use memory_support::crossed_lines::wheel_tree;
+use memory_support::full_path::{full_leaf_cells, steep_tree};
 use memory_support::histories::random_history;
 use memory_support::images::{any_image, nodes};
-use memory_support::session::Session;
-use memory_support::steep::{full_leaf_cells, steep_tree};
 use memory_support::trees::random_tree;
-use memory_support::wheel::wheel_tree;
-use memory_support::whole::check_whole;
-use memory_support::work::DIRTS;
+use memory_support::work_areas::DIRTS;
 use memory_support::MOST_PARTS;
 use reference::geometry::{Cell, Rectangle};
 use reference::random::Random;
 use reference::tree::{insert, Entry, Node, Tree};
 use support::build::leaf;
 use support::checked::Command;
+use support::counts::Tally;
 use support::limits::{filled_bars, PIECES_256, PIECES_257};
-use support::tally::Tally;
 use support::trace::trace;
-use support::{bars, ladder, say, seed};
+use support::{cut_by_siblings, grown_leaves, say, seed};
 
 const GRID: Rectangle = Rectangle {
     ll: [0, 0],
@@ -241,7 +241,10 @@ fn limit_before_nodes() {
     let mut random = Random::for_case(seed, 1712, 0);
     for (counts, kind) in [(PIECES_257, "refused 7"), (PIECES_256, BY_LEVELS)] {
         let (mut built, cell) = filled_bars(&counts);
-        ladder::put_all(&mut built, &ladder::eight(bars::EDGE, 0)[1..]);
+        grown_leaves::put_all(
+            &mut built,
+            &grown_leaves::eight(cut_by_siblings::EDGE, 0)[1..],
+        );
         let tree = with_far_leaves(built.index.tree().cloned().expect("a tree"));
         let mut tally = Tally::default();
         for levels in [0, 1, 2] {

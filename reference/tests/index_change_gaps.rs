@@ -4,17 +4,17 @@
 mod memory_support;
 mod support;
 
-use memory_support::gaps::Gaps;
+use memory_support::full_path::steep_tree;
+use memory_support::grown_path::{cell_outside, tall_tree};
 use memory_support::histories::random_history;
 use memory_support::images::{any_image, any_tree};
-use memory_support::steep::steep_tree;
-use memory_support::tall::{cell_outside, tall_tree};
+use memory_support::part_gaps::Gaps;
 use memory_support::trees::random_tree;
 use memory_support::MOST_PARTS;
 use reference::geometry::Rectangle;
 use reference::random::Random;
 use reference::tree::{Entry, Tree};
-use support::tally::Tally;
+use support::counts::Tally;
 use support::trace::trace;
 use support::{say, seed};
 

@@ -5,21 +5,21 @@ mod memory_support;
 mod support;
 
 use memory_support::built::{below, built_trees, chain, chain_of_sixteens};
+use memory_support::calls::Session;
 use memory_support::changes::{change, change_images, change_singly, empty_in_order};
+use memory_support::full_path::{full_leaf_cells, steep_tree};
 use memory_support::histories::random_history;
 use memory_support::images::{any_image, any_tree, first_parts, last_parts, nodes, small_grid};
-use memory_support::ragged::{ragged, Ragged};
-use memory_support::session::Session;
-use memory_support::steep::{full_leaf_cells, steep_tree};
+use memory_support::piece_limits::{ragged, Ragged};
 use memory_support::trees::{random_tree, tree_of};
-use memory_support::work::DIRTS;
+use memory_support::work_areas::DIRTS;
 use memory_support::MOST_PARTS;
 use reference::geometry::Rectangle;
 use reference::memory::image;
 use reference::random::Random;
-use reference::tree::{Entry, PolygonLimit};
+use reference::tree::{Entry, Limit};
 use support::checked::Command;
-use support::tally::Tally;
+use support::counts::Tally;
 use support::trace::{trace, Trace};
 use support::{say, seed};
 
@@ -172,13 +172,13 @@ fn limit_kind(trace: &Trace) -> &'static str {
         None if near.contains(&sizes.after_cut) => "accepted, 200 to 256 pieces",
         None if near.contains(&sizes.after_common_parts) => "accepted, 200 to 256 common parts",
         None => "accepted, few pieces",
-        Some(PolygonLimit::AfterCut) if sizes.after_cut <= 300 => "refused, 257 to 300 pieces",
-        Some(PolygonLimit::AfterCut) => "refused, more pieces",
-        Some(PolygonLimit::AfterCommonParts) if sizes.after_common_parts <= 300 => {
+        Some(Limit::AfterCut) if sizes.after_cut <= 300 => "refused, 257 to 300 pieces",
+        Some(Limit::AfterCut) => "refused, more pieces",
+        Some(Limit::AfterCommonParts) if sizes.after_common_parts <= 300 => {
             "refused, 257 to 300 common parts"
         }
-        Some(PolygonLimit::AfterCommonParts) => "refused, more common parts",
-        Some(PolygonLimit::Refined) => "refused, over 16 rectangles",
+        Some(Limit::AfterCommonParts) => "refused, more common parts",
+        Some(Limit::Refined) => "refused, over 16 rectangles",
     }
 }
 

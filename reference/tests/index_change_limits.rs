@@ -6,9 +6,9 @@ mod memory_support;
 mod support;
 
 use memory_support::built::below;
+use memory_support::calls::Session;
 use memory_support::images::{any_image, nodes};
-use memory_support::session::Session;
-use memory_support::work::{Dirt, DIRTS};
+use memory_support::work_areas::{Dirt, DIRTS};
 use reference::geometry::Cell;
 use reference::random::Random;
 use reference::tree::Tree;
@@ -20,7 +20,7 @@ use support::limits::{
     REFINED_16, REFINED_17,
 };
 use support::nested::CELL;
-use support::{bars, ladder, seed};
+use support::{cut_by_siblings, grown_leaves, seed};
 
 /// The commands that built the index, in a session of their own from a fresh index of n parts; then
 /// the insertion, with this answer for every kind of work area.
@@ -125,7 +125,10 @@ fn refined_polygon() {
 fn limit_before_nodes() {
     for (counts, answer) in [(PIECES_256, 8), (PIECES_257, 7)] {
         let (mut built, cell) = filled_bars(&counts);
-        ladder::put_all(&mut built, &ladder::eight(bars::EDGE, 0)[1..]);
+        grown_leaves::put_all(
+            &mut built,
+            &grown_leaves::eight(cut_by_siblings::EDGE, 0)[1..],
+        );
         let tree = tree_of(&built);
         insert_into(&tree, cell, nodes(Some(&tree)), answer);
     }

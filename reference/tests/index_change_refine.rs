@@ -4,14 +4,14 @@
 mod memory_support;
 mod support;
 
-use memory_support::gaps::Gaps;
 use memory_support::images::any_image;
+use memory_support::part_gaps::Gaps;
 use reference::bands::{dear, Dear};
 use reference::memory::is_sound;
 use reference::random::Random;
 use reference::tree::{Entry, Node, Tree};
+use support::counts::Tally;
 use support::shapes::shuffle;
-use support::tally::Tally;
 use support::trace::trace;
 use support::{say, seed};
 

@@ -10,13 +10,13 @@ use memory_support::histories::{history, WHOLE};
 use memory_support::images::{any_image, any_tree, first_parts};
 use memory_support::lent::Lent;
 use memory_support::queries::INVALID_CELLS;
-use memory_support::work::{Dirt, Work, DIRTS};
+use memory_support::work_areas::{Dirt, Work, DIRTS};
 use memory_support::{length_of, MOST_PARTS};
 use reference::geometry::Cell;
 use reference::memory::image;
 use reference::random::Random;
 use std::fmt::Arguments;
-use support::tally::Tally;
+use support::counts::Tally;
 use support::{say, seed};
 
 /// The length is 64 + 128 x N for an N from 1 to 256.

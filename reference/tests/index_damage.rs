@@ -12,7 +12,7 @@ use memory_support::length_of;
 use memory_support::trees::random_tree;
 use reference::random::Random;
 use reference::tree::Tree;
-use support::tally::Tally;
+use support::counts::Tally;
 use support::{say, seed};
 
 /// The kinds of emptiness queries that accepted images must reach.

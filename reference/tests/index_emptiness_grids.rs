@@ -4,16 +4,16 @@
 mod memory_support;
 mod support;
 
+use memory_support::calls::Session;
 use memory_support::changes::change_small_grids;
 use memory_support::emptiness::ANSWERED;
 use memory_support::queries::{cells_of, windows_of, with_margin};
-use memory_support::session::Session;
-use memory_support::work::Dirt;
+use memory_support::work_areas::Dirt;
 use reference::geometry::{Cell, Rectangle};
 use reference::random::Random;
 use reference::tree::Tree;
 use support::checked::Command;
-use support::tally::Tally;
+use support::counts::Tally;
 use support::{say, seed};
 
 /// Every window of the square.

@@ -8,12 +8,12 @@ use memory_support::built::{chain, chain_of_sixteens};
 use memory_support::cases;
 use memory_support::damage::random_changes;
 use memory_support::emptiness::{EmptinessOutput, ANSWERED};
+use memory_support::grown_path::cell_outside;
 use memory_support::images::{any_image, any_tree, GRID};
 use memory_support::lent::Lent;
 use memory_support::queries::{
     edge_windows, invalid_windows, numbers_of, window_at, windows_of, with_margin, Queried,
 };
-use memory_support::tall::cell_outside;
 use memory_support::MOST_PARTS;
 use reference::geometry::Rectangle;
 use reference::random::Random;

@@ -4,12 +4,12 @@ mod memory_support;
 mod support;
 
 use memory_support::built::scattered;
+use memory_support::calls::Session;
 use memory_support::emptiness::EmptinessOutput;
 use memory_support::length_of;
 use memory_support::lent::Lent;
 use memory_support::queries::invalid_windows;
-use memory_support::session::Session;
-use memory_support::small::{g10, image_of, index_of};
+use memory_support::written_out::{g10, image_of, index_of};
 use support::build::{leaf, rectangle, routing, tree};
 use support::checked::Command::Remove;
 

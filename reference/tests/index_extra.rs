@@ -5,9 +5,9 @@
 mod memory_support;
 mod support;
 
+use memory_support::calls::Session;
 use memory_support::images::any_image;
-use memory_support::session::Session;
-use memory_support::work::{Dirt, DIRTS};
+use memory_support::work_areas::{Dirt, DIRTS};
 use reference::geometry::Rectangle;
 use reference::random::Random;
 use reference::tree::Tree;

@@ -4,11 +4,11 @@ mod memory_support;
 mod support;
 
 use memory_support::built::scattered;
+use memory_support::calls::Session;
 use memory_support::length_of;
 use memory_support::lent::Lent;
 use memory_support::nearest::NearestOutput;
-use memory_support::session::Session;
-use memory_support::small::{g10, image_of, index_of};
+use memory_support::written_out::{g10, image_of, index_of};
 use reference::geometry::Cell;
 use support::build::{leaf, tag, tree};
 use support::checked::Command::Remove;

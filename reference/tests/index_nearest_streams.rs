@@ -4,16 +4,16 @@
 mod memory_support;
 mod support;
 
+use memory_support::calls::Session;
 use memory_support::changes::change_small_grids;
 use memory_support::nearest::{FOUND, TIES};
 use memory_support::queries::{cells_of, with_margin};
-use memory_support::session::Session;
-use memory_support::work::DIRTS;
+use memory_support::work_areas::DIRTS;
 use reference::geometry::Cell;
 use reference::random::Random;
 use reference::tree::Entry;
+use support::counts::Tally;
 use support::streams::Stream;
-use support::tally::Tally;
 use support::{say, seed};
 
 /// Small grids for some N: after each accepted change, every cell of the square and of a margin.

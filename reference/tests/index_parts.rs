@@ -11,7 +11,7 @@ use memory_support::MOST_PARTS;
 use reference::memory::{image, layout};
 use reference::random::Random;
 use reference::tree::Tree;
-use support::tally::Tally;
+use support::counts::Tally;
 use support::{say, seed};
 
 /// All orders of the items.

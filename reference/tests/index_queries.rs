@@ -17,7 +17,7 @@ use reference::memory::image;
 use reference::random::Random;
 use reference::tree::Tree;
 use std::fmt::Arguments;
-use support::tally::Tally;
+use support::counts::Tally;
 use support::{say, seed};
 
 /// The cells of the entries and at the corners of all rectangles and of the grid; windows along

@@ -12,7 +12,7 @@ use memory_support::{length_of, MOST_PARTS};
 use reference::geometry::Rectangle;
 use reference::memory::image;
 use reference::random::Random;
-use support::tally::Tally;
+use support::counts::Tally;
 use support::{say, seed};
 
 /// The length is 64 + 128 x N for an N from 1 to 256.

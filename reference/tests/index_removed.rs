@@ -5,12 +5,12 @@
 mod memory_support;
 mod support;
 
+use memory_support::calls::Session;
 use memory_support::images::any_image;
 use memory_support::removed::{levels_by_cells, Level};
-use memory_support::session::Session;
-use memory_support::small::image_of;
 use memory_support::trees::tree_of;
-use memory_support::work::{Dirt, DIRTS};
+use memory_support::work_areas::{Dirt, DIRTS};
+use memory_support::written_out::image_of;
 use reference::geometry::{Cell, Rectangle};
 use reference::memory::read_back;
 use reference::random::Random;
@@ -18,10 +18,10 @@ use support::build::tag;
 use support::cell_set::SIDE;
 use support::checked::Command;
 use support::choices::WORKED_CELLS;
-use support::crowded::crowded;
+use support::counts::Tally;
+use support::most_removed::{Stairs, CELL};
 use support::nested::bars_inside;
-use support::stairs::{Stairs, CELL};
-use support::tally::Tally;
+use support::removed_cells::crowded;
 use support::{say, seed};
 
 /// Inserts the cell, which must be accepted; returns the total.

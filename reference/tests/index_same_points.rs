@@ -5,19 +5,19 @@ mod memory_support;
 mod support;
 
 use memory_support::asked::Proved;
+use memory_support::calls::Session;
 use memory_support::orders::{entries_in, rearranged};
 use memory_support::queries::cells_of;
 use memory_support::same_points::{Pair, COMPARED, OTHER_ORDER, OTHER_VISITS, REFUSED_ALIKE};
-use memory_support::session::Session;
-use memory_support::work::DIRTS;
+use memory_support::work_areas::DIRTS;
 use reference::geometry::{Cell, Rectangle};
 use reference::random::Random;
 use reference::tree::Entry;
 use support::checked::{Checked, Command};
+use support::counts::Tally;
 use support::limits::{filled_bars, over_bars, rungs, PIECES_257, REFINED_17};
 use support::others::refused;
 use support::shapes::shuffle;
-use support::tally::Tally;
 use support::{say, seed};
 
 fn insertions(list: &[Entry]) -> Vec<Command> {

@@ -5,9 +5,9 @@ mod memory_support;
 mod support;
 
 use memory_support::asked::Proved;
+use memory_support::calls::Session;
 use memory_support::same_points::{Pair, COMPARED};
-use memory_support::session::Session;
-use memory_support::small::{g10, index_of};
+use memory_support::written_out::{g10, index_of};
 use reference::geometry::{Cell, Rectangle};
 use reference::random::Random;
 use support::build::{polygon, tag};

@@ -5,14 +5,14 @@ mod support;
 
 use memory_support::built::{built_trees, not_covered, scattered};
 use memory_support::damaged::Damaged;
+use memory_support::half_sound::loose_tree;
 use memory_support::images::{any_image, first_parts, nodes};
 use memory_support::lent::Lent;
-use memory_support::loose::loose_tree;
 use reference::memory::image;
 use reference::random::Random;
 use reference::tree::{Node, Tree};
 use support::build::{leaf, routing, tree};
-use support::tally::Tally;
+use support::counts::Tally;
 use support::{say, seed};
 
 /// Both implementations answer with this number.

@@ -4,12 +4,12 @@
 mod memory_support;
 mod support;
 
-use memory_support::session::Session;
-use memory_support::work::{Dirt, DIRTS};
+use memory_support::calls::Session;
+use memory_support::work_areas::{Dirt, DIRTS};
 use reference::random::Random;
 use support::checked::Command;
+use support::counts::Tally;
 use support::streams::{ending, Stream};
-use support::tally::Tally;
 use support::{say, seed};
 
 /// How many commands for an N, and how many from one fresh index to the next.

@@ -5,14 +5,14 @@ mod memory_support;
 mod support;
 
 use memory_support::built::{built_trees, chain, chain_of_sixteens, not_covered};
+use memory_support::half_sound::loose_tree;
 use memory_support::images::{any_image, any_tree};
-use memory_support::loose::loose_tree;
 use memory_support::trees::random_tree;
 use reference::memory::{is_sound, read, Refusal};
 use reference::random::Random;
 use reference::tree::Tree;
+use support::counts::Tally;
 use support::sound::check_sound;
-use support::tally::Tally;
 use support::{say, seed};
 
 fn reads_back(n: usize, tree: Option<&Tree>, random: &mut Random, place: &str) {

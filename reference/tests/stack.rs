@@ -15,7 +15,7 @@ use std::collections::BTreeMap;
 use std::hint::black_box;
 use std::panic::resume_unwind;
 use std::thread;
-use support::dear_cuts::{nested_bars, polygons, squares};
+use support::many_pieces::{nested_bars, polygons, squares};
 use support::{say, seed, RESULT_LENGTH};
 
 /// The stack of the thread that makes the calls, in bytes.

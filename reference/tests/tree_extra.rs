@@ -13,7 +13,7 @@ use support::choices::{
 };
 use support::extra::{by_area, by_cuts, pieces};
 use support::nested::bars_inside;
-use support::settle::settle;
+use support::splitting::settle;
 use support::trace::{trace, trace_by, Sizes};
 use support::{say, seed, GRID_END};
 

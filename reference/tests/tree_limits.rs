@@ -4,7 +4,7 @@
 
 mod support;
 
-use reference::tree::{PolygonLimit, Refusal, Tree};
+use reference::tree::{Limit, Refusal, Tree};
 use support::build::entry;
 use support::checked::{Checked, Command};
 use support::extra::by_area;
@@ -17,7 +17,7 @@ use support::limits::{
 use support::lines::{answers, line};
 use support::nested::CELL;
 use support::trace::{trace_by, Sizes};
-use support::{bars, ladder};
+use support::{cut_by_siblings, grown_leaves};
 
 fn insert(checked: &mut Checked, cell: [u32; 2]) -> Result<(), Refusal> {
     checked.apply(Command::Insert(cell, 0))
@@ -40,7 +40,7 @@ fn pieces_after_a_cut() {
     assert_eq!(checked.largest.after_cut, 256);
 
     let (mut checked, cell) = filled_bars(&PIECES_257);
-    let over = Refusal::Polygon(PolygonLimit::AfterCut);
+    let over = Refusal::OverLimit(Limit::AfterCut);
     assert_eq!(insert(&mut checked, cell), Err(over));
     checked.tally.require(1, &["I refused 7 after a cut"]);
 }
@@ -51,7 +51,7 @@ fn pieces_around_the_limit() {
     let mut seen = Vec::new();
     for counts in around_the_limit() {
         let (mut checked, cell) = filled_bars(&counts);
-        let over = Refusal::Polygon(PolygonLimit::AfterCut);
+        let over = Refusal::OverLimit(Limit::AfterCut);
         let expected = if pieces(&counts) <= 256 {
             Ok(())
         } else {
@@ -67,7 +67,7 @@ fn pieces_around_the_limit() {
 /// of the same sibling would leave fewer pieces. The tree is changed by hand.
 #[test]
 fn limit_after_every_rectangle() {
-    let over = Refusal::Polygon(PolygonLimit::AfterCut);
+    let over = Refusal::OverLimit(Limit::AfterCut);
     for (counts, expected) in [(PIECES_256, Ok(())), (PIECES_257, Err(over))] {
         let (checked, cell) = filled_bars(&counts);
         let changed = row_after_the_bars(checked.index.tree().cloned().expect("a tree"));
@@ -94,11 +94,14 @@ fn lines_of_the_built_streams() {
 #[test]
 fn limit_before_nodes() {
     for (counts, refusal) in [
-        (PIECES_256, Refusal::Nodes),
-        (PIECES_257, Refusal::Polygon(PolygonLimit::AfterCut)),
+        (PIECES_256, Refusal::TooManyNodes),
+        (PIECES_257, Refusal::OverLimit(Limit::AfterCut)),
     ] {
         let (mut checked, cell) = filled_bars(&counts);
-        ladder::put_all(&mut checked, &ladder::eight(bars::EDGE, 0)[1..]);
+        grown_leaves::put_all(
+            &mut checked,
+            &grown_leaves::eight(cut_by_siblings::EDGE, 0)[1..],
+        );
         let full = checked.index.tree().cloned();
         let nodes = full.as_ref().map_or(0, Tree::nodes);
         let mut checked = Checked::from_tree(nodes, full, "no node left".to_string());
@@ -110,16 +113,13 @@ fn limit_before_nodes() {
 /// 256 parts pass this limit (and the refined polygon is then over its own), 258 do not.
 #[test]
 fn pieces_after_the_common_parts() {
-    let common = PolygonLimit::AfterCommonParts;
-    for (counts, parts, limit) in [
-        (PARTS_256, 256, PolygonLimit::Refined),
-        (PARTS_258, 258, common),
-    ] {
+    let common = Limit::AfterCommonParts;
+    for (counts, parts, limit) in [(PARTS_256, 256, Limit::Refined), (PARTS_258, 258, common)] {
         let (mut checked, cell) = below_a_parent(&counts);
         let sizes = sizes(&checked, cell);
         assert_eq!(sizes.after_cut, pieces(&counts));
         assert_eq!(sizes.after_common_parts, parts);
-        assert_eq!(insert(&mut checked, cell), Err(Refusal::Polygon(limit)));
+        assert_eq!(insert(&mut checked, cell), Err(Refusal::OverLimit(limit)));
         assert_eq!(checked.index.height(), 3);
     }
 }
@@ -142,7 +142,7 @@ fn common_parts_of_a_built_tree() {
         tops.push(top);
         let mut checked = Checked::from_tree(5, Some(across(&tops)), "across".to_string());
         assert_eq!(sizes(&checked, cell).after_common_parts, parts);
-        let over = Refusal::Polygon(PolygonLimit::AfterCommonParts);
+        let over = Refusal::OverLimit(Limit::AfterCommonParts);
         assert_eq!(insert(&mut checked, cell), Err(over));
     }
 }
@@ -152,7 +152,7 @@ fn common_parts_of_a_built_tree() {
 fn refined_polygon() {
     let (mut checked, cell) = rungs();
     assert_eq!(sizes(&checked, cell).refined, 17);
-    let over = Refusal::Polygon(PolygonLimit::Refined);
+    let over = Refusal::OverLimit(Limit::Refined);
     assert_eq!(insert(&mut checked, cell), Err(over));
     let tally = &checked.tally;
     tally.require(1, &["I accepted, refined polygon of 16"]);
@@ -178,7 +178,7 @@ fn bars_inside_the_grown_rectangle() {
         assert_eq!(sizes, limited.sizes, "{name}");
         let expected = limited
             .limit
-            .map_or(Ok(()), |limit| Err(Refusal::Polygon(limit)));
+            .map_or(Ok(()), |limit| Err(Refusal::OverLimit(limit)));
         assert_eq!(insert(&mut checked, CELL), expected, "{name}");
     }
 }
@@ -189,9 +189,9 @@ fn bars_inside_the_grown_rectangle() {
 fn streams_to_bars_inside() {
     let cases: [(&[u32], _, _); 4] = [
         (&REFINED_16, [27, 16], None),
-        (&REFINED_17, [36, 17], Some(PolygonLimit::Refined)),
-        (&INSIDE_256, [256, 47], Some(PolygonLimit::Refined)),
-        (&INSIDE_257, [257, 0], Some(PolygonLimit::AfterCut)),
+        (&REFINED_17, [36, 17], Some(Limit::Refined)),
+        (&INSIDE_256, [256, 47], Some(Limit::Refined)),
+        (&INSIDE_257, [257, 0], Some(Limit::AfterCut)),
     ];
     for (reaches, expected, limit) in cases {
         let (mut checked, cell) = over_bars(reaches);
@@ -199,7 +199,7 @@ fn streams_to_bars_inside() {
         check_by_area(checked.index.tree().expect("a tree"), cell, &name);
         let sizes = sizes(&checked, cell);
         assert_eq!([sizes.after_cut, sizes.refined], expected, "{name}");
-        let expected = limit.map_or(Ok(()), |limit| Err(Refusal::Polygon(limit)));
+        let expected = limit.map_or(Ok(()), |limit| Err(Refusal::OverLimit(limit)));
         assert_eq!(insert(&mut checked, cell), expected, "{name}");
     }
 }

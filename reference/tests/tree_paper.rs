@@ -3,7 +3,7 @@
 mod support;
 
 use reference::geometry::Rectangle;
-use reference::tree::{Index, Node, PointAnswer, PolygonLimit, Refusal, Tree, WindowAnswer};
+use reference::tree::{Index, Limit, Node, PointAnswer, Refusal, Tree, WindowAnswer};
 use support::checked::{Checked, Command};
 
 fn insert_all(checked: &mut Checked, cells: &[[u32; 2]]) -> Vec<Result<(), Refusal>> {
@@ -52,7 +52,7 @@ fn g10_with_fewer_nodes_is_refused() {
         let mut checked = Checked::new(n, "G10".to_string());
         let answers = insert_all(&mut checked, &g10_cells());
         assert_eq!(answers[..8], [Ok(()); 8]);
-        assert_eq!(answers[8], Err(Refusal::Nodes));
+        assert_eq!(answers[8], Err(Refusal::TooManyNodes));
         assert_eq!(checked.held().len(), 8);
     }
 }
@@ -95,12 +95,12 @@ fn n_1_holds_eight() {
     let cells: Vec<[u32; 2]> = (0..8).map(|i| [7000 * i, 65535 - 9000 * (i % 5)]).collect();
     assert_eq!(insert_all(&mut checked, &cells), [Ok(()); 8]);
     let ninth = Command::Insert([1, 2], u32::MAX);
-    assert_eq!(checked.apply(ninth), Err(Refusal::Nodes));
+    assert_eq!(checked.apply(ninth), Err(Refusal::TooManyNodes));
     assert_eq!(checked.apply(Command::Remove(cells[3])), Ok(()));
     assert_eq!(checked.apply(ninth), Ok(()));
     assert_eq!(
         checked.apply(Command::Insert(cells[3], 0)),
-        Err(Refusal::Nodes)
+        Err(Refusal::TooManyNodes)
     );
 }
 
@@ -139,10 +139,10 @@ fn numbers_of_the_refusals() {
         (Refusal::Invalid, 3),
         (Refusal::Held, 5),
         (Refusal::NotHeld, 6),
-        (Refusal::Polygon(PolygonLimit::AfterCut), 7),
-        (Refusal::Polygon(PolygonLimit::AfterCommonParts), 7),
-        (Refusal::Polygon(PolygonLimit::Refined), 7),
-        (Refusal::Nodes, 8),
+        (Refusal::OverLimit(Limit::AfterCut), 7),
+        (Refusal::OverLimit(Limit::AfterCommonParts), 7),
+        (Refusal::OverLimit(Limit::Refined), 7),
+        (Refusal::TooManyNodes, 8),
         (Refusal::ShortList { matches: 1 }, 9),
         (Refusal::NothingHeld, 10),
     ];
@@ -161,7 +161,7 @@ fn order_of_the_refusals() {
     assert_eq!(index.insert([65536, 0], 0), Err(Refusal::Invalid));
     assert_eq!(index.insert([0, 65536], 0), Err(Refusal::Invalid));
     assert_eq!(index.insert([3, 0], 0), Err(Refusal::Held));
-    assert_eq!(index.insert([8, 0], 0), Err(Refusal::Nodes));
+    assert_eq!(index.insert([8, 0], 0), Err(Refusal::TooManyNodes));
     assert_eq!(index.remove([65536, 0]), Err(Refusal::Invalid));
     assert_eq!(index.remove([8, 0]), Err(Refusal::NotHeld));
     let bad = Rectangle::new(0, 0, 65537, 1);

@@ -11,7 +11,7 @@ use reference::geometry::Rectangle;
 use reference::memory::Reading;
 use reference::random::Random;
 use reference::tree::{Entry, Index, Refusal};
-use support::tally::Tally;
+use support::counts::Tally;
 use support::{say, seed};
 
 /// The entries in a fresh index.

@@ -292,7 +292,7 @@ fn high_trees() {
         assert_eq!(checked.index.height(), levels);
         let ninth = checked.apply(insert([8, 0]));
         if levels == n {
-            assert_eq!(ninth, Err(Refusal::Nodes));
+            assert_eq!(ninth, Err(Refusal::TooManyNodes));
         } else {
             assert_eq!(ninth, Ok(()));
         }

@@ -5,8 +5,8 @@ mod support;
 use reference::random::Random;
 use reference::tree::Refusal;
 use support::checked::{Checked, Command};
+use support::counts::Tally;
 use support::streams::{ending, Stream};
-use support::tally::Tally;
 use support::{say, seed};
 
 /// Commands of each N: together some 700,000.
@@ -192,7 +192,7 @@ fn fill(n: usize, cells: impl Iterator<Item = [u32; 2]>, label: String) -> Tally
     let mut refused = 0;
     for (number, cell) in cells.enumerate() {
         let number = number as u32;
-        if checked.apply(Command::Insert(cell, number)) == Err(Refusal::Nodes) {
+        if checked.apply(Command::Insert(cell, number)) == Err(Refusal::TooManyNodes) {
             refused += 1;
             let removed: Vec<[u32; 2]> = checked.held().iter().map(|e| e.cell).collect();
             if refused % 5 == 0 {

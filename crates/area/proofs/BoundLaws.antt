@@ -6,12 +6,12 @@ use mathlib.Core.Logic.{⊎-elim}
 use Prim.Native.Nat.{_+_, _-_, _≤_}
 use native.Mathlib.Omega.{arith}
 use Rattle.polygons.specs.Lists.{any}
+use Rattle.polygons.proofs.Booleans.{either}
 use Rattle.geometry.specs.declared.rect.Cell.{Cell}
 use Rattle.geometry.specs.declared.rect.Rect.{Rect}
 use Rattle.geometry.specs.Cells.{hasCell, nonEmpty, anyHas, area}
 use Rattle.geometry.specs.Common.{overlap}
 use Rattle.geometry.specs.Refine.{union}
-use Rattle.geometry.proofs.Booleans.{either}
 use Rattle.geometry.proofs.CellLaws.{in-of, of-in, Valid, empty-has-none}
 use Rattle.geometry.proofs.CommonLaws.{overlap-cells}
 use Rattle.area.specs.Bounds.{boundsFrom, boundsOf}

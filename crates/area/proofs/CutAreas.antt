@@ -3,12 +3,12 @@ use mathlib.Core.Path.{_≡_, refl, sym, _∙_, ap}
 use mathlib.Core.Bool.{Bool, true, false, _&&_, not, cond}
 use mathlib.Core.List.{List, [], _∷_}
 use Prim.Native.Nat.{_+_, _≤_}
+use Rattle.polygons.proofs.Booleans.{split-and}
 use Rattle.geometry.specs.declared.rect.Cell.{Cell}
 use Rattle.geometry.specs.declared.rect.Rect.{Rect}
 use Rattle.geometry.specs.Cells.{onGrid, hasCell, valid, allValid, anyHas, area}
 use Rattle.geometry.specs.Cut.{cutAll}
 use Rattle.geometry.specs.Grow.{grown}
-use Rattle.geometry.proofs.Booleans.{split-and}
 use Rattle.geometry.proofs.CellLaws.{valid-of}
 use Rattle.geometry.proofs.CutLaws.{cut-all-valid}
 use Rattle.geometry.proofs.GrowLaws.{grow-valid}

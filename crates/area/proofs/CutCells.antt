@@ -7,12 +7,12 @@ use native.Mathlib.Nat.{zero-add, add-zero}
 use native.Mathlib.Omega.{arith}
 use native.Mathlib.Decide.{decLe, decLt}
 use Rattle.polygons.specs.Lists.{any}
+use Rattle.polygons.proofs.Booleans.{is-false, not-both}
 use Rattle.geometry.specs.declared.rect.Cell.{Cell}
 use Rattle.geometry.specs.declared.rect.Rect.{Rect}
 use Rattle.geometry.specs.Cells.{hasCell, nonEmpty, anyHas}
 use Rattle.geometry.specs.Common.{overlap, unlessEmpty}
 use Rattle.geometry.specs.Cut.{xCeiling, xFloor, yCeiling, yFloor, pieces, cut, cutList, cutAll}
-use Rattle.geometry.proofs.Booleans.{is-false, not-both}
 use Rattle.geometry.proofs.CellLaws.{In, in-of, of-in, Some, some-of, empty-has-none}
 use Rattle.geometry.proofs.CommonLaws.{overlap-cells}
 use Rattle.geometry.proofs.CutLaws.{cut-list-cons}
@@ -123,14 +123,14 @@ module _ (r s : Rect) (c : Cell) where
       go true e = simp (times-append, times-unless-empty) (four-is (some-of (overlap r s) e))
       go false e = uncut-is e
 
-none-left : (b : Bool) → _≡_ {A = ℕ} 0 (cond b 0 0)
-none-left true = refl
-none-left false = refl
+none-remaining : (b : Bool) → _≡_ {A = ℕ} 0 (cond b 0 0)
+none-remaining true = refl
+none-remaining false = refl
 
 -- a list cut by s: as often as before, or never where s has the cell
 pub times-cut-list : (l : List Rect) (s : Rect) (c : Cell) → times (cutList l s) c ≡ cond (hasCell s c) 0 (times l c)
 unfolding cutList flatMap times
-times-cut-list [] s c = none-left (hasCell s c)
+times-cut-list [] s c = none-remaining (hasCell s c)
 times-cut-list (r ∷ l) s c =
     ap (λ k. times k c) (cut-list-cons r l s)
     ∙ rw (times-append, times-cut r s c, times-cut-list l s c) (go (hasCell r c) (hasCell s c))

@@ -3,13 +3,13 @@ use mathlib.Core.Path.{_≡_, refl, _∙_}
 use mathlib.Core.Bool.{true}
 use mathlib.Core.List.{List, [], _∷_, map, flatMap}
 use Prim.Native.Nat.{ℕ}
+use Rattle.polygons.proofs.Booleans.{split-and}
 use Rattle.geometry.specs.declared.rect.Cell.{Cell}
 use Rattle.geometry.specs.declared.rect.Rect.{Rect}
 use Rattle.geometry.specs.Cells.{onGrid, nonEmpty, valid, allValid, area, cellOf, rectOf}
 use Rattle.geometry.specs.Common.{overlap, unlessEmpty}
 use Rattle.geometry.specs.Cut.{xCeiling, xFloor, yCeiling, yFloor, pieces, cut, cutList, cutAll}
 use Rattle.geometry.specs.Grow.{grown}
-use Rattle.geometry.proofs.Booleans.{split-and}
 use Rattle.area.specs.Lacked.{extraArea}
 use Rattle.area.specs.Removed.{totalArea}
 use Rattle.area.proofs.CutAreas.{extra-pieces}

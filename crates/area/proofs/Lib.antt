@@ -11,9 +11,9 @@ pub mod RemovedLoop
 pub mod LackCuts
 pub mod BoundLaws
 pub mod BoundLoop
-pub mod OutsideWays
-pub mod OneWays
-pub mod ExtraWays
+pub mod OutsideReturns
+pub mod OneReturns
+pub mod ExtraReturns
 pub mod Cases
 pub mod ExtraCases
 pub mod RemovedCases

@@ -4,11 +4,11 @@ use mathlib.Core.Bool.{true}
 use mathlib.Core.List.{List, [], _∷_, _++_, flatMap}
 use Prim.Native.Nat.{ℕ, _+_, _-_}
 use native.Mathlib.Omega.{arith}
+use Rattle.polygons.proofs.Booleans.{split-and}
 use Rattle.geometry.specs.declared.rect.Rect.{Rect}
 use Rattle.geometry.specs.Cells.{nonEmpty, valid, allValid, area, rectOf}
 use Rattle.geometry.specs.Common.{overlap, unlessEmpty}
 use Rattle.geometry.specs.Cut.{xCeiling, xFloor, yCeiling, yFloor, pieces, cut, cutList, cutAll}
-use Rattle.geometry.proofs.Booleans.{split-and}
 use Rattle.area.specs.Removed.{removed, totalArea}
 use Rattle.area.proofs.CutAreas.{pieces-area}
 use Rattle.area.proofs.RemovedMore.{removed-none, removed-more, lacked-fewer}

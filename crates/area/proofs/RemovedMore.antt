@@ -5,6 +5,7 @@ use mathlib.Core.List.{List, [], _∷_, _++_}
 use Prim.Native.Nat.{_+_, _≤_}
 use native.Mathlib.Omega.{arith}
 use Rattle.polygons.specs.Lists.{any}
+use Rattle.polygons.proofs.Booleans.{neither-of}
 use Rattle.geometry.specs.declared.rect.Rect.{Rect}
 use Rattle.geometry.specs.Cells.{hasCell, anyHas}
 use Rattle.geometry.proofs.CellLaws.{has-append}
@@ -36,16 +37,6 @@ new false true false = refl
 new false false true = refl
 new false false false = refl
 
-outside : (a b d : Bool) → d && not b && not a ≡ d && not (b || a)
-outside true true true = refl
-outside true true false = refl
-outside true false true = refl
-outside true false false = refl
-outside false true true = refl
-outside false true false = refl
-outside false false true = refl
-outside false false false = refl
-
 module _ (l p : List Rect) (s : Rect) where
   -- the cells of s that p lacks: those that l has, and those that l lacks too
   lacked-split : lacked p s ≡ cellCount (λ c. hasCell s c && not (anyHas p c) && anyHas l c) + lacked (p ++ l) s
@@ -54,7 +45,7 @@ module _ (l p : List Rect) (s : Rect) where
       let a = count-split (λ c. hasCell s c && not (anyHas p c)) (anyHas l) in
       let b = count-same (λ c. hasCell s c && not (anyHas p c) && not (anyHas l c))
       (λ c. hasCell s c && not (anyHas (p ++ l) c))
-      (λ c. rw (has-append p l c) (outside (anyHas l c) (anyHas p c) (hasCell s c))) in
+      (λ c. rw (has-append p l c) (neither-of (hasCell s c) (anyHas p c) (anyHas l c))) in
       omega arith
 
   -- more rectangles lack no more cells

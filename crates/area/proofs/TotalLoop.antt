@@ -6,10 +6,10 @@ use Prim.Native.Nat.{ℕ, _+_, _*_, _≤_, _<_}
 use native.Mathlib.Nat.{add-zero}
 use native.Mathlib.Omega.{arith}
 use lib.ListN.{drop}
+use Rattle.polygons.proofs.Booleans.{split-and}
 use Rattle.geometry.specs.declared.rect.Rect.{Rect}
 use Rattle.geometry.specs.Cells.{valid, allValid, area}
 use Rattle.geometry.specs.Numbers.{rectAt, rectsIn}
-use Rattle.geometry.proofs.Booleans.{split-and}
 use Rattle.geometry.proofs.CellLaws.{valid-of}
 use Rattle.geometry.proofs.GrowLaws.{area-bound}
 use Rattle.geometry.proofs.NumberLaws.{rects-next, rects-end}

@@ -5,9 +5,9 @@ use mathlib.Core.Bool.{true, false}
 use mathlib.Core.List.{List, _++_, append-assoc}
 use native.Mathlib.Omega.{arith}
 use lib.ListN.{length, drop}
-use Rattle.session.specs.declared.stream.Progress.{Progress}
-use Rattle.session.specs.Response.{Lent, lent}
-use Rattle.session.specs.Stream.{LinesAnswered, commandsOf}
+use Rattle.line_program.specs.declared.stream.Progress.{Progress}
+use Rattle.line_program.specs.Response.{Lent, lent}
+use Rattle.line_program.specs.Stream.{LinesAnswered, commandsOf}
 use Rattle.bench.specs.declared.Rest.the-variants as R
 use Rattle.bench.specs.Served.{Served, AllServed}
 use Rattle.bench.proofs.ServedLaws.{none-served, lines-served}

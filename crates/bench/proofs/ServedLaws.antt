@@ -8,10 +8,10 @@ use lib.ListN.{length, take, drop, length-take}
 use Rattle.history.specs.Calls.{freshMemory}
 use Rattle.commands.specs.declared.parsing.Command.{Command}
 use Rattle.commands.specs.Commands.{commandOf}
-use Rattle.session.specs.declared.stream.Progress.{Progress}
-use Rattle.session.specs.Response.{Lent, lent, Responded}
-use Rattle.session.specs.Stream.{LinesAnswered, Session, start, lines, line, linesIn}
-use Rattle.session.proofs.LinesHistory.{session-history}
+use Rattle.line_program.specs.declared.stream.Progress.{Progress}
+use Rattle.line_program.specs.Response.{Lent, lent, Responded}
+use Rattle.line_program.specs.Stream.{LinesAnswered, Session, start, lines, line, linesIn}
+use Rattle.line_program.proofs.LinesHistory.{session-history}
 use Rattle.bench.specs.Served.{Served, LastServed, Claimed}
 
 -- no call yet, and one call more

@@ -11,8 +11,8 @@ use Rattle.bench.specs.declared.Rest.the-variants as R
 use Rattle.bench.specs.declared.Turn.{Turn}
 use Rattle.bench.specs.declared.Turn.the-variants as T
 use Rattle.history.specs.Calls.{freshMemory}
-use Rattle.session.specs.Response.{Lent, lent}
-use Rattle.session.specs.Stream.{Kept}
+use Rattle.line_program.specs.Response.{Lent, lent}
+use Rattle.line_program.specs.Stream.{Kept}
 use Rattle.bench.specs.Bounds.{Lengths}
 use Rattle.bench.specs.Served.{Served, Taken, TakenTo, AllServed, FirstServed, LastServed, TurnServed, Claimed}
 use Rattle.bench.proofs.ServedLaws.{none-served, then-served, served-claimed}

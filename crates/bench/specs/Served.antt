@@ -6,9 +6,9 @@ use mathlib.Core.Path.{_≡_}
 use lib.ListN.{length, take, drop}
 use Rattle.commands.specs.declared.parsing.Command.{Command}
 use Rattle.commands.specs.Commands.{commandOf}
-use Rattle.session.specs.Response.{Lent}
-use Rattle.session.specs.Stream.{Session, OnePiece, commandsOf, linesIn}
-use Rattle.session.specs.LinesClaim.{LinesClaim}
+use Rattle.line_program.specs.Response.{Lent}
+use Rattle.line_program.specs.Stream.{Session, OnePiece, commandsOf, linesIn}
+use Rattle.line_program.specs.LinesClaim.{LinesClaim}
 use Rattle.bench.specs.declared.Rest.{Rest}
 use Rattle.bench.specs.declared.Rest.the-variants as R
 use Rattle.bench.specs.declared.Turn.{Turn}

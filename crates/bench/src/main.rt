@@ -4,15 +4,15 @@ ghost use mathlib.Core.Path.{_≡_};
 ghost use Prim.Native.Nat.{_+_, _*_, _≤_};
 ghost use lib.ListN.{length, take};
 ghost use Rattle.history.specs.Calls.{freshMemory};
-ghost use Rattle.session.specs.Response.{lent};
+ghost use Rattle.line_program.specs.Response.{lent};
 ghost use Rattle.bench.specs.Bounds.{Lengths};
 ghost use Rattle.bench.specs.Served.{AllServed, FirstServed, LastServed, TurnServed, Claimed};
 use libc::STDERR_FILENO;
 use libc::STDIN_FILENO;
 use libc::STDOUT_FILENO;
-use session::answer_line;
-use session::answer_lines;
-use session::keep_rest;
+use line_program::answer_line;
+use line_program::answer_lines;
+use line_program::keep_rest;
 
 // What answering the whole lines of the input left.
 enum Rest {

@@ -1,9 +1,9 @@
 -- Lines and answers worked out: the definitions compute.
 use mathlib.Core.Path.{_≡_, refl}
 use mathlib.Core.List.{[], _∷_, map, flatMap}
-use Rattle.index.specs.declared.answer.Inserted.the-variants as I
-use Rattle.index.specs.declared.answer.PointFound.the-variants as P
-use Rattle.index.specs.declared.answer.WindowFound.the-variants as W
+use Rattle.answers.specs.declared.answer.Inserted.the-variants as I
+use Rattle.answers.specs.declared.answer.PointFound.the-variants as P
+use Rattle.answers.specs.declared.answer.WindowFound.the-variants as W
 use Rattle.commands.specs.declared.parsing.Command.the-variants.{Insert, Remove, Point, Window, Clear, Other}
 use Rattle.commands.specs.Split.{splitAt, putFirst}
 use Rattle.commands.specs.Fields.{isDigit, allDigits, decimalFrom, numberOf, withNumber, numbersOf}
@@ -36,7 +36,7 @@ pub insertions-written :
     I.Accepted 12 0
     ∷ I.Accepted 4294967295 4294967296
     ∷ I.Accepted 12 18446744073709551615
-    ∷ I.CellHeld
+    ∷ I.Held
     ∷ []
     )
     ≡ (73 ∷ 32 ∷ 48 ∷ 32 ∷ 49 ∷ 50 ∷ 32 ∷ 48 ∷ 10 ∷ [])

@@ -2,6 +2,6 @@ pub mod Cases
 pub mod SplitLoop
 pub mod NumberLoop
 pub mod FieldLoop
-pub mod CommandWays
+pub mod CommandReturns
 pub mod TextLaws
-pub mod AnswerWays
+pub mod AnswerReturns

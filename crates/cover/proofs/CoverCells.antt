@@ -7,12 +7,12 @@ use mathlib.Core.Logic.{⊎-elim}
 use native.Mathlib.Omega.{arith}
 use borrow.Author.Tests.{not-false, not-true}
 use Rattle.polygons.specs.Lists.{any}
+use Rattle.polygons.proofs.Booleans.{is-false, not-both, either, or-left, or-right, both, split-and}
 use Rattle.geometry.specs.declared.rect.Cell.{Cell}
 use Rattle.geometry.specs.declared.rect.Rect.{Rect}
 use Rattle.geometry.specs.Cells.{hasCell, nonEmpty, valid, allValid, anyHas}
 use Rattle.geometry.specs.Common.{overlap, sharesWith}
 use Rattle.geometry.specs.Cut.{cut, cutList, cutAll}
-use Rattle.geometry.proofs.Booleans.{is-false, not-both, either, or-left, or-right, both, split-and}
 use Rattle.geometry.proofs.CellLaws.{of-some, in-of, corner, corner-in, valid-some}
 use Rattle.geometry.proofs.CommonLaws.{overlap-cells, common-some}
 use Rattle.geometry.proofs.CutLaws.{cut-list-cons, cut-list-append, cut-all-cells, cut-all-valid}
@@ -24,21 +24,21 @@ none-is [] e = refl
 none-is (a ∷ l) e = absurd (false≢true e)
 
 -- the cells left of a rectangle
-left-cells : (p : List Rect) (r : Rect) (c : Cell) → anyHas (cutAll (r ∷ []) p) c ≡ hasCell r c && not (anyHas p c)
+remaining-cells : (p : List Rect) (r : Rect) (c : Cell) → anyHas (cutAll (r ∷ []) p) c ≡ hasCell r c && not (anyHas p c)
 unfolding anyHas any
-left-cells p r c = cut-all-cells (r ∷ []) p c ∙ rw or-false
+remaining-cells p r c = cut-all-cells (r ∷ []) p c ∙ rw or-false
 
 -- a covered rectangle's cells are cells of the polygon
 pub covered-cells : (p : List Rect) (r : Rect) → coveredBy p r ≡ true → (c : Cell) → hasCell r c ≡ true → anyHas p c ≡ true
 unfolding coveredBy anyHas any
 covered-cells p r e c h =
     let n : cutAll (r ∷ []) p ≡ [] = none-is _ e in
-    not-false _ (rw h at (sym (left-cells p r c) ∙ ap (λ l. anyHas l c) n))
+    not-false _ (rw h at (sym (remaining-cells p r c) ∙ ap (λ l. anyHas l c) n))
 
 -- a valid rectangle whose cells are cells of the polygon is covered
 pub cells-covered : (p : List Rect) (r : Rect) → valid r ≡ true → ((c : Cell) → hasCell r c ≡ true → anyHas p c ≡ true) → coveredBy p r ≡ true
 unfolding coveredBy allValid isNone anyHas any
-cells-covered p r v h = go (cutAll (r ∷ []) p) (cut-all-valid (r ∷ []) p (both _ _ v refl)) (left-cells p r)
+cells-covered p r v h = go (cutAll (r ∷ []) p) (cut-all-valid (r ∷ []) p (both _ _ v refl)) (remaining-cells p r)
   where
     go : (l : List Rect) → allValid l ≡ true → ((c : Cell) → anyHas l c ≡ hasCell r c && not (anyHas p c)) → isNone l ≡ true
     go [] w k = refl

@@ -8,6 +8,7 @@ use native.Mathlib.Omega.{arith}
 use borrow.Author.Tests.{lt-ltb, le-ltb, not-true}
 use lib.ListN.{drop}
 use Rattle.polygons.specs.Lists.{any}
+use Rattle.polygons.proofs.Booleans.{is-false, not-both, either, or-left, or-right, both, split-and}
 use Rattle.geometry.specs.declared.rect.Cell.{Cell}
 use Rattle.geometry.specs.declared.rect.Rect.{Rect}
 use Rattle.geometry.specs.Cells.{nonEmpty, hasCell, anyHas}
@@ -15,11 +16,10 @@ use Rattle.geometry.specs.Common.{overlap, unlessEmpty, sharesWith}
 use Rattle.geometry.specs.Cut.{xCeiling, xFloor, yCeiling, yFloor, pieces, cut}
 use Rattle.geometry.specs.Numbers.{rectAt, rectsIn}
 use Rattle.geometry.specs.Refine.{within}
-use Rattle.geometry.proofs.Booleans.{is-false, not-both, either, or-left, or-right, both, split-and}
 use Rattle.geometry.proofs.CellLaws.{some-of, of-some, corner, corner-in, within-cells}
 use Rattle.geometry.proofs.CutLaws.{uncut, cut-cells}
 use Rattle.geometry.proofs.NumberLaws.{rects-next, rects-end}
-use Rattle.cover.specs.Tests.{allPass, coveredBy, insideOf, apart, noneLeft, FirstShared}
+use Rattle.cover.specs.Tests.{allPass, coveredBy, insideOf, apart, noneRemaining, FirstShared}
 use Rattle.cover.proofs.CoverCells.{covered-none, covered-cons}
 use Rattle.cover.proofs.SkipLaws.{skipped-same}
 use Rattle.cover.proofs.PassLoops.{Passing, passing-start, passing-end, passing-stop, passing-on}
@@ -31,17 +31,17 @@ pass-append f (a ∷ l) k = ap (λ b. f a && b) (pass-append f l k) ∙ sym (and
 
 -- nothing of an empty rectangle is left
 module _ (p : List Rect) (r : Rect) where
-  pub left-flat : r .urx ≤ r .llx → true ≡ noneLeft p r
-  unfolding noneLeft unlessEmpty nonEmpty allPass
-  left-flat h = rw (le-ltb (r .llx) (r .urx) h)
+  pub remaining-flat : r .urx ≤ r .llx → true ≡ noneRemaining p r
+  unfolding noneRemaining unlessEmpty nonEmpty allPass
+  remaining-flat h = rw (le-ltb (r .llx) (r .urx) h)
 
-  pub left-low : r .llx < r .urx → r .ury ≤ r .lly → true ≡ noneLeft p r
-  unfolding noneLeft unlessEmpty nonEmpty allPass
-  left-low h k = rw (lt-ltb (r .llx) (r .urx) h, le-ltb (r .lly) (r .ury) k)
+  pub remaining-low : r .llx < r .urx → r .ury ≤ r .lly → true ≡ noneRemaining p r
+  unfolding noneRemaining unlessEmpty nonEmpty allPass
+  remaining-low h k = rw (lt-ltb (r .llx) (r .urx) h, le-ltb (r .lly) (r .ury) k)
 
-  left-some : r .llx < r .urx → r .lly < r .ury → noneLeft p r ≡ coveredBy p r
-  unfolding noneLeft unlessEmpty nonEmpty allPass
-  left-some h k = rw (lt-ltb (r .llx) (r .urx) h, lt-ltb (r .lly) (r .ury) k) (and-true (coveredBy p r))
+  remaining-some : r .llx < r .urx → r .lly < r .ury → noneRemaining p r ≡ coveredBy p r
+  unfolding noneRemaining unlessEmpty nonEmpty allPass
+  remaining-some h k = rw (lt-ltb (r .llx) (r .urx) h, lt-ltb (r .lly) (r .ury) k) (and-true (coveredBy p r))
 
 -- the pieces of a cut are not empty
 some-unless-empty : (r : Rect) → allPass nonEmpty (unlessEmpty r) ≡ true
@@ -94,11 +94,11 @@ covered-apart r s p e = covered-cons s p r ∙ rw (uncut r s e) (and-true (cover
 -- what is left of a rectangle that is not empty, from the i₀-th of n rectangles on, of which the i-th is the next to cut
 module _ (m : List ℕ) (n i₀ i : ℕ) (r : Rect) (x : r .llx < r .urx) (y : r .lly < r .ury) (v : FirstShared m n r i₀ i) where
   -- the rectangles before are passed over
-  left-passed : (p : List Rect) → drop i (rectsIn m n) ≡ p → noneLeft (drop i₀ (rectsIn m n)) r ≡ coveredBy p r
-  left-passed p e = left-some _ r x y ∙ skipped-same m n r (λ q. coveredBy q r) (covered-apart r) i₀ i (v .skipped) ∙ ap (λ q. coveredBy q r) e
+  remaining-passed : (p : List Rect) → drop i (rectsIn m n) ≡ p → noneRemaining (drop i₀ (rectsIn m n)) r ≡ coveredBy p r
+  remaining-passed p e = remaining-some _ r x y ∙ skipped-same m n r (λ q. coveredBy q r) (covered-apart r) i₀ i (v .skipped) ∙ ap (λ q. coveredBy q r) e
 
-  pub left-end : n ≤ i → false ≡ noneLeft (drop i₀ (rectsIn m n)) r
-  left-end h = sym (left-passed [] (rects-end m n i h) ∙ covered-none r)
+  pub remaining-end : n ≤ i → false ≡ noneRemaining (drop i₀ (rectsIn m n)) r
+  remaining-end h = sym (remaining-passed [] (rects-end m n i h) ∙ covered-none r)
 
   module _ (s : Rect) (h : i < n) (e : s ≡ rectAt m i) where
     later : List Rect
@@ -108,47 +108,47 @@ module _ (m : List ℕ) (n i₀ i : ℕ) (r : Rect) (x : r .llx < r .urx) (y : r
     unfolding later
     next-is = rects-next m n i h ∙ ap (λ q. q ∷ drop (i + 1) (rectsIn m n)) (sym e)
 
-    pub left-within : (b : Bool) → b ≡ within r s → b ≡ true → true ≡ noneLeft (drop i₀ (rectsIn m n)) r
+    pub remaining-within : (b : Bool) → b ≡ within r s → b ≡ true → true ≡ noneRemaining (drop i₀ (rectsIn m n)) r
     unfolding any
-    left-within b g f =
+    remaining-within b g f =
         covered-within (s ∷ later) r true x y (sym (or-left (within r s) (any (within r) later) (sym g ∙ f))) refl
-        ∙ sym (left-passed (s ∷ later) next-is)
+        ∙ sym (remaining-passed (s ∷ later) next-is)
 
     -- the pieces of the cut are tested one after another
-    left-pieces : noneLeft (drop i₀ (rectsIn m n)) r
-        ≡ noneLeft later (xCeiling r s) && noneLeft later (xFloor r s) && noneLeft later (yCeiling r s) && noneLeft later (yFloor r s)
-    unfolding cut pieces noneLeft sharesWith
-    left-pieces =
+    remaining-pieces : noneRemaining (drop i₀ (rectsIn m n)) r
+        ≡ noneRemaining later (xCeiling r s) && noneRemaining later (xFloor r s) && noneRemaining later (yCeiling r s) && noneRemaining later (yFloor r s)
+    unfolding cut pieces noneRemaining sharesWith
+    remaining-pieces =
         let o : nonEmpty (overlap r s) ≡ true = rw e (v .shares h) in
-        left-passed (s ∷ later) next-is ∙ covered-cons s later r ∙ rw o (simp pass-append)
+        remaining-passed (s ∷ later) next-is ∙ covered-cons s later r ∙ rw o (simp pass-append)
 
-    module _ (p : Rect) (a : Bool) (ep : p ≡ xCeiling r s) (ea : a ≡ noneLeft (drop (i + 1) (rectsIn m n)) p) where
-      ceiling-x : a ≡ noneLeft later (xCeiling r s)
+    module _ (p : Rect) (a : Bool) (ep : p ≡ xCeiling r s) (ea : a ≡ noneRemaining (drop (i + 1) (rectsIn m n)) p) where
+      ceiling-x : a ≡ noneRemaining later (xCeiling r s)
       unfolding later
       ceiling-x = rw (← ep) ea
 
-      pub left-stop-1 : a ≡ false → false ≡ noneLeft (drop i₀ (rectsIn m n)) r
-      left-stop-1 f = rw (left-pieces, ← ceiling-x, f)
+      pub remaining-stop-1 : a ≡ false → false ≡ noneRemaining (drop i₀ (rectsIn m n)) r
+      remaining-stop-1 f = rw (remaining-pieces, ← ceiling-x, f)
 
-      module _ (fa : a ≡ true) (q : Rect) (b : Bool) (eq : q ≡ xFloor r s) (eb : b ≡ noneLeft (drop (i + 1) (rectsIn m n)) q) where
-        floor-x : b ≡ noneLeft later (xFloor r s)
+      module _ (fa : a ≡ true) (q : Rect) (b : Bool) (eq : q ≡ xFloor r s) (eb : b ≡ noneRemaining (drop (i + 1) (rectsIn m n)) q) where
+        floor-x : b ≡ noneRemaining later (xFloor r s)
         unfolding later
         floor-x = rw (← eq) eb
 
-        pub left-stop-2 : b ≡ false → false ≡ noneLeft (drop i₀ (rectsIn m n)) r
-        left-stop-2 f = rw (left-pieces, ← ceiling-x, ← floor-x, fa, f)
+        pub remaining-stop-2 : b ≡ false → false ≡ noneRemaining (drop i₀ (rectsIn m n)) r
+        remaining-stop-2 f = rw (remaining-pieces, ← ceiling-x, ← floor-x, fa, f)
 
-        module _ (fb : b ≡ true) (t : Rect) (c : Bool) (et : t ≡ yCeiling r s) (ec : c ≡ noneLeft (drop (i + 1) (rectsIn m n)) t) where
-          ceiling-y : c ≡ noneLeft later (yCeiling r s)
+        module _ (fb : b ≡ true) (t : Rect) (c : Bool) (et : t ≡ yCeiling r s) (ec : c ≡ noneRemaining (drop (i + 1) (rectsIn m n)) t) where
+          ceiling-y : c ≡ noneRemaining later (yCeiling r s)
           unfolding later
           ceiling-y = rw (← et) ec
 
-          pub left-stop-3 : c ≡ false → false ≡ noneLeft (drop i₀ (rectsIn m n)) r
-          left-stop-3 f = rw (left-pieces, ← ceiling-x, ← floor-x, ← ceiling-y, fa, fb, f)
+          pub remaining-stop-3 : c ≡ false → false ≡ noneRemaining (drop i₀ (rectsIn m n)) r
+          remaining-stop-3 f = rw (remaining-pieces, ← ceiling-x, ← floor-x, ← ceiling-y, fa, fb, f)
 
-          pub left-last : (u : Rect) (d : Bool) → c ≡ true → u ≡ yFloor r s → d ≡ noneLeft (drop (i + 1) (rectsIn m n)) u → d ≡ noneLeft (drop i₀ (rectsIn m n)) r
+          pub remaining-last : (u : Rect) (d : Bool) → c ≡ true → u ≡ yFloor r s → d ≡ noneRemaining (drop (i + 1) (rectsIn m n)) u → d ≡ noneRemaining (drop i₀ (rectsIn m n)) r
           unfolding later
-          left-last u d f eu ed = rw (left-pieces, ← ceiling-x, ← floor-x, ← ceiling-y, fa, fb, f, ← eu) ed
+          remaining-last u d f eu ed = rw (remaining-pieces, ← ceiling-x, ← floor-x, ← ceiling-y, fa, fb, f, ← eu) ed
 
 -- an empty rectangle is not covered: no rectangle cuts it
 module _ (r : Rect) (e : nonEmpty r ≡ false) where
@@ -173,8 +173,8 @@ module _ (m : List ℕ) (n : ℕ) (r : Rect) where
   unfolding nonEmpty
   covered-low h k = covered-empty r (rw (lt-ltb (r .llx) (r .urx) h, le-ltb (r .lly) (r .ury) k)) (rectsIn m n)
 
-  pub covered-whole : (b : Bool) → r .llx < r .urx → r .lly < r .ury → b ≡ noneLeft (drop 0 (rectsIn m n)) r → b ≡ coveredBy (rectsIn m n) r
-  covered-whole b x y e = e ∙ left-some (rectsIn m n) r x y
+  pub covered-whole : (b : Bool) → r .llx < r .urx → r .lly < r .ury → b ≡ noneRemaining (drop 0 (rectsIn m n)) r → b ≡ coveredBy (rectsIn m n) r
+  covered-whole b x y e = e ∙ remaining-some (rectsIn m n) r x y
 
 -- whether a list is inside a polygon, rectangle by rectangle
 pub record Insides (p : List Rect) (q : List ℕ) (k i : ℕ) (w : Bool) : Type 0 where

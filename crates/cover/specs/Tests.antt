@@ -39,8 +39,8 @@ unfoldable pub apart : List Rect → List Rect → Bool
 apart p q = allPass (λ r. not (any (sharesWith r) q)) p
 
 -- nothing of r, which may be empty, is left
-unfoldable pub noneLeft : List Rect → Rect → Bool
-noneLeft p r = allPass (coveredBy p) (unlessEmpty r)
+unfoldable pub noneRemaining : List Rect → Rect → Bool
+noneRemaining p r = allPass (coveredBy p) (unlessEmpty r)
 
 -- the rectangles from the i-th to before the j-th of n share no cell with r, so they cut nothing of it
 pub record Skipped (m : List ℕ) (n : ℕ) (r : Rect) (i j : ℕ) : Type 0 where

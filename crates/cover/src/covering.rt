@@ -3,7 +3,7 @@ ghost use mathlib.Core.Path.{_≡_};
 ghost use Prim.Native.Nat.{_+_, _*_, _≤_};
 ghost use lib.ListN.{length, drop};
 ghost use Rattle.geometry.specs.Numbers.{rectsIn};
-ghost use Rattle.cover.specs.Tests.{coveredBy, insideOf, noneLeft, FirstShared};
+ghost use Rattle.cover.specs.Tests.{coveredBy, insideOf, noneRemaining, FirstShared};
 use geometry::Rect;
 use geometry::is_within_any;
 use geometry::rect_at;
@@ -26,10 +26,10 @@ pub fn first_shared(rects: &[u32], n: usize, i: usize, r: Rect) -> usize
 }
 
 // Whether nothing of r, which may be empty, is left when the rectangles from the i-th on are cut out.
-fn none_left(rects: &[u32], n: usize, i: usize, r: Rect) -> bool
+fn none_remaining(rects: &[u32], n: usize, i: usize, r: Rect) -> bool
     requires { ⌜ i ≤ n ⌝ }
     requires { ⌜ 4 * n ≤ length (now rects) ⌝ }
-    ensures { λ b. ⌜ b ≡ noneLeft (drop i (rectsIn (now (rects .entry)) n)) r ⌝ }
+    ensures { λ b. ⌜ b ≡ noneRemaining (drop i (rectsIn (now (rects .entry)) n)) r ⌝ }
 {
     if r.urx <= r.llx {
         return true;
@@ -45,16 +45,16 @@ fn none_left(rects: &[u32], n: usize, i: usize, r: Rect) -> bool
     if r.is_within(s) {
         return true;
     }
-    if !none_left(rects, n, j + 1, r.x_ceiling(s)) {
+    if !none_remaining(rects, n, j + 1, r.x_ceiling(s)) {
         return false;
     }
-    if !none_left(rects, n, j + 1, r.x_floor(s)) {
+    if !none_remaining(rects, n, j + 1, r.x_floor(s)) {
         return false;
     }
-    if !none_left(rects, n, j + 1, r.y_ceiling(s)) {
+    if !none_remaining(rects, n, j + 1, r.y_ceiling(s)) {
         return false;
     }
-    none_left(rects, n, j + 1, r.y_floor(s))
+    none_remaining(rects, n, j + 1, r.y_floor(s))
 }
 
 // Whether the cells of r are among those of the first n rectangles; an empty r is refused.
@@ -72,7 +72,7 @@ pub fn covered(rects: &[u32], n: usize, r: Rect) -> bool
     if is_within_any(rects, n, r) {
         return true;
     }
-    none_left(rects, n, 0, r)
+    none_remaining(rects, n, 0, r)
 }
 
 // Whether the cells of the first k rectangles of q are among those of the first n of p.

@@ -11,11 +11,11 @@ use borrow.Author.Tests.{eqb-true, eqb-false}
 use Rattle.polygons.specs.Lists.{least}
 use Rattle.polygons.specs.Rules.{leastDistance}
 use Rattle.polygons.proofs.LeastLaws.{least-append}
+use Rattle.polygons.proofs.Booleans.{split-and}
 use Rattle.geometry.specs.declared.rect.Cell.{Cell}
 use Rattle.geometry.specs.declared.rect.Rect.{Rect}
 use Rattle.geometry.specs.Cells.{valid, allValid}
 use Rattle.geometry.specs.Numbers.{rectAt, rectsIn}
-use Rattle.geometry.proofs.Booleans.{split-and}
 use Rattle.geometry.proofs.CellLaws.{valid-append}
 use Rattle.distance.specs.Distance.{rectDistance}
 

@@ -1,3 +1,3 @@
 pub mod DistanceLaws
-pub mod CodeWays
+pub mod CodeReturns
 pub mod LeastLoop

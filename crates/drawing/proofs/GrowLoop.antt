@@ -19,7 +19,7 @@ use Rattle.drawing.specs.declared.answer.Extra.the-variants.{Area, Unfit
 use Rattle.drawing.specs.Arguments.{given, isList, isResult}
 use Rattle.drawing.specs.Answers.{Drawn, extraOf}
 use Rattle.drawing.specs.Calls.{grownTo, growDrawn, validExtra, extraDrawn}
-use Rattle.drawing.proofs.Ways.{list-few, valid-three, wrote}
+use Rattle.drawing.proofs.Returns.{list-few, valid-three, wrote}
 
 -- The first i of n rectangles are written, grown; the numbers behind them are as they were.
 pub record Growing (list : List ℕ) (n : ℕ) (c : Cell) (out₀ out : List ℕ) (i : ℕ) : Type 0 where

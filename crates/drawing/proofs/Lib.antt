@@ -1,7 +1,7 @@
-pub mod Ways
+pub mod Returns
 pub mod GrowLoop
-pub mod PolygonCutWays
-pub mod ContainsWays
-pub mod ExportWays
-pub mod WkbWays
+pub mod PolygonCutReturns
+pub mod ContainsReturns
+pub mod ExportReturns
+pub mod WkbReturns
 pub mod WkbClaimed

@@ -20,7 +20,7 @@ use Rattle.geometry.specs.Cells.{noRect, valid}
 use Rattle.geometry.specs.Numbers.{rectAt}
 use Rattle.geometry.proofs.CellLaws.{valid-at}
 use Rattle.geometry.proofs.NumberLaws.{length-rects, rects-at}
-use Rattle.wkb.specs.Collection.{collectionBytes, ring, wkbLength}
+use Rattle.wkb.specs.Collection.{collectionBytes, wkbLength}
 use Rattle.wkb.proofs.CollectionLaws.{length-collection}
 use Rattle.wkb.proofs.ReadLaws.{collection-read}
 use Rattle.wkb.proofs.RingLaws.{ring-runs}
@@ -29,7 +29,7 @@ use Rattle.drawing.specs.declared.answer.Wkb.the-variants.{Bytes, BadPol
 use Rattle.drawing.specs.Arguments.{given, isList}
 use Rattle.drawing.specs.Wkb.{wkbOf, wkbAnswer, outputOf, wkbNumber, lengthReported, WkbExported}
 use Rattle.drawing.specs.WkbClaim.{WkbClaim}
-use Rattle.drawing.proofs.Ways.{list-few, list-valid}
+use Rattle.drawing.proofs.Returns.{list-few, list-valid}
 use Rattle.drawing.proofs.exports.lintzoger_wkb as wkb-fn
 use Rattle.drawing.proofs.exports.lintzoger_wkb.Reads as wkb
 use Rattle.drawing.proofs.exports.lintzoger_wkb.Kinds as wkb-kinds

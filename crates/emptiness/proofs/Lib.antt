@@ -1,4 +1,4 @@
 pub mod MatchRows
 pub mod MatchLeaf
 pub mod MatchLoop
-pub mod CallWays
+pub mod CallReturns

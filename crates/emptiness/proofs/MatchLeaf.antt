@@ -10,8 +10,8 @@ use Rattle.memory.specs.Layout.{part, entryIn}
 use Rattle.layout.specs.declared.node.Node.{Node}
 use Rattle.layout.specs.Loaded.{nodeIn, nodeEntry}
 use Rattle.layout.specs.Nodes.{NodePart}
-use Rattle.index.specs.Walks.{insideTest, leafEntries, Walkable}
-use Rattle.index.proofs.WalkLeaf.{AtEntry, entry-miss, entry-hit, entry-end, loaded-start, entry-small, entry-test}
+use Rattle.walks.specs.Walks.{insideTest, leafEntries, Walkable}
+use Rattle.walks.proofs.WalkLeaf.{AtEntry, entry-miss, entry-hit, entry-end, loaded-start, entry-small, entry-test}
 use Rattle.emptiness.specs.Below.{toMatchBelow, walked}
 use Rattle.emptiness.proofs.MatchRows.{leaf-walk}
 

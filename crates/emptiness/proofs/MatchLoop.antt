@@ -10,15 +10,13 @@ use Rattle.geometry.specs.declared.rect.Rect.{Rect}
 use Rattle.tree.specs.Emptiness.{ToMatch}
 use Rattle.tree.proofs.Emptiness.{toBranch}
 use Rattle.plane.specs.Lines.{CellEntry}
-use Rattle.plane.specs.Plane.{planeSpace}
-use Rattle.plane.specs.Windows.{planeWindow}
 use Rattle.memory.specs.Layout.{part, polygonIn, childrenIn}
-use Rattle.memory.specs.Fanout.{fanout}
+use Rattle.plane.specs.Fanout.{indexSpace, indexWindow}
 use Rattle.layout.specs.Nodes.{childAt, countAt}
-use Rattle.index.specs.Walks.{meetsTest, insideTest, visitsBelow, matchesBelow, Walkable}
-use Rattle.index.proofs.WalkRows.{RowWalkable}
-use Rattle.index.proofs.FoldRows.{fold-none}
-use Rattle.index.proofs.WalkLoop.{AtChild, nothing-left, child-start, child-miss, child-hit, child-walkable, next-child}
+use Rattle.walks.specs.Walks.{meetsTest, insideTest, visitsBelow, matchesBelow, Walkable}
+use Rattle.walks.proofs.WalkRows.{RowWalkable}
+use Rattle.walks.proofs.FoldRows.{fold-none}
+use Rattle.walks.proofs.WalkLoop.{AtChild, nothing-left, child-start, child-miss, child-hit, child-walkable, next-child}
 use Rattle.emptiness.specs.declared.below.Walked.{Walked}
 use Rattle.emptiness.specs.Below.{toMatchBelow, walked}
 use Rattle.emptiness.proofs.MatchRows.{toMatchRow, childToMatch, row-walk, row-found, node-walk, walk-bound, child-passed, child-entered}
@@ -61,7 +59,7 @@ module _ (w : Rect) (level : ℕ) (m : List ℕ) (lo k v n : ℕ) where
     pub match-end : n ≤ i → record { found = false; visits = so } ≡ walked (toMatchBelow w level m lo k v)
     match-end h =
         let e = nothing-left (meetsTest w) (insideTest w) level m lo k n i low (x .vs) (x .es) (x .at) h in
-        let t = toBranch (planeSpace fanout) (planeWindow fanout) w (level - 1) in
+        let t = toBranch indexSpace indexWindow w (level - 1) in
         let f = fold-none (level - 1) t m low k (noMatch so) in
         ap walked (sym f
         ∙ ap (λ (ks : List ℕ). toMatchRow w (level - 1) m low k ks (noMatch so)) (sym e) ∙ x .whole)

@@ -11,21 +11,19 @@ use Rattle.tree.specs.Query.{matching}
 use Rattle.tree.specs.Emptiness.{ToMatch, nodeToMatch}
 use Rattle.tree.proofs.Any.{kept-any}
 use Rattle.tree.proofs.Emptiness.{toBranch, stays-found, few-below}
-use Rattle.plane.specs.Plane.{planeSpace}
-use Rattle.plane.specs.Windows.{planeWindow}
 use Rattle.memory.specs.Layout.{part, polygonIn, childrenIn}
 use Rattle.memory.specs.Reading.{readRow, readNode}
-use Rattle.memory.specs.Fanout.{fanout}
+use Rattle.plane.specs.Fanout.{fanout, indexSpace, indexWindow}
 use Rattle.memory.proofs.ReadingLaws.{leaf-parts, node-parts}
-use Rattle.index.specs.Walks.{meetsTest, insideTest, visitsBelow, visitsFrom, leafEntries, Walkable}
-use Rattle.index.proofs.WalkRows.{RowWalkable}
-use Rattle.index.proofs.FoldRows.{foldRow, rowFold, fold-first}
+use Rattle.walks.specs.Walks.{meetsTest, insideTest, visitsBelow, visitsFrom, leafEntries, Walkable}
+use Rattle.walks.proofs.WalkRows.{RowWalkable}
+use Rattle.walks.proofs.FoldRows.{foldRow, rowFold, fold-first}
 use Rattle.emptiness.specs.Below.{toMatchFrom, toMatchBelow}
 
 module _ (w : Rect) where
   -- a row of children by their parts, from how far the walk has come
   abbrev pub toMatchRow : ℕ → List ℕ → ℕ → ℕ → List ℕ → ToMatch → ToMatch
-  toMatchRow n m lo hi ks u = foldRow n (toBranch (planeSpace fanout) (planeWindow fanout) w n) m lo hi ks u
+  toMatchRow n m lo hi ks u = foldRow n (toBranch indexSpace indexWindow w n) m lo hi ks u
 
   -- the child at part j
   unfoldable pub childToMatch : ℕ → List ℕ → ℕ → ℕ → ToMatch → ToMatch
@@ -36,8 +34,8 @@ module _ (w : Rect) where
       → toMatchRow n m lo hi (j ∷ ks) u ≡ toMatchRow n m (j + 1) hi ks (childToMatch n m lo j u)
   unfolding childToMatch toMatchBelow toMatchFrom meetsTest
   row-walk n m lo hi j ks u v =
-      let r = fold-first n (toBranch (planeSpace fanout) (planeWindow fanout) w n) m lo hi j ks v in
-      let e : toBranch (planeSpace fanout) (planeWindow fanout) w n u (r .child) ≡ childToMatch n m lo j u
+      let r = fold-first n (toBranch indexSpace indexWindow w n) m lo hi j ks v in
+      let e : toBranch indexSpace indexWindow w n u (r .child) ≡ childToMatch n m lo j u
       = rw (r .reads, ← (r .polygon)) in
       r .folds u ∙ ap (toMatchRow n m (j + 1) hi ks) e
 
@@ -47,10 +45,10 @@ module _ (w : Rect) where
   unfolding foldRow rowFold
   row-found n m lo hi ks u h = go (readRow (readNode fanout n m) lo hi ks)
     where
-      go : (o : Option (List (Item (planeSpace fanout) (suc n))))
-          → rowFold n (toBranch (planeSpace fanout) (planeWindow fanout) w n) u o ≡ u
+      go : (o : Option (List (Item indexSpace (suc n))))
+          → rowFold n (toBranch indexSpace indexWindow w n) u o ≡ u
       go none = refl
-      go (some bs) = stays-found (planeSpace fanout) (planeWindow fanout) w n u bs h
+      go (some bs) = stays-found indexSpace indexWindow w n u bs h
 
   pub child-passed : (n : ℕ) (m : List ℕ) (lo j v : ℕ) → meetsTest w (polygonIn (part m j)) ≡ false
       → childToMatch n m lo j (record { found = false; entered = v }) ≡ record { found = false; entered = v }
@@ -68,7 +66,7 @@ module _ (w : Rect) where
   unfolding toMatchBelow toMatchFrom nodeToMatch leafEntries insideTest
   leaf-walk m lo k v x =
       let p = leaf-parts fanout m lo k (x .node) (x .reads) in
-      let k = kept-any (matching (planeSpace fanout) (planeWindow fanout) w) _ in
+      let k = kept-any (matching indexSpace indexWindow w) _ in
       rw (x .reads, p .entries) (ap (λ (b : Bool). record { found = b; entered = suc v }) (sym k))
 
   -- a routing node
@@ -84,4 +82,4 @@ module _ (w : Rect) where
   pub walk-bound : (n : ℕ) (m : List ℕ) (lo k v : ℕ) → Walkable n m lo k
       → toMatchBelow w n m lo k v .entered ≤ v + visitsBelow (meetsTest w) n m lo k
   unfolding toMatchBelow toMatchFrom visitsBelow visitsFrom meetsTest
-  walk-bound n m lo k v x = rw (x .reads) (few-below (planeSpace fanout) (planeWindow fanout) w n v (x .node .child))
+  walk-bound n m lo k v x = rw (x .reads) (few-below indexSpace indexWindow w n v (x .node .child))

@@ -6,16 +6,14 @@ use mathlib.Core.Option.{Option, none, some}
 use Rattle.geometry.specs.declared.rect.Rect.{Rect}
 use Rattle.tree.specs.Nodes.{Item}
 use Rattle.tree.specs.Emptiness.{ToMatch, nodeToMatch}
-use Rattle.plane.specs.Plane.{planeSpace}
-use Rattle.plane.specs.Windows.{planeWindow}
 use Rattle.memory.specs.Reading.{readNode}
-use Rattle.memory.specs.Fanout.{fanout}
+use Rattle.plane.specs.Fanout.{fanout, indexSpace, indexWindow}
 use Rattle.emptiness.specs.declared.below.Walked.{Walked}
 
 -- the walk below a node, after v others; where nothing reads, nothing is entered
-unfoldable pub toMatchFrom : Rect → (n : ℕ) → ℕ → Option (Item (planeSpace fanout) (suc n)) → ToMatch
+unfoldable pub toMatchFrom : Rect → (n : ℕ) → ℕ → Option (Item indexSpace (suc n)) → ToMatch
 toMatchFrom w n v none = record { found = false; entered = v }
-toMatchFrom w n v (some b) = nodeToMatch (planeSpace fanout) (planeWindow fanout) w n v (b .child)
+toMatchFrom w n v (some b) = nodeToMatch indexSpace indexWindow w n v (b .child)
 
 -- the walk below the node at part k, whose leaves are n steps below it
 unfoldable pub toMatchBelow : Rect → ℕ → List ℕ → ℕ → ℕ → ℕ → ToMatch

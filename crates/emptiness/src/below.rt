@@ -1,14 +1,14 @@
 // The walk for the first entry in a window.
 ghost use mathlib.Core.Path.{_≡_};
 ghost use Prim.Native.Nat.{_+_, _≤_};
-ghost use Rattle.index.specs.Walks.{meetsTest, visitsBelow, Walkable};
+ghost use Rattle.walks.specs.Walks.{meetsTest, visitsBelow, Walkable};
 ghost use Rattle.emptiness.specs.Below.{toMatchBelow, walked};
 use crate::leaf::match_in_leaf;
 use geometry::Rect;
-use index::polygon_meets;
 use layout::child;
 use layout::node_at;
 use layout::part_at;
+use walks::polygon_meets;
 
 // How far the walk has come: whether it met an entry in the window, and the nodes that it entered.
 pub struct Walked {

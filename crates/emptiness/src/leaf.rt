@@ -2,10 +2,10 @@
 ghost use mathlib.Core.Path.{_≡_};
 ghost use Rattle.tree.specs.Lists.{notEmpty};
 ghost use Rattle.layout.specs.Nodes.{NodePart};
-ghost use Rattle.index.specs.Walks.{insideTest, leafEntries};
+ghost use Rattle.walks.specs.Walks.{insideTest, leafEntries};
 use geometry::Rect;
-use index::is_inside;
 use layout::Node;
+use walks::is_inside;
 
 // Whether an entry of a leaf's part is in the window. It looks at the entries up to the first that is.
 pub fn match_in_leaf(p: &[u32], w: Rect) -> bool

@@ -4,4 +4,4 @@ mod leaf;
 mod query;
 
 pub use query::is_empty;
-pub use query::is_empty_opened;
+pub use query::is_empty_known;

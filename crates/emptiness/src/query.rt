@@ -1,16 +1,17 @@
 // The emptiness query on lent memory.
 ghost use mathlib.Core.Path.{_≡_};
 ghost use Rattle.memory.specs.Reading.{reading};
-ghost use Rattle.memory.specs.Fanout.{fanout};
-ghost use Rattle.index.specs.Answers.{emptyRead, emptyAnswer};
-ghost use Rattle.index.specs.Open.{TreeIn, OpenedAs};
+ghost use Rattle.plane.specs.Fanout.{fanout};
+ghost use Rattle.answers.specs.Answers.{emptyRead, emptyAnswer};
+ghost use Rattle.memory.specs.TreeIn.{TreeIn, Known};
+ghost use Rattle.soundness.specs.Open.{OpenedAs};
 use crate::below::match_below;
+use answers::EmptyFound;
 use geometry::Rect;
-use index::EmptyFound;
-use index::Opened;
-use index::open;
-use index::polygon_meets;
-use layout::right_length;
+use layout::is_index_length;
+use soundness::Opened;
+use soundness::open_known;
+use walks::polygon_meets;
 
 // The emptiness query of the tree in a memory: its root is entered if its polygon shares a cell with the window.
 fn empty_in_tree(m: &[u32], level: u32, root: u32, w: Rect) -> EmptyFound
@@ -29,13 +30,13 @@ fn empty_in_tree(m: &[u32], level: u32, root: u32, w: Rect) -> EmptyFound
 }
 
 // The emptiness query of an opened memory, its window tested.
-fn empty_read(m: &[u32], opened: Opened, w: Rect) -> EmptyFound
+fn empty_opened(m: &[u32], opened: Opened, w: Rect) -> EmptyFound
     requires { ⌜ OpenedAs (now m) opened ⌝ }
     ensures { λ r. ⌜ r ≡ emptyRead w (reading fanout (now (m .entry))) ⌝ }
 {
     match opened {
-        Opened::NoTree => {
-            return EmptyFound::NoTree;
+        Opened::NoSoundTree => {
+            return EmptyFound::NoSoundTree;
         }
         Opened::Empty => {
             return EmptyFound::Empty { visits: 0 };
@@ -50,25 +51,19 @@ fn empty_read(m: &[u32], opened: Opened, w: Rect) -> EmptyFound
 pub fn is_empty(m: &[u32], w: Rect) -> EmptyFound
     ensures { λ r. ⌜ r ≡ emptyAnswer (now (m .entry)) w ⌝ }
 {
-    if !right_length(m) {
-        return EmptyFound::WrongLength;
-    }
-    if !w.is_valid() {
-        return EmptyFound::BadWindow;
-    }
-    empty_read(m, open(m), w)
+    is_empty_known(m, false, w)
 }
 
-// The same with a memory that was opened before, so that it is not tested again.
-pub fn is_empty_opened(m: &[u32], opened: Opened, w: Rect) -> EmptyFound
-    requires { ⌜ OpenedAs (now m) opened ⌝ }
+// The same; a memory that is known to read as an index is not tested.
+pub fn is_empty_known(m: &[u32], known: bool, w: Rect) -> EmptyFound
+    requires { ⌜ Known (now m) known ⌝ }
     ensures { λ r. ⌜ r ≡ emptyAnswer (now (m .entry)) w ⌝ }
 {
-    if !right_length(m) {
+    if !is_index_length(m) {
         return EmptyFound::WrongLength;
     }
     if !w.is_valid() {
-        return EmptyFound::BadWindow;
+        return EmptyFound::Invalid;
     }
-    empty_read(m, opened, w)
+    empty_opened(m, open_known(m, known), w)
 }

@@ -14,7 +14,7 @@ use Rattle.geometry.specs.Common.{commonPart, unlessEmpty, common, share
 use Rattle.geometry.specs.Cut.{xCeiling, xFloor, yCeiling, yFloor, pieces, cut}
 use Rattle.geometry.specs.Numbers.{rectsIn, putAt, Appended}
 use Rattle.geometry.proofs.NumberLaws.{put-behind, length-put, length-rects}
-use Rattle.geometry.proofs.RectWays.{is-part, is-nothing}
+use Rattle.geometry.proofs.RectReturns.{is-part, is-nothing}
 
 module _ (m : List ℕ) (n : ℕ) where
   -- nothing is written

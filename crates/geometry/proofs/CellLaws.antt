@@ -1,20 +1,20 @@
 -- Cells of rectangles and of lists of rectangles; valid rectangles.
 use mathlib.Core.Path.{_≡_, refl, sym, _∙_, ap}
 use mathlib.Core.Bool.{Bool, true, false, _&&_, _||_, cond, or-assoc, or-false, or-true, and-assoc, and-or-distrib-right}
-use mathlib.Core.List.{List, [], _∷_, _++_, flatMap, append-assoc}
+use mathlib.Core.List.{List, [], _∷_, _++_, flatMap}
 use Prim.Native.Nat.{ℕ, suc, _+_, _≤_, _<_}
 use native.Mathlib.Omega.{arith}
 use native.Mathlib.Numerals.{add-one}
 use borrow.Author.Tests.{le-leb, lt-ltb, leb-true, ltb-true}
-use lib.ListN.{length, take, drop, getD, length-append, take-append-drop}
+use lib.ListN.{length, take, drop, getD, take-append-drop}
 use lib.Seq.{split-at, drop-cons}
 use Rattle.polygons.specs.Lists.{any}
+use Rattle.polygons.proofs.Booleans.{is-false, not-both, both, split-and, all4}
 use Rattle.geometry.specs.declared.rect.Cell.{Cell}
 use Rattle.geometry.specs.declared.rect.Rect.{Rect}
 use Rattle.geometry.specs.Cells.{onGrid, hasCell, nonEmpty, valid, allValid, anyHas, noRect}
 use Rattle.geometry.specs.Common.{unlessEmpty}
 use Rattle.geometry.specs.Refine.{within}
-use Rattle.geometry.proofs.Booleans.{is-false, not-both, split-and, all4, both}
 
 -- rectangles with the same corners are equal
 pub rect-is : (r s : Rect) → r .llx ≡ s .llx → r .lly ≡ s .lly → r .urx ≡ s .urx → r .ury ≡ s .ury → r ≡ s
@@ -49,6 +49,13 @@ pub grid-of : (c : Cell) → onGrid c ≡ true → OnGrid c
 unfolding onGrid
 grid-of c e = let f = split-and _ _ e in record { x-most = leb-true _ _ (f .0); y-most = leb-true _ _ (f .1) }
 
+-- its coordinates are at most 65535
+pub grid-x : (c : Cell) → onGrid c ≡ true → c .x ≤ 65535
+grid-x c e = grid-of c e .x-most
+
+pub grid-y : (c : Cell) → onGrid c ≡ true → c .y ≤ 65535
+grid-y c e = grid-of c e .y-most
+
 -- a cell on the grid: the facts give the test
 pub of-grid : (c : Cell) → OnGrid c → onGrid c ≡ true
 unfolding onGrid
@@ -67,6 +74,13 @@ unfolding valid
 valid-of r e =
     let f = all4 _ _ _ _ e in
     record { wide = ltb-true _ _ (f .0); high = ltb-true _ _ (f .1); x-most = leb-true _ _ (f .2); y-most = leb-true _ _ (f .3) }
+
+-- its corners are in order
+pub valid-wide : (r : Rect) → valid r ≡ true → r .llx ≤ r .urx
+valid-wide r e = omega (arith, valid-of r e .wide)
+
+pub valid-high : (r : Rect) → valid r ≡ true → r .lly ≤ r .ury
+valid-high r e = omega (arith, valid-of r e .high)
 
 -- a valid rectangle: the facts give the test
 pub of-valid : (r : Rect) → Valid r → valid r ≡ true
@@ -198,18 +212,6 @@ module _ (f : Rect → List Rect) where
   valid-flat-of h (r ∷ l) e =
       let k = split-and (valid r) (allValid l) e in
       rw (valid-append, h r (k .0), valid-flat-of h l (k .1))
-
-  -- where f makes none or one of each rectangle, it makes no list longer
-  pub length-flat : ((r : Rect) → length (f r) ≤ 1) → (l : List Rect) → length (flatMap f l) ≤ length l
-  unfolding flatMap
-  length-flat h [] = omega arith
-  length-flat h (r ∷ l) = simp length-append (omega (arith, h r, length-flat h l))
-
-  -- f of a list appended to another is f of each, appended
-  pub flat-append : (l m : List Rect) → flatMap f (l ++ m) ≡ flatMap f l ++ flatMap f m
-  unfolding flatMap
-  flat-append [] m = refl
-  flat-append (r ∷ l) m = rw (flat-append l m, append-assoc)
 
 module _ (l : List Rect) (i : ℕ) where
   -- a list has the cells of the rectangles before the i-th, of the i-th and of those after it

@@ -6,6 +6,8 @@ use Prim.Native.Nat.{_≤_, _<_}
 use native.Mathlib.Omega.{arith}
 use borrow.Author.Tests.{lt-ltb, le-ltb, ltb-true, ltb-false, not-true}
 use lib.ListN.{length}
+use Rattle.polygons.proofs.Booleans.{same, both, split-and}
+use Rattle.polygons.proofs.ListLaws.{length-flatMap}
 use Rattle.geometry.specs.declared.rect.Cell.{Cell}
 use Rattle.geometry.specs.declared.rect.Rect.{Rect}
 use Rattle.geometry.specs.declared.rect.Line.{Line}
@@ -15,8 +17,7 @@ use Rattle.geometry.specs.declared.rect.Side.the-variants.{Left, Right}
 use Rattle.geometry.specs.Cells.{onGrid, hasCell, valid, allValid, anyHas}
 use Rattle.geometry.specs.Common.{overlap, unlessEmpty, common}
 use Rattle.geometry.specs.Clip.{below, onSide, sidePart, clipRect, clip, clipRefined}
-use Rattle.geometry.proofs.Booleans.{same, both, split-and}
-use Rattle.geometry.proofs.CellLaws.{rect-is, In, in-of, of-in, grid-of, valid-of, Within, has-unless-empty, valid-unless-empty, length-unless-empty, has-flat, valid-flat-of, length-flat}
+use Rattle.geometry.proofs.CellLaws.{rect-is, In, in-of, of-in, grid-of, valid-of, Within, has-unless-empty, valid-unless-empty, length-unless-empty, has-flat, valid-flat-of}
 use Rattle.geometry.proofs.RefineLaws.{refine-cells, refine-length, refine-valid}
 
 -- The cell is on the side: `onSide` as a fact that omega reads.
@@ -88,7 +89,7 @@ module _ (s : Side) (p : List Rect) where
   -- clipping makes no list longer
   pub clip-length : length (clip s p) ≤ length p
   unfolding clip clipRect
-  clip-length = length-flat (clipRect s) (λ r. length-unless-empty (sidePart s r)) p
+  clip-length = length-flatMap (clipRect s) p (λ r. length-unless-empty (sidePart s r))
 
   -- clipping keeps rectangles valid
   pub clip-valid : allValid p ≡ true → allValid (clip s p) ≡ true

@@ -10,6 +10,8 @@ use lib.ListN.{length}
 use Rattle.polygons.specs.Limits.{mostPieces}
 use Rattle.polygons.specs.Lists.{any}
 use Rattle.polygons.proofs.LimitLaws.{at-most-is, at-most-length, at-most-or}
+use Rattle.polygons.proofs.Booleans.{not-both, same, both, split-and}
+use Rattle.polygons.proofs.ListLaws.{length-flatMap}
 use Rattle.geometry.specs.declared.rect.Cell.{Cell}
 use Rattle.geometry.specs.declared.rect.Rect.{Rect}
 use Rattle.geometry.specs.declared.rect.Common.{Common}
@@ -17,8 +19,7 @@ use Rattle.geometry.specs.declared.rect.Common.the-variants.{Part, Nothi
 use Rattle.geometry.specs.Cells.{hasCell, nonEmpty, valid, allValid, anyHas}
 use Rattle.geometry.specs.Common.{overlap, commonPart, unlessEmpty, common, commonWith, commonParts}
 use Rattle.geometry.specs.Cut.{commonLimited}
-use Rattle.geometry.proofs.Booleans.{same, not-both, both, split-and}
-use Rattle.geometry.proofs.CellLaws.{in-of, of-in, valid-of, corner, corner-in, has-unless-empty, valid-unless-empty, length-unless-empty, has-flat, valid-flat, valid-flat-of, length-flat}
+use Rattle.geometry.proofs.CellLaws.{in-of, of-in, valid-of, corner, corner-in, has-unless-empty, valid-unless-empty, length-unless-empty, has-flat, valid-flat, valid-flat-of}
 
 -- the common part as a list
 abbrev pub partList : Common → List Rect
@@ -84,7 +85,7 @@ module _ (p : List Rect) (r : Rect) where
   -- a rectangle's common parts with a list are no more than the list's rectangles
   pub common-with-length : length (commonWith p r) ≤ length p
   unfolding commonWith common
-  common-with-length = length-flat (common r) (λ s. length-unless-empty (overlap r s)) p
+  common-with-length = length-flatMap (common r) p (λ s. length-unless-empty (overlap r s))
 
 module _ (l p : List Rect) where
   -- the common parts of two lists have the cells in both

@@ -17,9 +17,10 @@ use Rattle.geometry.specs.Cells.{hasCell, nonEmpty, valid, allValid, any
 use Rattle.geometry.specs.Common.{overlap, unlessEmpty}
 use Rattle.geometry.specs.Cut.{xCeiling, xFloor, yCeiling, yFloor, pieces, cut, cutList, cutAll, cutLimited}
 use Rattle.geometry.specs.Refine.{within}
-use Rattle.geometry.proofs.Booleans.{same, is-false, not-both, either, both, split-and}
-use Rattle.geometry.proofs.CellLaws.{In, in-of, of-in, valid-of, Some, some-of, Within, of-within, empty-has-none, has-append, valid-append, has-unless-empty, valid-unless-empty, length-unless-empty, has-flat, valid-flat-of, flat-append}
+use Rattle.geometry.proofs.CellLaws.{In, in-of, of-in, valid-of, Some, some-of, Within, of-within, empty-has-none, has-append, valid-append, has-unless-empty, valid-unless-empty, length-unless-empty, has-flat, valid-flat-of}
 use Rattle.polygons.proofs.LimitLaws.{at-most-or, at-most-length}
+use Rattle.polygons.proofs.Booleans.{is-false, not-both, same, either, both, split-and, neither-of}
+use Rattle.polygons.proofs.ListLaws.{flatMap-append}
 use Rattle.geometry.proofs.CommonLaws.{overlap-cells}
 
 -- every rectangle of the list is contained in r
@@ -181,7 +182,7 @@ cut-list-cons r l s = refl
 -- a list appended to another is cut as each of the two
 pub cut-list-append : (l m : List Rect) (s : Rect) → cutList (l ++ m) s ≡ cutList l s ++ cutList m s
 unfolding cutList cutBy
-cut-list-append l m s = flat-append (cutBy s) l m
+cut-list-append l m s = flatMap-append (cutBy s) l m
 
 module _ (l : List Rect) (s : Rect) where
   -- a list cut by s has the cells in the list and not in s
@@ -193,11 +194,6 @@ module _ (l : List Rect) (s : Rect) where
   pub cut-list-valid : allValid l ≡ true → allValid (cutList l s) ≡ true
   unfolding cutList cutBy
   cut-list-valid = valid-flat-of (cutBy s) (λ r. cut-valid r s) l
-
-neither-of : (a b d : Bool) → a && not b && not d ≡ a && not (b || d)
-neither-of true true d = refl
-neither-of true false d = refl
-neither-of false b d = refl
 
 -- a list cut by a polygon has the cells in the list and not in the polygon
 pub cut-all-cells : (l p : List Rect) (c : Cell) → anyHas (cutAll l p) c ≡ anyHas l c && not (anyHas p c)

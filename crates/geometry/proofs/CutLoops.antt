@@ -18,8 +18,8 @@ use Rattle.geometry.specs.Common.{sharesWith}
 use Rattle.geometry.specs.Cut.{cutList, cutLimited}
 use Rattle.geometry.specs.Numbers.{rectsIn, rectsOf, counted, Written}
 use Rattle.geometry.proofs.ArrayLaws.{array-next, array-end}
-use Rattle.geometry.proofs.Booleans.{neither}
 use Rattle.polygons.proofs.LimitLaws.{at-most-some}
+use Rattle.polygons.proofs.Booleans.{neither}
 use Rattle.geometry.proofs.CutLaws.{uncut}
 use Rattle.geometry.proofs.NumberLaws.{length-rects, rects-prefix}
 

@@ -1,4 +1,3 @@
-pub mod Booleans
 pub mod CellLaws
 pub mod CommonLaws
 pub mod GrowLaws
@@ -8,7 +7,7 @@ pub mod ClipLaws
 pub mod ContainmentLaws
 pub mod ContainmentCases
 pub mod Tests
-pub mod RectWays
+pub mod RectReturns
 pub mod AppendLaws
 pub mod ArrayLaws
 pub mod CopyLoop

@@ -12,11 +12,11 @@ use lib.Dec.{ltb}
 use lib.ListN.{length, take, drop, getD, set, length-append, length-take, length-drop, length-set}
 use lib.Seq.{take-set-lt, drop-set-lt, set-split, getD-take, length-take-le}
 use Rattle.polygons.specs.Lists.{any}
+use Rattle.polygons.proofs.Booleans.{same, either, or-left, or-right, both, split-and, all4}
 use Rattle.geometry.specs.declared.rect.Cell.{Cell}
 use Rattle.geometry.specs.declared.rect.Rect.{Rect}
 use Rattle.geometry.specs.Cells.{hasCell, anyHas, valid, allValid, noRect}
 use Rattle.geometry.specs.Refine.{firstFrom, within, strictlyWithin, contained, firstContained, dropped, stacked, abreast, joinable, union, joins, partner, hasPartner, firstJoin, joined, refineStep, refineSteps, refine}
-use Rattle.geometry.proofs.Booleans.{same, either, or-left, or-right, both, split-and, all4}
 use Rattle.geometry.proofs.CellLaws.{In, in-of, of-in, valid-of, of-valid, within-cells, has-cons, has-append, has-split, valid-append, valid-take, valid-drop, valid-at}
 
 module _ (p : ℕ → Bool) where

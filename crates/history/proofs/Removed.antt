@@ -8,54 +8,52 @@ use lib.Dec.{eqb}
 use lib.ListN.{length}
 use Rattle.geometry.specs.Cells.{onGrid}
 use Rattle.tree.specs.Tree.{entries}
-use Rattle.tree.specs.Insert.{Outcome, refused}
-use Rattle.tree.specs.Insert.{accepted as acceptedAs}
+use Rattle.tree.specs.Insert.{Outcome, refused, accepted as acceptedAs}
 use Rattle.tree.specs.Calls.{insertion}
 use Rattle.plane.specs.Lines.{CellEntry}
-use Rattle.plane.specs.Plane.{planeSpace, planeRoot}
-use Rattle.memory.specs.Layout.{partsOf, rightLength}
+use Rattle.memory.specs.Layout.{partsOf, isIndexLength}
 use Rattle.memory.specs.Reading.{reading}
-use Rattle.memory.specs.Fanout.{fanout}
-use Rattle.index.specs.Answers.{PlaneIndex, cellsRemoved, insertEnd, insertRead, insertAnswer}
-use Rattle.index.specs.Numbers.{insertTold}
-use Rattle.index.specs.declared.answer.Inserted.the-variants as I
+use Rattle.plane.specs.Fanout.{fanout, indexSpace, indexRoot, PlaneIndex}
+use Rattle.answers.specs.Answers.{cellsRemoved, insertEnd, insertRead, insertAnswer}
+use Rattle.answers.specs.Numbers.{insertReply}
+use Rattle.answers.specs.declared.answer.Inserted.the-variants as I
 use Rattle.history.specs.Calls.{accepted}
 use Rattle.history.specs.Removed.{RemovedExact}
 
 module _ (m : List ℕ) (e : CellEntry) where
   -- how the insertion into the index that the memory holds ended
-  removed-end : (i : PlaneIndex) → reading fanout m ≡ some i → (o : Outcome (planeSpace fanout))
-      → accepted (insertTold (insertEnd (cellsRemoved i (e .cell)) o)) ≡ true
-      → RemovedExact m (e .cell) (insertTold (insertEnd (cellsRemoved i (e .cell)) o))
+  removed-end : (i : PlaneIndex) → reading fanout m ≡ some i → (o : Outcome indexSpace)
+      → accepted (insertReply (insertEnd (cellsRemoved i (e .cell)) o)) ≡ true
+      → RemovedExact m (e .cell) (insertReply (insertEnd (cellsRemoved i (e .cell)) o))
   unfolding insertEnd
   removed-end i r (refused k) f = never (eqb k 5) (eqb k 7) f
     where
       never : (a b : Bool) {A : Type 0}
-          → accepted (insertTold (cond a I.CellHeld (cond b I.PolygonLimit I.NodeLimit))) ≡ true → A
+          → accepted (insertReply (cond a I.Held (cond b I.OverLimit I.TooManyNodes))) ≡ true → A
       never true b f = absurd (false≢true f)
       never false true f = absurd (false≢true f)
       never false false f = absurd (false≢true f)
   removed-end i r (acceptedAs j) f = record {
     index = i;
     reads = r;
-    held = length (entries (planeSpace fanout) j);
-    told = refl;
+    held = length (entries indexSpace j);
+    reply = refl;
   }
 
   -- an accepted insertion on any memory: that memory holds an index, and the total is that of the index
-  pub insert-removed : (len : ℕ) → accepted (insertTold (insertAnswer m len e)) ≡ true
-      → RemovedExact m (e .cell) (insertTold (insertAnswer m len e))
+  pub insert-removed : (len : ℕ) → accepted (insertReply (insertAnswer m len e)) ≡ true
+      → RemovedExact m (e .cell) (insertReply (insertAnswer m len e))
   unfolding insertAnswer insertRead
-  insert-removed len f = go (rightLength m) (eqb len (length m)) (onGrid (e .cell)) (reading fanout m) refl f
+  insert-removed len f = go (isIndexLength m) (eqb len (length m)) (onGrid (e .cell)) (reading fanout m) refl f
     where
       go : (a b d : Bool) (o : Option PlaneIndex) → reading fanout m ≡ o
-          → accepted (insertTold (cond a
-          (cond b (cond d (insertRead (partsOf m) e o) I.OffGrid) I.WrongWorkLength) I.WrongLength)) ≡ true
-          → RemovedExact m (e .cell) (insertTold
-          (cond a (cond b (cond d (insertRead (partsOf m) e o) I.OffGrid) I.WrongWorkLength) I.WrongLength))
+          → accepted (insertReply (cond a
+          (cond b (cond d (insertRead (partsOf m) e o) I.Invalid) I.WorkLength) I.WrongLength)) ≡ true
+          → RemovedExact m (e .cell) (insertReply
+          (cond a (cond b (cond d (insertRead (partsOf m) e o) I.Invalid) I.WorkLength) I.WrongLength))
       go false b d o r f = absurd (false≢true f)
       go true false d o r f = absurd (false≢true f)
       go true true false o r f = absurd (false≢true f)
       go true true true none r f = absurd (false≢true f)
       go true true true (some i) r f = removed-end i r
-          (insertion (planeSpace fanout) (planeRoot fanout) (partsOf m) i e) f
+          (insertion indexSpace indexRoot (partsOf m) i e) f

@@ -14,12 +14,12 @@ use Rattle.tree.specs.Calls.{insertCall}
 use Rattle.tree.specs.Record.{recorded, recordOf}
 use Rattle.tree.proofs.Bags.{perm-bag, bag-length}
 use Rattle.plane.specs.Lines.{CellEntry}
-use Rattle.plane.specs.Plane.{planeSpace}
-use Rattle.memory.specs.Fanout.{fanout}
-use Rattle.index.specs.Answers.{windowAnswer}
-use Rattle.index.specs.Numbers.{windowTold}
-use Rattle.history.specs.Calls.{Made, accepted, recordFrom}
-use Rattle.history.specs.Contract.{WindowKept, KeptBy, Kept}
+use Rattle.plane.specs.Fanout.{indexSpace}
+use Rattle.answers.specs.Listing.{listWidth}
+use Rattle.answers.specs.Answers.{windowAnswer}
+use Rattle.answers.specs.Numbers.{windowReply}
+use Rattle.history.specs.Calls.{Performed, accepted, recordFrom}
+use Rattle.history.specs.Contract.{WindowByContract, ByContractOf, ByContract}
 use Rattle.history.specs.Claim.{HistoryClaim}
 use Rattle.history.specs.SameAnswers.{FromFresh, Entered, SameAnswer}
 use Rattle.history.proofs.Windows.{window-accepts}
@@ -27,36 +27,36 @@ use Rattle.history.proofs.History.{kept-history}
 use Rattle.history.proofs.SameAnswers.{same-by}
 
 -- the claim about such a list
-claim : (N : ℕ) (ds : List Made) (m : List ℕ) → FromFresh N ds m → All Kept ds → HistoryClaim N ds m
+claim : (N : ℕ) (ds : List Performed) (m : List ℕ) → FromFresh N ds m → All ByContract ds → HistoryClaim N ds m
 claim N ds m l p = kept-history N (l .some-parts) (l .few-parts) ds m p (l .linked)
 
 -- Two lists of any calls whose records are rearrangements of each other: queries of what they left are answered alike.
-pub kept-same : (N N′ : ℕ) (ds ds′ : List Made) (m m′ : List ℕ)
-    → FromFresh N ds m → All Kept ds → FromFresh N′ ds′ m′ → All Kept ds′
+pub kept-same : (N N′ : ℕ) (ds ds′ : List Performed) (m m′ : List ℕ)
+    → FromFresh N ds m → All ByContract ds → FromFresh N′ ds′ m′ → All ByContract ds′
     → List·Permᴰ (recordFrom [] ds) (recordFrom [] ds′)
-    → (d d′ : Made) → Kept d → Kept d′ → d .before ≡ m → d′ .before ≡ m′ → d .call ≡ d′ .call → SameAnswer d d′
+    → (d d′ : Performed) → ByContract d → ByContract d′ → d .before ≡ m → d′ .before ≡ m′ → d .call ≡ d′ .call → SameAnswer d d′
 kept-same N N′ ds ds′ m m′ l p l′ p′ r d d′ k k′ h h′ e =
     let x = claim N ds m l p in
     let y = claim N′ ds′ m′ l′ p′ in
     same-by m m′ (x .index) (y .index) (x .reads) (y .reads)
     (λ q. x .entries-same q ∙ perm-bag r q ∙ sym (y .entries-same q))
-    (d .call) d d′ k (subst (λ c. KeptBy c d′) (sym e) k′) h h′
+    (d .call) d d′ k (subst (λ c. ByContractOf c d′) (sym e) k′) h h′
 
 -- A window query of what a list of calls left is accepted if the window is valid and the result list has room for every
 -- entry of the record, three numbers each.
-pub kept-room : (N : ℕ) (ds : List Made) (m : List ℕ) → FromFresh N ds m → All Kept ds
-    → (w : Rect) (d : Made) → WindowKept w d → d .before ≡ m
-    → valid w ≡ true → 3 * length (recordFrom [] ds) ≤ length (d .lent) → accepted (d .told) ≡ true
+pub kept-room : (N : ℕ) (ds : List Performed) (m : List ℕ) → FromFresh N ds m → All ByContract ds
+    → (w : Rect) (d : Performed) → WindowByContract w d → d .before ≡ m
+    → valid w ≡ true → listWidth * length (recordFrom [] ds) ≤ length (d .lent) → accepted (d .reply) ≡ true
 kept-room N ds m l p w d k h g r =
     let x = claim N ds m l p in
-    let n = bag-length (entries (planeSpace fanout) (x .index)) (recordFrom [] ds) (x .entries-same) in
-    let t : d .told ≡ windowTold (windowAnswer m w (length (d .lent))) =
-    k .told ∙ ap windowTold (k .contract .answer) ∙ ap (λ y. windowTold (windowAnswer y w (length (d .lent)))) h in
+    let n = bag-length (entries indexSpace (x .index)) (recordFrom [] ds) (x .entries-same) in
+    let t : d .reply ≡ windowReply (windowAnswer m w (length (d .lent))) =
+    k .reply ∙ ap windowReply (k .contract .answer) ∙ ap (λ y. windowReply (windowAnswer y w (length (d .lent)))) h in
     ap accepted t ∙ window-accepts m w (x .index) (x .reads) (length (d .lent)) g (omega arith)
 
 -- The record after accepted insertions: their entries, in order.
-fed-entries : (r : List CellEntry) (ds : List Made) (es : List CellEntry) → map (λ d. d .call) ds ≡ map insertCall es
-    → All (λ d. accepted (d .told) ≡ true) ds → recordFrom r ds ≡ r ++ es
+fed-entries : (r : List CellEntry) (ds : List Performed) (es : List CellEntry) → map (λ d. d .call) ds ≡ map insertCall es
+    → All (λ d. accepted (d .reply) ≡ true) ds → recordFrom r ds ≡ r ++ es
 unfolding All recordOf recorded
 fed-entries r [] [] c h = sym (append-nil r)
 fed-entries r [] (e ∷ es) c h = let n : 0 ≡ length (map insertCall (e ∷ es)) = ap length c in absurd (omega arith)
@@ -66,13 +66,13 @@ fed-entries r (d ∷ ds) (e ∷ es) c h =
     rw (k, h .0)
     (fed-entries (r ++ (e ∷ [])) ds es (ap (λ l. drop 1 l) c) (h .1) ∙ append-assoc r (e ∷ []) es)
 
-pub entered-record : (ds : List Made) (es : List CellEntry) → Entered ds es → recordFrom [] ds ≡ es
+pub entered-record : (ds : List Performed) (es : List CellEntry) → Entered ds es → recordFrom [] ds ≡ es
 entered-record ds es h = fed-entries [] ds es (h .calls) (h .each-accepted)
 
 -- Two lists of insertions, all accepted, that are rearrangements of each other.
-module _ (N N′ : ℕ) (ds ds′ : List Made) (m m′ : List ℕ) (es es′ : List CellEntry)
-    (l : FromFresh N ds m) (p : All Kept ds) (x : Entered ds es)
-    (l′ : FromFresh N′ ds′ m′) (p′ : All Kept ds′) (x′ : Entered ds′ es′) (r : List·Permᴰ es es′) where
-  pub kept-same-points : (d d′ : Made) → Kept d → Kept d′ → d .before ≡ m → d′ .before ≡ m′ → d .call ≡ d′ .call
+module _ (N N′ : ℕ) (ds ds′ : List Performed) (m m′ : List ℕ) (es es′ : List CellEntry)
+    (l : FromFresh N ds m) (p : All ByContract ds) (x : Entered ds es)
+    (l′ : FromFresh N′ ds′ m′) (p′ : All ByContract ds′) (x′ : Entered ds′ es′) (r : List·Permᴰ es es′) where
+  pub kept-same-points : (d d′ : Performed) → ByContract d → ByContract d′ → d .before ≡ m → d′ .before ≡ m′ → d .call ≡ d′ .call
       → SameAnswer d d′
   kept-same-points = kept-same N N′ ds ds′ m m′ l p l′ p′ (rw (entered-record ds es x, entered-record ds′ es′ x′) r)

@@ -9,7 +9,8 @@ use lib.ListN.{length}
 use Rattle.geometry.specs.Cells.{valid}
 use Rattle.tree.specs.Calls.{windowCall}
 use Rattle.plane.specs.Lines.{CellEntry}
-use Rattle.index.specs.Numbers.{windowTold}
+use Rattle.answers.specs.Listing.{listWidth}
+use Rattle.answers.specs.Numbers.{windowReply}
 use Rattle.history.specs.Calls.{accepted, recordFrom}
 use Rattle.history.specs.SameAnswers.{FromFresh, Entered, Rearranged, SameAnswer}
 use Rattle.history.proofs.SameLists.{kept-same, kept-same-points, kept-room, entered-record}
@@ -31,8 +32,8 @@ same-records N N′ ss ss′ m m′ l l′ r s s′ =
 pub room-accepted : (N : ℕ) (ss : List Step) (m : List ℕ) (es : List CellEntry)
     → FromFresh N (map made ss) m → Entered (map made ss) es
     → (s : Window) → now (s .args .0) ≡ m → valid (s .args .1 .0) ≡ true
-    → 3 * length es ≤ length (now (s .args .1 .1 .0))
-    → accepted (windowTold (s .out)) ≡ true
+    → listWidth * length es ≤ length (now (s .args .1 .1 .0))
+    → accepted (windowReply (s .out)) ≡ true
 room-accepted N ss m es l x s h g n =
     kept-room N (map made ss) m l (all-kept ss) (s .args .1 .0) (made (windows s)) (kept (windows s)) h g
     (rw (entered-record (map made ss) es x) n)
@@ -51,7 +52,7 @@ module _ (N N′ : ℕ) (ss ss′ : List Step) (m m′ : List ℕ) (es es′ : L
   -- "every window query given a list long enough": a valid window, and room for all entries in both result lists
   pub same-windows : (s s′ : Window) → now (s .args .0) ≡ m → now (s′ .args .0) ≡ m′ → s .args .1 .0 ≡ s′ .args .1 .0
       → valid (s .args .1 .0) ≡ true
-      → 3 * length es ≤ length (now (s .args .1 .1 .0)) → 3 * length es′ ≤ length (now (s′ .args .1 .1 .0))
+      → listWidth * length es ≤ length (now (s .args .1 .1 .0)) → listWidth * length es′ ≤ length (now (s′ .args .1 .1 .0))
       → Rearranged (made (windows s)) (made (windows s′))
   same-windows s s′ h h′ w g n n′ =
       same-points (windows s) (windows s′) h h′ (ap windowCall w) .written

@@ -22,16 +22,17 @@ use Rattle.tree.specs.Remove.{prune}
 use Rattle.plane.specs.Plane.{cellRect}
 use Rattle.plane.specs.Windows.{meets}
 use Rattle.tree.specs.Calls.{insertCall, removeCall, clearCall, pointCall, windowCall, nearestCall, emptyCall, answer, after}
-use Rattle.index.specs.Answers.{PlaneIndex}
-use Rattle.index.specs.Changes.{entryOf}
-use Rattle.index.specs.Numbers.{Told, refusal, accepts}
+use Rattle.plane.specs.Lines.{entryOf}
+use Rattle.plane.specs.Fanout.{PlaneIndex}
+use Rattle.answers.specs.Numbers.{refusal, accepts}
+use Rattle.answers.specs.declared.reply.Reply.{Reply}
 use Rattle.history.specs.Calls.{IndexCall}
-use Rattle.history.specs.Defined.{early, toldOf, toldOn, indexAfter}
+use Rattle.history.specs.Defined.{early, replyOf, replyOn, indexAfter}
 
 -- the answers to a list of calls on an index of 64 parts, each lent a list as long as the index
-unfoldable pub toldAll : PlaneIndex → List IndexCall → List Told
-toldAll i [] = []
-toldAll i (k ∷ ks) = toldOn 64 i k 8256 ∷ toldAll (indexAfter 64 i k 8256) ks
+unfoldable pub allReplies : PlaneIndex → List IndexCall → List Reply
+allReplies i [] = []
+allReplies i (k ∷ ks) = replyOn 64 i k 8256 ∷ allReplies (indexAfter 64 i k 8256) ks
 
 abbrev pub sample-input : List IndexCall
 sample-input =
@@ -46,7 +47,7 @@ sample-input =
     ∷ pointCall (cellOf 20 12)
     ∷ []
 
-pub sample : toldAll none sample-input
+pub sample : allReplies none sample-input
     ≡ accepts (1 ∷ 0 ∷ [])
     ∷ accepts (2 ∷ 0 ∷ [])
     ∷ accepts (1 ∷ 1 ∷ 9 ∷ [])
@@ -57,7 +58,7 @@ pub sample : toldAll none sample-input
     ∷ accepts (0 ∷ [])
     ∷ accepts (0 ∷ 0 ∷ [])
     ∷ []
-unfolding toldAll toldOn indexAfter early toldOf answer after onGrid any insertTree removedTotal removedAt total nodes flatMap held bind insertAt split keep valid itemPolygons hasCell prune anyHas meets grown sharesWith cellRect nonEmpty overlap
+unfolding allReplies replyOn indexAfter early replyOf answer after onGrid any insertTree removedTotal removedAt total nodes flatMap held bind insertAt split keep valid itemPolygons hasCell prune anyHas meets grown sharesWith cellRect nonEmpty overlap
 sample = refl
 
 -- Nearest queries between its first two entries: nothing is held, the nearer one, a tie that goes to the smaller x, the entry itself.
@@ -71,7 +72,7 @@ nearest-input =
     ∷ nearestCall (cellOf 10 10)
     ∷ []
 
-pub nearest-sample : toldAll none nearest-input
+pub nearest-sample : allReplies none nearest-input
     ≡ refusal 10
     ∷ accepts (1 ∷ 0 ∷ [])
     ∷ accepts (2 ∷ 0 ∷ [])
@@ -79,7 +80,7 @@ pub nearest-sample : toldAll none nearest-input
     ∷ accepts (10 ∷ 10 ∷ 7 ∷ 26 ∷ 1 ∷ [])
     ∷ accepts (10 ∷ 10 ∷ 7 ∷ 0 ∷ 1 ∷ [])
     ∷ []
-unfolding toldAll toldOn indexAfter early toldOf answer after onGrid any insertTree removedTotal removedAt total nodes flatMap held bind insertAt split keep hasCell anyHas grown sharesWith cellRect nonEmpty overlap orNearer walkNode comesBefore gap squared
+unfolding allReplies replyOn indexAfter early replyOf answer after onGrid any insertTree removedTotal removedAt total nodes flatMap held bind insertAt split keep hasCell anyHas grown sharesWith cellRect nonEmpty overlap orNearer walkNode comesBefore gap squared
 nearest-sample = refl
 
 -- Emptiness queries on the same two entries: nothing is held, a window with an entry, one between the entries, one beside
@@ -95,7 +96,7 @@ emptiness-input =
     ∷ emptyCall (rectOf 10 10 10 13)
     ∷ []
 
-pub emptiness-sample : toldAll none emptiness-input
+pub emptiness-sample : allReplies none emptiness-input
     ≡ accepts (1 ∷ 0 ∷ [])
     ∷ accepts (1 ∷ 0 ∷ [])
     ∷ accepts (2 ∷ 0 ∷ [])
@@ -104,5 +105,5 @@ pub emptiness-sample : toldAll none emptiness-input
     ∷ accepts (1 ∷ 0 ∷ [])
     ∷ refusal 3
     ∷ []
-unfolding toldAll toldOn indexAfter early toldOf answer after onGrid any insertTree removedTotal removedAt total nodes flatMap held bind insertAt split keep valid hasCell anyHas meets grown sharesWith cellRect nonEmpty overlap nodeToMatch
+unfolding allReplies replyOn indexAfter early replyOf answer after onGrid any insertTree removedTotal removedAt total nodes flatMap held bind insertAt split keep valid hasCell anyHas meets grown sharesWith cellRect nonEmpty overlap nodeToMatch
 emptiness-sample = refl

@@ -9,18 +9,16 @@ use lib.ListN.{replicate}
 use Rattle.tree.specs.Calls.{Call, insertCall, removeCall, clearCall, pointCall, windowCall, nearestCall, emptyCall}
 use Rattle.tree.specs.Record.{recorded, recordOf}
 use Rattle.plane.specs.Lines.{CellEntry}
-use Rattle.plane.specs.Plane.{planeSpace}
-use Rattle.plane.specs.Windows.{planeWindow}
-use Rattle.memory.specs.Fanout.{fanout}
-use Rattle.index.specs.Numbers.{Told}
+use Rattle.plane.specs.Fanout.{indexSpace, indexWindow}
+use Rattle.answers.specs.declared.reply.Reply.{Reply}
 
 -- 'insertions, removals, clears and queries', each 'call's kind, its arguments other than lent lists': any coordinates and windows,
 -- also those that are refused
 abbrev pub IndexCall : Type 0
-IndexCall = Call (planeSpace fanout) (planeWindow fanout)
+IndexCall = Call indexSpace indexWindow
 
 -- A call that was made: what it was handed, and what came of it.
-pub record Made : Type 0 where
+pub record Performed : Type 0 where
   pub call : IndexCall
   -- the index it was handed, and as it was left
   pub before : List ℕ
@@ -28,12 +26,12 @@ pub record Made : Type 0 where
   -- the list lent besides, and as it was left: the work area of an insertion or the result list of a window query, of any length and
   -- content; the other calls use none
   pub lent : List ℕ
-  pub left : List ℕ
+  pub at-exit : List ℕ
   -- the number and the values returned
-  pub told : Told
+  pub reply : Reply
 
 -- 'whether it was accepted'
-abbrev pub accepted : Told → Bool
+abbrev pub accepted : Reply → Bool
 accepted t = eqb (t .number) 0
 
 -- the number that a window query returns where its list is long enough: 9, 'list shorter than 3 × matches', is the only
@@ -56,7 +54,7 @@ abbrev pub freshMemory : ℕ → List ℕ
 freshMemory N = replicate (64 + 128 * N) 0
 
 -- 'each call handed the memory that the last one left': from the memory m to the memory m′
-unfoldable pub Linked : List ℕ → List Made → List ℕ → Type 0
+unfoldable pub Linked : List ℕ → List Performed → List ℕ → Type 0
 Linked m [] m′ = m′ ≡ m
 Linked m (d ∷ ds) m′ = (d .before ≡ m) × Linked (d .after) ds m′
 
@@ -66,5 +64,5 @@ abbrev pub fed : List CellEntry → IndexCall → Bool → List CellEntry
 fed r k b = recorded r k b
 
 -- The record after a list of calls, from the record r before it.
-abbrev pub recordFrom : List CellEntry → List Made → List CellEntry
-recordFrom r ds = recordOf r (map (λ d. d .call) ds) (map (λ d. accepted (d .told)) ds)
+abbrev pub recordFrom : List CellEntry → List Performed → List CellEntry
+recordFrom r ds = recordOf r (map (λ d. d .call) ds) (map (λ d. accepted (d .reply)) ds)

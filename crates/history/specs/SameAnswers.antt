@@ -8,21 +8,21 @@ use lib.ListN.{length, take, drop, getD}
 use Rattle.tree.specs.Lists.{All}
 use Rattle.tree.specs.Calls.{insertCall, removeCall, clearCall, pointCall, windowCall, nearestCall, emptyCall}
 use Rattle.plane.specs.Lines.{CellEntry}
-use Rattle.memory.specs.Image.{entryNumbers}
-use Rattle.index.specs.Numbers.{Told}
-use Rattle.history.specs.Calls.{IndexCall, Made, accepted, withRoom, freshMemory, Linked}
+use Rattle.answers.specs.Listing.{listWidth, listedNumbers}
+use Rattle.answers.specs.declared.reply.Reply.{Reply}
+use Rattle.history.specs.Calls.{IndexCall, Performed, accepted, withRoom, freshMemory, Linked}
 
 -- 'from fresh indexes': the calls ds led from a fresh memory of N parts to the memory m, each handed the memory that
 -- the last one left.
-pub record FromFresh (N : ℕ) (ds : List Made) (m : List ℕ) : Type 0 where
+pub record FromFresh (N : ℕ) (ds : List Performed) (m : List ℕ) : Type 0 where
   pub some-parts : 1 ≤ N
   pub few-parts : N ≤ 256
   pub linked : Linked (freshMemory N) ds m
 
 -- 'lists of insertions .. all accepted': the calls ds were insertions of the entries es, in this order.
-pub record Entered (ds : List Made) (es : List CellEntry) : Type 0 where
+pub record Entered (ds : List Performed) (es : List CellEntry) : Type 0 where
   pub calls : map (λ d. d .call) ds ≡ map insertCall es
-  pub each-accepted : All (λ d. accepted (d .told) ≡ true) ds
+  pub each-accepted : All (λ d. accepted (d .reply) ≡ true) ds
 
 -- the values but for the one at place k
 abbrev pub without : ℕ → List ℕ → List ℕ
@@ -30,18 +30,18 @@ without k l = take k l ++ drop (suc k) l
 
 -- Two answers with the visits at place k of the values: 'Visits may differ.' All else is equal: both calls accept, or
 -- both refuse by one number.
-pub record SameButVisits (k : ℕ) (t t′ : Told) : Type 0 where
+pub record SameButVisits (k : ℕ) (t t′ : Reply) : Type 0 where
   pub number : t .number ≡ t′ .number
   pub values : without k (t .values) ≡ without k (t′ .values)
 
 -- What an accepted window query left in its result list: the entries es, as many as the matches that it reported, x, y
 -- and tag of each, from the start on; and the rest of the list as it was.
-pub record Wrote (d : Made) (es : List CellEntry) : Type 0 where
-  pub matches : getD (d .told .values) 0 0 ≡ length es
-  pub list : d .left ≡ flatMap entryNumbers es ++ drop (3 * length es) (d .lent)
+pub record Wrote (d : Performed) (es : List CellEntry) : Type 0 where
+  pub matches : getD (d .reply .values) 0 0 ≡ length es
+  pub list : d .at-exit ≡ flatMap listedNumbers es ++ drop (listWidth * length es) (d .lent)
 
 -- 'the entries it writes are rearrangements of each other'
-pub record Rearranged (d d′ : Made) : Type 0 where
+pub record Rearranged (d d′ : Performed) : Type 0 where
   pub entries : List CellEntry
   pub entries′ : List CellEntry
   pub wrote : Wrote d entries
@@ -49,29 +49,29 @@ pub record Rearranged (d d′ : Made) : Type 0 where
   pub rearranged : List·Permᴰ entries entries′
 
 -- Two window queries of one window. Their result lists may have different lengths.
-pub record SameWindow (d d′ : Made) : Type 0 where
+pub record SameWindow (d d′ : Performed) : Type 0 where
   -- both refuse by one number, but for 9
-  pub number : withRoom (d .told .number) ≡ withRoom (d′ .told .number)
+  pub number : withRoom (d .reply .number) ≡ withRoom (d′ .reply .number)
   -- it 'reports equally many matches', with the visits behind them or, refused by 9, without
-  pub matches : without 1 (d .told .values) ≡ without 1 (d′ .told .values)
+  pub matches : without 1 (d .reply .values) ≡ without 1 (d′ .reply .values)
   -- 'given a list long enough'
-  pub written : accepted (d .told) ≡ true → accepted (d′ .told) ≡ true → Rearranged d d′
+  pub written : accepted (d .reply) ≡ true → accepted (d′ .reply) ≡ true → Rearranged d d′
 
 -- Two calls of the kind and with the arguments of k, one on each of two indexes: what queries answer alike. Of changes
 -- nothing is said: 2 goes by the work area, 7 and 8 by the tree.
-abbrev pub SameBy : IndexCall → Made → Made → Type 0
+abbrev pub SameBy : IndexCall → Performed → Performed → Type 0
 SameBy (insertCall e) d d′ = Unit {0}
 SameBy (removeCall c) d d′ = Unit {0}
 SameBy clearCall d d′ = Unit {0}
 -- 'every point query has the same held or not held and the same tag'
-SameBy (pointCall c) d d′ = SameButVisits 1 (d .told) (d′ .told)
+SameBy (pointCall c) d d′ = SameButVisits 1 (d .reply) (d′ .reply)
 -- 'every window query given a list long enough reports equally many matches'
 SameBy (windowCall w) d d′ = SameWindow d d′
 -- beyond the request: the same entry and squared distance
-SameBy (nearestCall c) d d′ = SameButVisits 4 (d .told) (d′ .told)
+SameBy (nearestCall c) d d′ = SameButVisits 4 (d .reply) (d′ .reply)
 -- beyond the request: the same yes or no
-SameBy (emptyCall w) d d′ = SameButVisits 1 (d .told) (d′ .told)
+SameBy (emptyCall w) d d′ = SameButVisits 1 (d .reply) (d′ .reply)
 
 -- the second call is taken to have the arguments of the first
-abbrev pub SameAnswer : Made → Made → Type 0
+abbrev pub SameAnswer : Performed → Performed → Type 0
 SameAnswer d d′ = SameBy (d .call) d d′

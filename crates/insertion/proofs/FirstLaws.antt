@@ -22,21 +22,21 @@ use Rattle.tree.specs.Tree.{Tree, top, nodeCount, SoundTree}
 use Rattle.tree.specs.Removed.{removedTotal}
 use Rattle.tree.specs.Insert.{refused, accepted, limited, insertTree}
 use Rattle.tree.proofs.Insert.{insert-sound}
-use Rattle.plane.specs.Lines.{CellEntry}
-use Rattle.plane.specs.Plane.{planeSpace, planeRoot, cellRect}
+use Rattle.plane.specs.Lines.{CellEntry, Payload, entryOf}
+use Rattle.plane.specs.Plane.{cellRect}
 use Rattle.plane.proofs.Rects.{plane-space-laws}
 use Rattle.plane.proofs.Steps.{plane-steps}
 use Rattle.plane.proofs.Roots.{plane-root-laws}
 use Rattle.memory.specs.Layout.{partsOf}
 use Rattle.memory.specs.Reading.{reading}
-use Rattle.memory.specs.Image.{nodePart, emitNode, image}
-use Rattle.memory.proofs.ReadingLaws.{read-empty, RightLength, length-right}
+use Rattle.memory.specs.Image.{nodePart, writeNode, image}
+use Rattle.memory.proofs.ReadingLaws.{read-empty, IndexLength, index-length}
 use Rattle.memory.proofs.SoundTested.{test-of-sound}
 use Rattle.memory.proofs.ImageLaws.{image-reads, image-length}
-use Rattle.memory.specs.Fanout.{fanout}
-use Rattle.index.specs.declared.answer.Inserted.the-variants as I
-use Rattle.index.specs.Answers.{insertEnd, insertRead}
-use Rattle.index.specs.Changes.{entryOf, insertedIndex}
+use Rattle.plane.specs.Fanout.{fanout, indexSpace, indexRoot}
+use Rattle.answers.specs.declared.answer.Inserted.the-variants as I
+use Rattle.answers.specs.Answers.{insertEnd, insertRead}
+use Rattle.answers.specs.Changes.{insertedIndex}
 use Rattle.layout.specs.declared.node.Node.{Node}
 use Rattle.layout.specs.Loaded.{nodeOf, leafOf, withEntry}
 use Rattle.layout.proofs.LoadedLaws.{no-entries, entry-more, leaf-part}
@@ -55,53 +55,53 @@ y-room c grid = let a = grid-of c grid .y-most in omega arith
 -- an empty index has room for a part
 pub first-long : (m : List ℕ) → reading fanout m ≡ some none → 64 + 128 * 1 ≤ length m
 first-long m empty =
-    let r = length-right m (read-empty fanout m empty .0) in
+    let r = index-length m (read-empty fanout m empty .0) in
     let a = r .length-is in let b = r .some-parts in
     omega arith
 
 pub first-room : (m w : List ℕ) → reading fanout m ≡ some none → length w ≡ length m → PartRoom w 0
 first-room m w empty long =
-    let r = length-right m (read-empty fanout m empty .0) in
+    let r = index-length m (read-empty fanout m empty .0) in
     let a = r .length-is in let b = r .some-parts in let d = r .few-parts in
     record { fits = omega arith; small = omega arith }
 
 pub first-work : (m w p w′ : List ℕ) → length w ≡ length m → PartPut w 0 p w′ → length w′ ≡ length m
 first-work m w p w′ long a = a .same-length ∙ long
 
-module _ (m w : List ℕ) (c : Cell) (t : ℕ) (empty : reading fanout m ≡ some none) (long : length w ≡ length m) (grid : onGrid c ≡ true) where
+module _ (m w : List ℕ) (c : Cell) (t : Payload) (empty : reading fanout m ≡ some none) (long : length w ≡ length m) (grid : onGrid c ≡ true) where
   abbrev e : CellEntry
   e = entryOf c t
 
-  right : RightLength m
-  right = length-right m (read-empty fanout m empty .0)
+  right : IndexLength m
+  right = index-length m (read-empty fanout m empty .0)
 
   abbrev N : ℕ
   N = partsOf m
 
-  abbrev y : Tree (planeSpace fanout)
+  abbrev y : Tree indexSpace
   y = record { level = 0; root = cellRect c ∷ []; items = e ∷ [] }
 
-  gives : insertTree (planeSpace fanout) (planeRoot fanout) none e ≡ some y
+  gives : insertTree indexSpace indexRoot none e ≡ some y
   unfolding insertTree
   gives = refl
 
-  one-node : nodeCount (planeSpace fanout) (some y) ≡ 1
+  one-node : nodeCount indexSpace (some y) ≡ 1
   unfolding total nodes
   one-node = refl
 
-  outcome : limited (planeSpace fanout) N (insertTree (planeSpace fanout) (planeRoot fanout) none e) ≡ accepted (some y)
-  outcome = let b = right .some-parts in let d = one-node in ap (limited (planeSpace fanout) N) gives ∙ ap (λ (z : Bool). cond z (accepted (some y)) (refused 8)) (le-leb (nodeCount (planeSpace fanout) (some y)) N (omega arith))
+  outcome : limited indexSpace N (insertTree indexSpace indexRoot none e) ≡ accepted (some y)
+  outcome = let b = right .some-parts in let d = one-node in ap (limited indexSpace N) gives ∙ ap (λ (z : Bool). cond z (accepted (some y)) (refused 8)) (le-leb (nodeCount indexSpace (some y)) N (omega arith))
 
-  sound-y : SoundTree (planeSpace fanout) (planeRoot fanout) y
-  sound-y = insert-sound (planeSpace fanout) (plane-space-laws fanout) (plane-steps fanout (omega arith)) (planeRoot fanout) (plane-root-laws fanout) (omega arith) none e y gives tt grid (unfold any flatMap in refl)
+  sound-y : SoundTree indexSpace indexRoot y
+  sound-y = insert-sound indexSpace (plane-space-laws fanout) (plane-steps fanout (omega arith)) indexRoot (plane-root-laws fanout) (omega arith) none e y gives tt grid (unfold any flatMap in refl)
 
   module _ (p : Polygon) (r : Rect) (leaf : Node) (w′ : List ℕ) (h : PolygonOf (r ∷ []) p) (g : r ≡ cellRect c) (i : leaf ≡ leafOf (e ∷ []))
       (put : PartPut w 0 (nodePart (rectsOf p) (leaf .count) (leaf .items)) w′) where
-    parts-is : nodePart (rectsOf p) (leaf .count) (leaf .items) ∷ [] ≡ emitNode fanout 0 0 (top (planeSpace fanout) y)
-    unfolding emitNode
+    parts-is : nodePart (rectsOf p) (leaf .count) (leaf .items) ∷ [] ≡ writeNode fanout 0 0 (top indexSpace y)
+    unfolding writeNode
     parts-is = rw (h .list, g, i, leaf-part (cellRect c ∷ []) (e ∷ []))
 
-    written-is : take (64 + 128 * 1) w′ ≡ take 64 w ++ flatMap (λ p. p) (emitNode fanout 0 0 (top (planeSpace fanout) y))
+    written-is : take (64 + 128 * 1) w′ ≡ take 64 w ++ flatMap (λ p. p) (writeNode fanout 0 0 (top indexSpace y))
     written-is = put .written ∙ ap (λ (l : List ℕ). take 64 w ++ l) (sym (one (nodePart (rectsOf p) (leaf .count) (leaf .items)))) ∙ ap (λ (l : List (List ℕ)). take 64 w ++ flatMap (λ p. p) l) parts-is
       where
         one : (l : List ℕ) → flatMap (λ p. p) (l ∷ []) ≡ l
@@ -113,9 +113,9 @@ module _ (m w : List ℕ) (c : Cell) (t : ℕ) (empty : reading fanout m ≡ som
         let a = right .length-is in
         let b = right .some-parts in
         let d = put .same-length in
-        ap (λ (j : ℕ). written j 1 1 w′) a ∙ written-image N 1 (emitNode fanout 0 0 (top (planeSpace fanout) y)) w w′ 1 (ap length (sym parts-is)) (omega arith) (omega arith) written-is
+        ap (λ (j : ℕ). written j 1 1 w′) a ∙ written-image N 1 (writeNode fanout 0 0 (top indexSpace y)) w w′ 1 (ap length (sym parts-is)) (omega arith) (omega arith) written-is
 
-    count-y : nodes (planeSpace fanout) 1 (top (planeSpace fanout) y) ≡ 1
+    count-y : nodes indexSpace 1 (top indexSpace y) ≡ 1
     unfolding total nodes
     count-y = refl
 
@@ -124,7 +124,7 @@ module _ (m w : List ℕ) (c : Cell) (t : ℕ) (empty : reading fanout m ≡ som
     first-built m′ q =
         let tested = test-of-sound fanout y sound-y in
         let b = right .some-parts in
-        let n : nodes (planeSpace fanout) 1 (top (planeSpace fanout) y) ≤ N = let d = count-y in omega arith in
+        let n : nodes indexSpace 1 (top indexSpace y) ≤ N = let d = count-y in omega arith in
         let im = q ∙ image-is in
         record {
           answer = sym (rw (empty, outcome));
@@ -135,7 +135,7 @@ module _ (m w : List ℕ) (c : Cell) (t : ℕ) (empty : reading fanout m ≡ som
         }
 
 -- the same as the code has it: the rectangle in place, and the entry put into a leaf without entries
-pub first-done : (m w : List ℕ) (c : Cell) (t : ℕ) (empty leaf : Node) (p : Polygon) (w′ m′ : List ℕ) → reading fanout m ≡ some none → length w ≡ length m → onGrid c ≡ true
+pub first-done : (m w : List ℕ) (c : Cell) (t : Payload) (empty leaf : Node) (p : Polygon) (w′ m′ : List ℕ) → reading fanout m ≡ some none → length w ≡ length m → onGrid c ≡ true
     → empty ≡ nodeOf 0 [] → leaf ≡ withEntry empty (entryOf c t)
     → PolygonOf (record { llx = c .x; lly = c .y; urx = c .x + 1; ury = c .y + 1 } ∷ []) p → PartPut w 0 (nodePart (rectsOf p) (leaf .count) (leaf .items)) w′
     → m′ ≡ written (length m) 1 1 w′ → Built m w (entryOf c t) m′ w′ (I.Accepted 1 0)

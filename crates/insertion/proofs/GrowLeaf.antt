@@ -6,18 +6,18 @@ use mathlib.Core.Option.{some}
 use native.Mathlib.Omega.{arith}
 use native.Mathlib.Nat.{le-refl}
 use lib.ListN.{length, length-append}
-use Rattle.geometry.specs.declared.rect.Cell.{Cell}
 use Rattle.geometry.specs.declared.rect.Rect.{Rect}
 use Rattle.geometry.specs.declared.polygon.Polygon.{Polygon}
 use Rattle.geometry.specs.Numbers.{rectsOf, PolygonOf}
 use Rattle.tree.specs.Nodes.{nodes}
+use Rattle.tree.proofs.Walk.{leaf-nodes}
 use Rattle.plane.specs.Lines.{CellEntry}
 use Rattle.memory.specs.Layout.{partsOf, part, itemCount, entriesIn}
 use Rattle.memory.specs.Image.{entryNumbers, nodePart}
 use Rattle.memory.specs.Reading.{readNode}
 use Rattle.memory.proofs.PartImage as image
-use Rattle.memory.proofs.ReadingLaws.{FitsAs, leaf-parts, make-leaf, fits-as, length-right, part-length, entries-length}
-use Rattle.memory.specs.Fanout.{fanout}
+use Rattle.memory.proofs.ReadingLaws.{FitsAs, leaf-parts, make-leaf, fits-as, index-length, part-length, entries-length}
+use Rattle.plane.specs.Fanout.{fanout, indexSpace}
 use Rattle.layout.specs.declared.node.Node.{Node}
 use Rattle.layout.specs.Loaded.{leafOf, nodeIn, withEntry}
 use Rattle.layout.specs.Nodes.{countAt}
@@ -25,22 +25,22 @@ use Rattle.layout.specs.PartSet.{setPart, UsedPart}
 use Rattle.layout.proofs.BesideLaws.{beside-wider}
 use Rattle.layout.proofs.LoadedLaws.{entry-more, leaf-part}
 use Rattle.layout.proofs.LoadedParts.{loaded-leaf}
-use Rattle.index.specs.Changes.{entryOf}
-use Rattle.index.specs.Walks.{Walkable}
-use Rattle.index.proofs.CheckLaws.{leaf-nodes}
-use Rattle.emission.specs.Path.{partOn, polygonOn, wayAt}
-use Rattle.emission.proofs.PathLaws.{path-node}
+use Rattle.walks.specs.Walks.{Walkable}
+use Rattle.path.specs.Path.{partOn, polygonOn}
+use Rattle.tree_after.specs.Path.{wayAt}
+use Rattle.tree_after.proofs.PathLaws.{path-node}
 use Rattle.insertion.specs.Growing.{grownItems, grownNode, replaced, leafGrown, Growing, Grown}
 use Rattle.insertion.proofs.GrowPart.{ImagePut, image-put}
 
 -- what the code writes
-pub leaf-written : (path m : List ℕ) (c : Cell) (t : ℕ) (leaf : Node) (p : Polygon) (n : Node) (m′ : List ℕ)
-    → leaf ≡ nodeIn (part m (partOn path 0)) → PolygonOf (polygonOn path 0) p
-    → n ≡ withEntry leaf (entryOf c t) → m′ ≡ replaced m (partOn path 0) (rectsOf p) n
-    → m′ ≡ leafGrown path m (entryOf c t)
-leaf-written path m c t leaf p n m′ a o b d =
-    d ∙ ap (λ (q : List Rect). replaced m (partOn path 0) q n) (o .list)
-    ∙ ap (replaced m (partOn path 0) (polygonOn path 0)) (b ∙ ap (λ (x : Node). withEntry x (entryOf c t)) a)
+pub leaf-written : (path m : List ℕ) (k : ℕ) (e : CellEntry) (leaf : Node) (p : Polygon) (n : Node) (m′ : List ℕ) → k ≡ partOn path 0
+    → leaf ≡ nodeIn (part m k) → PolygonOf (polygonOn path 0) p
+    → n ≡ withEntry leaf e → m′ ≡ replaced m k (rectsOf p) n
+    → m′ ≡ leafGrown path m e
+leaf-written path m k e leaf p n m′ z a o b d =
+    d ∙ ap (λ (q : List Rect). replaced m k q n) (o .list)
+    ∙ ap (replaced m k (polygonOn path 0)) (b ∙ ap (λ (x : Node). withEntry x e) a)
+    ∙ ap (λ (j : ℕ). replaced m j (polygonOn path 0) (withEntry (nodeIn (part m j)) e)) z
 
 module _ (path m : List ℕ) (e : CellEntry) (g : Growing 0 path m) where
   abbrev k : ℕ
@@ -56,7 +56,7 @@ module _ (path m : List ℕ) (e : CellEntry) (g : Growing 0 path m) where
   used = record { below = walk .below; ends = walk .ends; used = fits .used }
 
   few-parts : partsOf m ≤ 256
-  few-parts = length-right m (walk .right) .few-parts
+  few-parts = index-length m (walk .right) .few-parts
 
   abbrev p : List Rect
   p = polygonOn path 0
@@ -121,7 +121,7 @@ module _ (path m : List ℕ) (e : CellEntry) (g : Growing 0 path m) where
     unused = put .unused;
     node = λ lo b h r. record {
       reads = leaf-reads lo;
-      as-many = let x = leaf-nodes (grownItems 0 path m e) in let y = leaf-nodes (b .child) in omega arith;
+      as-many = let x = leaf-nodes indexSpace (grownItems 0 path m e) in let y = leaf-nodes indexSpace (b .child) in omega arith;
       beside = beside-wider m lo k k k leaf′ h (le-refl k) (put .beside);
     };
   }

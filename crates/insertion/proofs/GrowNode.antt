@@ -13,13 +13,12 @@ use Rattle.geometry.specs.Numbers.{rectsOf, PolygonOf}
 use Rattle.tree.specs.Lists.{total}
 use Rattle.tree.specs.Nodes.{Item, nodes}
 use Rattle.plane.specs.Lines.{CellEntry}
-use Rattle.plane.specs.Plane.{planeSpace}
 use Rattle.memory.specs.Layout.{partsOf, part, inUse, childrenIn}
 use Rattle.memory.specs.Image.{nodePart}
 use Rattle.memory.specs.Reading.{readNode}
 use Rattle.memory.proofs.PartImage as image
-use Rattle.memory.proofs.ReadingLaws.{NodeParts, FitsAs, node-parts, fits-as, length-right, part-length, lowAt, low-from, low-to, part-below, row-at, row-length, node-lower, frame, change-node}
-use Rattle.memory.specs.Fanout.{fanout}
+use Rattle.memory.proofs.ReadingLaws.{NodeParts, FitsAs, node-parts, fits-as, index-length, part-length, lowAt, low-from, low-to, part-below, row-at, row-length, node-lower, frame, change-node}
+use Rattle.plane.specs.Fanout.{fanout, indexSpace}
 use Rattle.layout.specs.declared.node.Node.{Node}
 use Rattle.layout.specs.Beside.{Beside}
 use Rattle.layout.specs.Loaded.{routingOf, nodeIn}
@@ -29,21 +28,23 @@ use Rattle.layout.proofs.BesideLaws.{beside-wider, beside-then}
 use Rattle.layout.proofs.LoadedLaws.{routing-part}
 use Rattle.layout.proofs.LoadedParts.{loaded-routing}
 use Rattle.layout.proofs.NodeLaws.{child-in}
-use Rattle.index.specs.Walks.{Walkable}
-use Rattle.index.proofs.WalkLoop.{children-count}
-use Rattle.emission.specs.Path.{partOn, placeOn, polygonOn, rowAt}
-use Rattle.emission.proofs.PathLaws.{path-node, path-place}
-use Rattle.emission.proofs.RowLaws.{row-of}
+use Rattle.walks.specs.Walks.{Walkable}
+use Rattle.walks.proofs.WalkLoop.{children-count}
+use Rattle.path.specs.Path.{partOn, placeOn, polygonOn}
+use Rattle.tree_after.specs.Path.{rowAt}
+use Rattle.tree_after.proofs.PathLaws.{path-node, path-place}
+use Rattle.tree_after.proofs.RowLaws.{row-of}
 use Rattle.insertion.specs.Growing.{grownItems, grownNode, replaced, nodeGrown, Growing, GrownNode, Grown}
 use Rattle.insertion.proofs.GrowPart.{ImagePut, image-put}
 
 -- what the code writes
-pub node-written : (level : ℕ) (path m : List ℕ) (node : Node) (p : Polygon) (m′ : List ℕ)
-    → node ≡ nodeIn (part m (partOn path level)) → PolygonOf (polygonOn path level) p
-    → m′ ≡ replaced m (partOn path level) (rectsOf p) node → m′ ≡ nodeGrown level path m
-node-written level path m node p m′ a o d =
-    d ∙ ap (λ (q : List Rect). replaced m (partOn path level) q node) (o .list)
-    ∙ ap (replaced m (partOn path level) (polygonOn path level)) a
+pub node-written : (level : ℕ) (path m : List ℕ) (k : ℕ) (node : Node) (p : Polygon) (m′ : List ℕ) → k ≡ partOn path level
+    → node ≡ nodeIn (part m k) → PolygonOf (polygonOn path level) p
+    → m′ ≡ replaced m k (rectsOf p) node → m′ ≡ nodeGrown level path m
+node-written level path m k node p m′ z a o d =
+    d ∙ ap (λ (q : List Rect). replaced m k q node) (o .list)
+    ∙ ap (replaced m k (polygonOn path level)) a
+    ∙ ap (λ (j : ℕ). replaced m j (polygonOn path level) (nodeIn (part m j))) z
 
 -- a sum in which one element is replaced by one of the same size
 total-set : {A : Type 0} (f : A → ℕ) (l : List A) (i : ℕ) (a d : A) → i < length l → f a ≡ f (getD l i d)
@@ -83,11 +84,11 @@ module _ (n : ℕ) (path m : List ℕ) (e : CellEntry) (g : Growing (suc n) path
   child-is = g .linked .child n (omega arith) ∙ sym (child-in (part m k) i in-node)
 
   -- stands for a child where there is none
-  blank : Item (planeSpace fanout) (suc n)
+  blank : Item indexSpace (suc n)
   blank = record { poly = []; child = [] }
 
   -- The node as it read with its subtree in the parts from lo on.
-  module _ (lo : ℕ) (b : Item (planeSpace fanout) (suc (suc n))) (reads : readNode fanout (suc n) m lo k ≡ some b) where
+  module _ (lo : ℕ) (b : Item indexSpace (suc (suc n))) (reads : readNode fanout (suc n) m lo k ≡ some b) where
     parts : NodeParts fanout n m lo k b
     parts = node-parts fanout n m lo k b reads
 
@@ -117,11 +118,11 @@ module _ (n : ℕ) (path m : List ℕ) (e : CellEntry) (g : Growing (suc n) path
     in-branches =
         let l = row-length (readNode fanout n m) lo k ks (b .child) (parts .row) in let h = in-row in omega arith
 
-    as-many : nodes (planeSpace fanout) (suc (suc n)) (grownNode (suc n) path m e) ≡ nodes (planeSpace fanout) (suc (suc n)) b
+    as-many : nodes indexSpace (suc (suc n)) (grownNode (suc n) path m e) ≡ nodes indexSpace (suc (suc n)) b
     unfolding nodes grownItems
     as-many =
         let t =
-        total-set (nodes (planeSpace fanout) (suc n)) (b .child) i (grownNode n path m e) blank in-branches (child-grown .as-many) in
+        total-set (nodes indexSpace (suc n)) (b .child) i (grownNode n path m e) blank in-branches (child-grown .as-many) in
         rw row-is (omega arith)
 
   -- its own part is as it was
@@ -132,7 +133,7 @@ module _ (n : ℕ) (path m : List ℕ) (e : CellEntry) (g : Growing (suc n) path
   same-parts = ap (λ (x : ℕ). (x - 64) / 128) (below .same-length)
 
   few-parts : partsOf m₁ ≤ 256
-  few-parts = let f = length-right m (walk .right) .few-parts in let q = same-parts in omega arith
+  few-parts = let f = index-length m (walk .right) .few-parts in let q = same-parts in omega arith
 
   used : UsedPart m₁ k
   used =
@@ -173,7 +174,7 @@ module _ (n : ℕ) (path m : List ℕ) (e : CellEntry) (g : Growing (suc n) path
   own-parts : partsOf node′ ≡ partsOf m₁
   own-parts = ap (λ (x : ℕ). (x - 64) / 128) (put .beside .same-length)
 
-  module _ (lo : ℕ) (b : Item (planeSpace fanout) (suc (suc n))) (from : lo ≤ k) (reads : readNode fanout (suc n) m lo k ≡ some b) where
+  module _ (lo : ℕ) (b : Item indexSpace (suc (suc n))) (from : lo ≤ k) (reads : readNode fanout (suc n) m lo k ≡ some b) where
     child : GrownNode n path m e m₁ (low lo b reads) (getD (b .child) i blank)
     child = child-grown lo b reads
 
@@ -200,7 +201,7 @@ module _ (n : ℕ) (path m : List ℕ) (e : CellEntry) (g : Growing (suc n) path
         (put .fits 1 (omega arith))
         p (put .polygon)
         (grownNode n path m e) (ap childrenIn (put .part-is) ∙ image.part-children p (length ks) ks few-rects numbers-fit refl) child-read
-        ∙ ap (λ (l : List (Item (planeSpace fanout) (suc n))). some (record { poly = p; child = set l i (grownNode n path m e) })) (sym (row-is lo b reads))
+        ∙ ap (λ (l : List (Item indexSpace (suc n))). some (record { poly = p; child = set l i (grownNode n path m e) })) (sym (row-is lo b reads))
 
     node-beside : Beside m lo k node′
     node-beside =

@@ -10,7 +10,7 @@ use Rattle.memory.specs.Layout.{partsOf, part, inUse, bitsSet, polygonIn, nodeF
 use Rattle.memory.specs.Image.{nodePart}
 use Rattle.memory.proofs.NodeImage.{node-fits}
 use Rattle.memory.proofs.PartImage as image
-use Rattle.memory.specs.Fanout.{fanout}
+use Rattle.plane.specs.Fanout.{fanout}
 use Rattle.layout.specs.Beside.{Beside}
 use Rattle.layout.specs.PartSet.{setPart, UsedPart}
 use Rattle.layout.proofs.BesideLaws.{set-beside, set-unused}

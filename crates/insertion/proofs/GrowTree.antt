@@ -17,26 +17,25 @@ use Rattle.tree.specs.Pass.{deep}
 use Rattle.tree.specs.Plan.{under}
 use Rattle.tree.specs.Tree.{Tree, top, nodeCount, SoundTree}
 use Rattle.tree.proofs.Pass.{under-deep}
-use Rattle.plane.specs.Lines.{CellEntry}
-use Rattle.plane.specs.Plane.{planeSpace, planeRoot}
+use Rattle.plane.specs.Lines.{CellEntry, Payload, entryOf}
 use Rattle.memory.specs.Reading.{readNode, reading}
 use Rattle.memory.proofs.ReadingLaws.{ReadAs, read-as, make-reading}
 use Rattle.memory.proofs.SoundTested.{test-of-sound}
-use Rattle.memory.specs.Fanout.{fanout}
+use Rattle.plane.specs.Fanout.{fanout, indexSpace, indexRoot}
 use Rattle.layout.specs.Nodes.{countAt}
 use Rattle.layout.proofs.BesideLaws.{right-same, head-same}
-use Rattle.index.specs.Changes.{entryOf}
-use Rattle.emission.specs.Path.{partOn, placeOn, lineOn, polygonOn, rowAt, wayAt, rowUnder, plannedTree, PathFrom}
-use Rattle.emission.proofs.RowLaws.{row-count}
+use Rattle.path.specs.Path.{partOn, placeOn, lineOn, polygonOn}
+use Rattle.tree_after.specs.Path.{rowAt, wayAt, rowUnder, plannedTree, PathFrom}
+use Rattle.tree_after.proofs.RowLaws.{row-count}
 use Rattle.insertion.specs.Growing.{grownItems, grownTree, Growing, GrownNode, Grown}
 use Rattle.insertion.specs.Insert.{PathPlanned}
 
 -- without sides all items are left
-all-left : (n : ℕ) (l : List (Item (planeSpace fanout) n)) → flatMap (deep (planeSpace fanout) n []) l ≡ l
+all-left : (n : ℕ) (l : List (Item indexSpace n)) → flatMap (deep indexSpace n []) l ≡ l
 unfolding under
-all-left n l = sym (under-deep (planeSpace fanout) n [] l)
+all-left n l = sym (under-deep indexSpace n [] l)
 
--- where no node is split, the row that is emitted is the row before with the branch gone to changed
+-- where no node is split, the row that is written is the row before with the branch gone to changed
 row-grown : (n : ℕ) (path m : List ℕ) (e : CellEntry) → PathFrom n path m
     → ((j : ℕ) → j < n → eqb (lineOn path j) 0 ≡ true) → rowUnder n path m e [] ≡ grownItems n path m e
 unfolding rowUnder grownItems PathFrom
@@ -59,7 +58,7 @@ tree-grown m level path e from u =
     let line : (j : ℕ) → j ≤ level → eqb (lineOn path j) 0 ≡ true = λ j h. eq-eqb (lineOn path j) 0 (u j h) in
     rw (line level (le-refl level), row-grown level path m e from (λ j h. line j (omega arith)))
 
-module _ (m : List ℕ) (c : Cell) (x : Tree (planeSpace fanout)) (reads : reading fanout m ≡ some (some x)) (path : List ℕ) (p : PathPlanned m (x .level) c path) where
+module _ (m : List ℕ) (c : Cell) (x : Tree indexSpace) (reads : reading fanout m ≡ some (some x)) (path : List ℕ) (p : PathPlanned m (x .level) c path) where
   read : ReadAs fanout m x
   read = read-as fanout m x reads
 
@@ -68,17 +67,17 @@ module _ (m : List ℕ) (c : Cell) (x : Tree (planeSpace fanout)) (reads : readi
   path-growing h = record { from = p .good .from; linked = p .good .linked; leaf = h; unused = read .others-zero }
 
   -- it was
-  module _ (t : ℕ) (m′ : List ℕ) (g : Grown (x .level) path m (entryOf c t) m′) where
-    root-grown : GrownNode (x .level) path m (entryOf c t) m′ 0 (top (planeSpace fanout) x)
+  module _ (t : Payload) (m′ : List ℕ) (g : Grown (x .level) path m (entryOf c t) m′) where
+    root-grown : GrownNode (x .level) path m (entryOf c t) m′ 0 (top indexSpace x)
     root-grown =
-        g .node 0 (top (planeSpace fanout) x) (omega arith) (ap (readNode fanout (x .level) m 0) (p .top) ∙ read .root-node)
+        g .node 0 (top indexSpace x) (omega arith) (ap (readNode fanout (x .level) m 0) (p .top) ∙ read .root-node)
 
     -- no node was added
-    pub nodes-grown : nodeCount (planeSpace fanout) (some (grownTree (x .level) path m (entryOf c t))) ≡ nodeCount (planeSpace fanout) (some x)
+    pub nodes-grown : nodeCount indexSpace (some (grownTree (x .level) path m (entryOf c t))) ≡ nodeCount indexSpace (some x)
     nodes-grown = unfold nodes in root-grown .as-many
 
     -- the memory reads as the tree after
-    pub reads-grown : SoundTree (planeSpace fanout) (planeRoot fanout) (grownTree (x .level) path m (entryOf c t))
+    pub reads-grown : SoundTree indexSpace indexRoot (grownTree (x .level) path m (entryOf c t))
         → reading fanout m′ ≡ some (some (grownTree (x .level) path m (entryOf c t)))
     reads-grown sound =
         let b = root-grown .beside in

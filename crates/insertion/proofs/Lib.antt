@@ -1,4 +1,3 @@
-pub mod LevelLaws
 pub mod DescentLaws
 pub mod NodePlan
 pub mod PlanTree
@@ -6,15 +5,15 @@ pub mod PathLaws
 pub mod PlanLoop
 pub mod SplitCount
 pub mod LineLaws
-pub mod DescentWays
+pub mod DescentReturns
 pub mod RootLaws
 pub mod GrowPart
 pub mod GrowLeaf
 pub mod GrowNode
-pub mod GrowWays
+pub mod GrowReturns
 pub mod GrowTree
 pub mod InsertLaws
 pub mod FirstLaws
-pub mod InsertWays
+pub mod InsertReturns
 pub mod NodeBounds
 pub mod PlanBounds

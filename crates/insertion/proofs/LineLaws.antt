@@ -11,32 +11,31 @@ use Rattle.tree.specs.Lists.{All}
 use Rattle.tree.specs.Nodes.{Item, held}
 use Rattle.tree.specs.Plan.{row}
 use Rattle.tree.specs.Pass.{wayHeld}
-use Rattle.tree.proofs.Lists.{all-first, all-flatMap}
-use Rattle.plane.specs.Lines.{CellEntry, leafLine}
-use Rattle.plane.specs.Plane.{planeSpace}
-use Rattle.plane.proofs.Kept.{map-all}
+use Rattle.tree.proofs.Lists.{all-first, all-flatMap, map-all}
+use Rattle.plane.specs.Lines.{CellEntry, leafLine, Payload, somePayload, entryOf, OnGrid}
 use Rattle.plane.proofs.Rects.{plane-space-laws}
 use Rattle.plane.proofs.Steps.{plane-steps}
 use Rattle.memory.specs.Layout.{part}
-use Rattle.memory.specs.Fanout.{fanout}
-use Rattle.index.specs.Changes.{entryOf}
-use Rattle.index.specs.Walks.{Walkable}
-use Rattle.index.proofs.WalkRows.{node-part}
-use Rattle.split_line.specs.FullLeaf.{OnGrid, entriesOf, LeafHere, FullLeaf, LeafLineIs}
+use Rattle.plane.specs.Fanout.{fanout, indexSpace}
+use Rattle.walks.specs.Walks.{Walkable}
+use Rattle.walks.proofs.WalkRows.{node-part}
+use Rattle.split_line.specs.FullLeaf.{entriesOf, LeafHere, FullLeaf, LeafLineIs}
 use Rattle.split_line.specs.Groups.{NodeHere, NodeLineIs}
-use Rattle.emission.specs.Path.{partOn, placeOn, lineOn, polygonOn, wayAt, PathFrom}
+use Rattle.path.specs.Path.{partOn, placeOn, lineOn, polygonOn}
+use Rattle.tree_after.specs.Path.{wayAt, PathFrom}
 use Rattle.tree.proofs.GoodWays.{GoodWay}
 use Rattle.insertion.specs.Descent.{itemsAt}
 use Rattle.insertion.specs.Planning.{Full, LineOfLevel}
 use Rattle.insertion.proofs.DescentLaws.{items-are}
 use Rattle.tree.proofs.Ways.{way-entries}
 use Rattle.tree.proofs.Bags.{bag-all, bag-sym}
-use Rattle.tree.proofs.SplitGroups.{row-entries, line-row}
+use Rattle.tree.proofs.SplitGroups.{row-entries}
+use Rattle.tree.proofs.OnePass.{line-row}
 use Rattle.layout.specs.Nodes.{countAt}
-use Rattle.index.specs.Count as count
-use Rattle.index.specs.Count.{entriesAt}
+use Rattle.walks.specs.Count as count
+use Rattle.walks.specs.Count.{entriesAt}
 use Rattle.insertion.proofs.NodePlan.{node-line-is, node-line-fits}
-use Rattle.emission.proofs.PathLaws.{path-node}
+use Rattle.tree_after.proofs.PathLaws.{path-node}
 use Rattle.insertion.proofs.PathLaws.{path-below}
 use Rattle.insertion.proofs.PlanLoop.{level-length}
 
@@ -48,11 +47,11 @@ module _ (level : ℕ) (path m : List ℕ) (c : Cell) (f : Full 0 level path m c
   walk : Walkable 0 m 0 k
   walk = path-node path m 0 (path-below path m level 0 (f .path-is .from) (omega arith)) .walk
 
-  entries-are : (t : ℕ) → wayAt 0 path m (entryOf c t) ≡ entriesOf (part m k) ++ (entryOf c t ∷ [])
+  entries-are : (t : Payload) → wayAt 0 path m (entryOf c t) ≡ entriesOf (part m k) ++ (entryOf c t ∷ [])
   unfolding wayAt
   entries-are t = refl
 
-  full-leaf : (t : ℕ) → FullLeaf (entriesOf (part m k) ++ (entryOf c t ∷ []))
+  full-leaf : (t : Payload) → FullLeaf (entriesOf (part m k) ++ (entryOf c t ∷ []))
   unfolding GoodWay row
   full-leaf t =
       let g = f .path-is .goods 0 (omega arith) t in
@@ -63,7 +62,7 @@ module _ (level : ℕ) (path m : List ℕ) (c : Cell) (f : Full 0 level path m c
   leaf-here : LeafHere (part m k) c
   leaf-here = record {
     leaf = node-part 0 m 0 k walk (part m k) refl;
-    grid = all-first (λ e. onGrid (e .cell) ≡ true) (entriesOf (part m k)) (entryOf c 0 ∷ []) (full-leaf 0 .grid);
+    grid = all-first (λ e. onGrid (e .cell) ≡ true) (entriesOf (part m k)) (entryOf c somePayload ∷ []) (full-leaf somePayload .grid);
     cell = f .path-is .grid;
   }
 
@@ -71,7 +70,7 @@ module _ (level : ℕ) (path m : List ℕ) (c : Cell) (f : Full 0 level path m c
   unfolding row
   leaf-level r l t =
       let a = l t (full-leaf t) in
-      record { is = a .is ∙ ap leafLine (sym (entries-are t)) ∙ sym (line-row (planeSpace fanout) 0 (wayAt 0 path m (entryOf c t))); some = a .some; small = a .small }
+      record { is = a .is ∙ ap leafLine (sym (entries-are t)) ∙ sym (line-row indexSpace 0 (wayAt 0 path m (entryOf c t))); some = a .some; small = a .small }
 
 -- A routing node that gets a ninth branch.
 module _ (n level : ℕ) (path m : List ℕ) (c : Cell) (f : Full (suc n) level path m c) where
@@ -84,22 +83,22 @@ module _ (n level : ℕ) (path m : List ℕ) (c : Cell) (f : Full (suc n) level 
   here : Walkable (suc n) m 0 at
   here = path-node path m (suc n) from .walk
 
-  held-grid : OnGrid (flatMap (held (planeSpace fanout) (suc n)) (here .node .child))
+  held-grid : OnGrid (flatMap (held indexSpace (suc n)) (here .node .child))
   unfolding GoodWay
   held-grid =
-      let e = entryOf c 0 in
+      let e = entryOf c somePayload in
       let w = wayAt (suc n) path m e in
-      let g = f .path-is .goods (suc n) (f .below) 0 in
-      let rows : All (λ i. onGrid (i .cell) ≡ true) (flatMap (held (planeSpace fanout) (suc n)) (row (planeSpace fanout) (suc n) w)) =
-      all-flatMap (λ i. onGrid (i .cell) ≡ true) (held (planeSpace fanout) (suc n)) (row (planeSpace fanout) (suc n) w) (unmap (row (planeSpace fanout) (suc n) w) (g .real)) in
-      let ways = bag-all (λ i. onGrid (i .cell)) (wayHeld (planeSpace fanout) (suc n) w) (flatMap (held (planeSpace fanout) (suc n)) (row (planeSpace fanout) (suc n) w)) (bag-sym (flatMap (held (planeSpace fanout) (suc n)) (row (planeSpace fanout) (suc n) w)) (wayHeld (planeSpace fanout) (suc n) w) (row-entries (planeSpace fanout) (suc n) w)) rows in
-      let b = way-entries (planeSpace fanout) (plane-space-laws fanout) (plane-steps fanout (omega arith)) (suc n) (polygonOn path (suc n)) (itemsAt (suc n) m at) e w (f .path-is .ways (suc n) (f .below) 0) in
-      let all = bag-all (λ i. onGrid (i .cell)) (flatMap (held (planeSpace fanout) (suc n)) (itemsAt (suc n) m at) ++ (e ∷ [])) (wayHeld (planeSpace fanout) (suc n) w) (bag-sym (wayHeld (planeSpace fanout) (suc n) w) (flatMap (held (planeSpace fanout) (suc n)) (itemsAt (suc n) m at) ++ (e ∷ [])) b) ways in
-      subst (λ (l : List (Item (planeSpace fanout) (suc n))). OnGrid (flatMap (held (planeSpace fanout) (suc n)) l)) (items-are (suc n) m at (here .node) (here .reads))
-      (all-first (λ i. onGrid (i .cell) ≡ true) (flatMap (held (planeSpace fanout) (suc n)) (itemsAt (suc n) m at)) (e ∷ []) all)
+      let g = f .path-is .goods (suc n) (f .below) somePayload in
+      let rows : All (λ i. onGrid (i .cell) ≡ true) (flatMap (held indexSpace (suc n)) (row indexSpace (suc n) w)) =
+      all-flatMap (λ i. onGrid (i .cell) ≡ true) (held indexSpace (suc n)) (row indexSpace (suc n) w) (unmap (row indexSpace (suc n) w) (g .real)) in
+      let ways = bag-all (λ i. onGrid (i .cell)) (wayHeld indexSpace (suc n) w) (flatMap (held indexSpace (suc n)) (row indexSpace (suc n) w)) (bag-sym (flatMap (held indexSpace (suc n)) (row indexSpace (suc n) w)) (wayHeld indexSpace (suc n) w) (row-entries indexSpace (suc n) w)) rows in
+      let b = way-entries indexSpace (plane-space-laws fanout) (plane-steps fanout (omega arith)) (suc n) (polygonOn path (suc n)) (itemsAt (suc n) m at) e w (f .path-is .ways (suc n) (f .below) 0) in
+      let all = bag-all (λ i. onGrid (i .cell)) (flatMap (held indexSpace (suc n)) (itemsAt (suc n) m at) ++ (e ∷ [])) (wayHeld indexSpace (suc n) w) (bag-sym (wayHeld indexSpace (suc n) w) (flatMap (held indexSpace (suc n)) (itemsAt (suc n) m at) ++ (e ∷ [])) b) ways in
+      subst (λ (l : List (Item indexSpace (suc n))). OnGrid (flatMap (held indexSpace (suc n)) l)) (items-are (suc n) m at (here .node) (here .reads))
+      (all-first (λ i. onGrid (i .cell) ≡ true) (flatMap (held indexSpace (suc n)) (itemsAt (suc n) m at)) (e ∷ []) all)
     where
-      unmap : (l : List (Item (planeSpace fanout) (suc n))) → All (λ g. All (λ i. onGrid (i .cell) ≡ true) g) (map (held (planeSpace fanout) (suc n)) l) → All (λ x. All (λ i. onGrid (i .cell) ≡ true) (held (planeSpace fanout) (suc n) x)) l
-      unmap l h = map-all (λ g. All (λ i. onGrid (i .cell) ≡ true) g) (held (planeSpace fanout) (suc n)) l h
+      unmap : (l : List (Item indexSpace (suc n))) → All (λ g. All (λ i. onGrid (i .cell) ≡ true) g) (map (held indexSpace (suc n)) l) → All (λ x. All (λ i. onGrid (i .cell) ≡ true) (held indexSpace (suc n) x)) l
+      unmap l h = map-all (λ g. All (λ i. onGrid (i .cell) ≡ true) g) (held indexSpace (suc n)) l h
 
   under-grid : OnGrid (entriesAt (suc n) m 0 at)
   unfolding entriesAt count.entriesOf held
@@ -136,9 +135,9 @@ module _ (n level : ℕ) (path m : List ℕ) (c : Cell) (f : Full (suc n) level 
 
 -- The same for the code, by its level.
 module _ (n level : ℕ) (path m : List ℕ) (c : Cell) (f : Full n level path m c) where
-  module _ (z : n ≡ 0) (p : List ℕ) (p-is : p ≡ part m (partOn path n)) where
+  module _ (z : n ≡ 0) (k : ℕ) (k-is : k ≡ partOn path n) (p : List ℕ) (p-is : p ≡ part m k) where
     leaf-is : p ≡ part m (partOn path 0)
-    leaf-is = p-is ∙ ap (λ (i : ℕ). part m (partOn path i)) z
+    leaf-is = p-is ∙ ap (part m) (k-is ∙ ap (partOn path) z)
 
     pub leaf-ready : LeafHere p c
     leaf-ready = subst (λ (l : List ℕ). LeafHere l c) (sym leaf-is) (leaf-here level path m c (subst (λ (i : ℕ). Full i level path m c) z f))
@@ -148,13 +147,21 @@ module _ (n level : ℕ) (path m : List ℕ) (c : Cell) (f : Full n level path m
         subst (λ (i : ℕ). LineOfLevel i path m c r) (sym z)
         (leaf-level level path m c (subst (λ (i : ℕ). Full i level path m c) z f) r (subst (λ (q : List ℕ). LeafLineIs q c r) leaf-is l))
 
-  pub node-ready : (n ≡ 0 → ⊥) → NodeHere m n 0 (partOn path n) (placeOn path n) (lineOn path (n - 1)) c
-  node-ready h =
-      let e : suc (n - 1) ≡ n = omega arith in
-      subst (λ (i : ℕ). NodeHere m i 0 (partOn path i) (placeOn path i) (lineOn path (n - 1)) c) e (node-here (n - 1) level path m c (subst (λ (i : ℕ). Full i level path m c) (sym e) f))
+  module _ (h : n ≡ 0 → ⊥) where
+    up : suc (n - 1) ≡ n
+    up = omega arith
 
-  pub node-found : (n ≡ 0 → ⊥) → (r : ℕ) → NodeLineIs m n 0 (partOn path n) (placeOn path n) (lineOn path (n - 1)) c r → LineOfLevel n path m c r
-  node-found h r l =
-      let e : suc (n - 1) ≡ n = omega arith in
-      subst (λ (i : ℕ). LineOfLevel i path m c r) e (node-level (n - 1) level path m c (subst (λ (i : ℕ). Full i level path m c) (sym e) f) r
-      (subst (λ (i : ℕ). NodeLineIs m i 0 (partOn path i) (placeOn path i) (lineOn path (n - 1)) c r) (sym e) l))
+    f′ : Full (suc (n - 1)) level path m c
+    f′ = subst (λ (i : ℕ). Full i level path m c) (sym up) f
+
+    -- by the numbers of its level, as they were read
+    module _ (k place line : ℕ) (k-is : k ≡ partOn path n) (place-is : place ≡ placeOn path n) (line-is : line ≡ lineOn path (n - 1)) where
+      pub node-ready : NodeHere m n 0 k place line c
+      node-ready = rw (k-is, place-is, line-is)
+          (subst (λ (i : ℕ). NodeHere m i 0 (partOn path i) (placeOn path i) (lineOn path (n - 1)) c) up (node-here (n - 1) level path m c f′))
+
+      pub node-found : (r : ℕ) → NodeLineIs m n 0 k place line c r → LineOfLevel n path m c r
+      node-found r l =
+          let l′ : NodeLineIs m n 0 (partOn path n) (placeOn path n) (lineOn path (n - 1)) c r = rw (k-is, place-is, line-is) at l in
+          subst (λ (i : ℕ). LineOfLevel i path m c r) up (node-level (n - 1) level path m c f′ r
+          (subst (λ (i : ℕ). NodeLineIs m i 0 (partOn path i) (placeOn path i) (lineOn path (n - 1)) c r) (sym up) l′))

@@ -19,10 +19,9 @@ use Rattle.tree.specs.Plan.{Way, descend, row, groups, few, lineAt}
 use Rattle.tree.specs.Pass.{wayHeld, Alike}
 use Rattle.tree.proofs.Laws.{Laws, Steps, Fit, onSide}
 use Rattle.tree.proofs.Fits.{length-halfItems}
-use Rattle.tree.proofs.Emission.{groups-is}
+use Rattle.tree.proofs.OnePass.{groups-is, few-row, line-row}
 use Rattle.plane.specs.Lines.{CellEntry, holdsOn, nodeLine}
-use Rattle.plane.specs.Plane.{planeSpace}
-use Rattle.plane.specs.Candidates.{rankLine}
+use Rattle.plane.specs.Candidates.{numberedLine}
 use Rattle.plane.proofs.Rects.{plane-space-laws}
 use Rattle.plane.proofs.Steps.{plane-steps, fits-of-fit}
 use Rattle.plane.proofs.NodeLine.{Fits}
@@ -30,26 +29,27 @@ use Rattle.plane.proofs.Extents.{on-same, count-same, node-same}
 use Rattle.memory.specs.Layout.{part, itemCount, childrenIn}
 use Rattle.memory.specs.Reading.{readNode}
 use Rattle.memory.proofs.ReadingLaws.{node-parts, row-length, children-length, node-below}
-use Rattle.memory.specs.Fanout.{fanout}
-use Rattle.index.specs.Walks.{Walkable}
+use Rattle.plane.specs.Fanout.{fanout, indexSpace}
+use Rattle.walks.specs.Walks.{Walkable}
 use Rattle.split_line.specs.Groups.{halvesOf, groupsAt, LineFits}
-use Rattle.emission.specs.Path.{partOn, placeOn, lineOn, polygonOn, rowAt, wayAt}
-use Rattle.emission.proofs.RowLaws.{row-of}
+use Rattle.path.specs.Path.{partOn, placeOn, lineOn, polygonOn}
+use Rattle.tree_after.specs.Path.{rowAt, wayAt}
+use Rattle.tree_after.proofs.RowLaws.{row-of}
 use Rattle.insertion.specs.Descent.{itemsAt}
 use Rattle.insertion.proofs.DescentLaws.{items-are}
 use Rattle.tree.proofs.GoodWays.{GoodWay, way-fits}
 use Rattle.tree.proofs.Ways.{Descent, descent, way-entries}
 use Rattle.tree.proofs.Bags.{bag-keep, bag-length, bag-all}
-use Rattle.tree.proofs.SplitGroups.{split-groups, few-row, row-entries, line-row, alike-mid, alike-all}
+use Rattle.tree.proofs.SplitGroups.{split-groups, row-entries, alike-mid, alike-all}
 use Rattle.layout.specs.Nodes.{countAt}
 
-abbrev laws : Laws (planeSpace fanout)
+abbrev laws : Laws indexSpace
 laws = plane-space-laws fanout
 
-abbrev steps : Steps (planeSpace fanout)
+abbrev steps : Steps indexSpace
 steps = plane-steps fanout (omega arith)
 
-fits-same : (gs hs : List (List CellEntry)) (l : Line) → Alike (planeSpace fanout) gs hs → Fits holdsOn fanout hs l → Fits holdsOn fanout gs l
+fits-same : (gs hs : List (List CellEntry)) (l : Line) → Alike indexSpace gs hs → Fits holdsOn fanout hs l → Fits holdsOn fanout gs l
 fits-same gs hs l a f =
     let x = count-same fanout (holdsOn (left l)) gs hs (on-same fanout (left l)) a in
     let y = count-same fanout (holdsOn (right l)) gs hs (on-same fanout (right l)) a in
@@ -58,25 +58,25 @@ fits-same gs hs l a f =
 
 -- A routing node of the way, at part k, with the branches bs; the node below it on the path is split.
 module _ (n : ℕ) (path m : List ℕ) (e : CellEntry) (v : Walkable (suc n) m 0 (partOn path (suc n)))
-    (way : descend (planeSpace fanout) (suc n) (polygonOn path (suc n)) (itemsAt (suc n) m (partOn path (suc n))) e ≡ some (wayAt (suc n) path m e))
-    (good : GoodWay (planeSpace fanout) (suc n) (wayAt (suc n) path m e)) where
+    (way : descend indexSpace (suc n) (polygonOn path (suc n)) (itemsAt (suc n) m (partOn path (suc n))) e ≡ some (wayAt (suc n) path m e))
+    (good : GoodWay indexSpace (suc n) (wayAt (suc n) path m e)) where
   abbrev k : ℕ
   k = partOn path (suc n)
 
   abbrev place : ℕ
   place = placeOn path (suc n)
 
-  abbrev bs : List (Item (planeSpace fanout) (suc n))
+  abbrev bs : List (Item indexSpace (suc n))
   bs = v .node .child
 
-  abbrev w : Way (planeSpace fanout) (suc n)
+  abbrev w : Way indexSpace (suc n)
   w = wayAt (suc n) path m e
 
-  abbrev under : Way (planeSpace fanout) n
+  abbrev under : Way indexSpace n
   under = wayAt n path m e
 
-  d : Descent (planeSpace fanout) n (polygonOn path (suc n)) (itemsAt (suc n) m k) e w
-  d = descent (planeSpace fanout) n (polygonOn path (suc n)) (itemsAt (suc n) m k) e w way
+  d : Descent indexSpace n (polygonOn path (suc n)) (itemsAt (suc n) m k) e w
+  d = descent indexSpace n (polygonOn path (suc n)) (itemsAt (suc n) m k) e w way
 
   bs-is : rowAt n m k ≡ bs
   bs-is = row-of n m k (v .node) (v .reads)
@@ -86,18 +86,18 @@ module _ (n : ℕ) (path m : List ℕ) (e : CellEntry) (v : Walkable (suc n) m 0
 
   before-is : d .ch .before ≡ take place bs
   unfolding wayAt
-  before-is = sym (ap (λ (y : Way (planeSpace fanout) (suc n)). y .before) (d .is)) ∙ ap (take place) bs-is
+  before-is = sym (ap (λ (y : Way indexSpace (suc n)). y .before) (d .is)) ∙ ap (take place) bs-is
 
   after-is : d .ch .after ≡ drop (place + 1) bs
   unfolding wayAt
-  after-is = sym (ap (λ (y : Way (planeSpace fanout) (suc n)). y .after) (d .is)) ∙ ap (drop (place + 1)) bs-is
+  after-is = sym (ap (λ (y : Way indexSpace (suc n)). y .after) (d .is)) ∙ ap (drop (place + 1)) bs-is
 
   under-is : d .under ≡ under
   unfolding wayAt
-  under-is = sym (ap (λ (y : Way (planeSpace fanout) (suc n)). y .below) (d .is))
+  under-is = sym (ap (λ (y : Way indexSpace (suc n)). y .below) (d .is))
 
   row-cut : bs ≡ take place bs ++ (d .ch .old ∷ d .ch .after)
-  row-cut = sym items-is ∙ steps .chosen-row (polygonOn path (suc n)) (itemsAt (suc n) m k) (e .cell) (d .ch) (d .chose) ∙ ap (λ (l : List (Item (planeSpace fanout) (suc n))). l ++ (d .ch .old ∷ d .ch .after)) before-is
+  row-cut = sym items-is ∙ steps .chosen-row (polygonOn path (suc n)) (itemsAt (suc n) m k) (e .cell) (d .ch) (d .chose) ∙ ap (λ (l : List (Item indexSpace (suc n))). l ++ (d .ch .old ∷ d .ch .after)) before-is
 
   place-length : length (take place bs) ≡ place
   place-length =
@@ -109,10 +109,10 @@ module _ (n : ℕ) (path m : List ℕ) (e : CellEntry) (v : Walkable (suc n) m 0
   old-at = ap (take 1) (ap (drop place) row-cut ∙ drop-at (take place bs) (d .ch .old ∷ d .ch .after) place place-length)
 
   -- how many items the row has: those of the node, with what took the place of one
-  pub row-length-is : length (row (planeSpace fanout) (suc n) w) + 1 ≡ countAt m k + length (split (planeSpace fanout) n (polygonOn path n) (row (planeSpace fanout) n under))
+  pub row-length-is : length (row indexSpace (suc n) w) + 1 ≡ countAt m k + length (split indexSpace n (polygonOn path n) (row indexSpace n under))
   unfolding row wayAt
   row-length-is =
-      let x = split (planeSpace fanout) n (polygonOn path n) (row (planeSpace fanout) n under) in
+      let x = split indexSpace n (polygonOn path n) (row indexSpace n under) in
       let a : length bs ≡ length (take place bs) + suc (length (d .ch .after)) = ap length row-cut ∙ length-append (take place bs) (d .ch .old ∷ d .ch .after) in
       let b = ap length after-is in
       let r = node-parts fanout n m 0 k (v .node) (v .reads) .row in
@@ -123,87 +123,87 @@ module _ (n : ℕ) (path m : List ℕ) (e : CellEntry) (v : Walkable (suc n) m 0
 
   -- the entries of the branch at the place, with the new one
   abbrev es : List CellEntry
-  es = flatMap (held (planeSpace fanout) (suc n)) (take 1 (drop place bs)) ++ (e ∷ [])
+  es = flatMap (held indexSpace (suc n)) (take 1 (drop place bs)) ++ (e ∷ [])
 
   abbrev rows : List CellEntry
-  rows = flatMap (held (planeSpace fanout) n) (row (planeSpace fanout) n under)
+  rows = flatMap (held indexSpace n) (row indexSpace n under)
 
-  es-is : es ≡ flatMap (held (planeSpace fanout) n) (d .ch .old .child) ++ (e ∷ [])
+  es-is : es ≡ flatMap (held indexSpace n) (d .ch .old .child) ++ (e ∷ [])
   unfolding flatMap held
-  es-is = ap (λ (l : List (Item (planeSpace fanout) (suc n))). flatMap (held (planeSpace fanout) (suc n)) l ++ (e ∷ [])) old-at
-      ∙ ap (λ (l : List CellEntry). l ++ (e ∷ [])) (append-nil (flatMap (held (planeSpace fanout) n) (d .ch .old .child)))
+  es-is = ap (λ (l : List (Item indexSpace (suc n))). flatMap (held indexSpace (suc n)) l ++ (e ∷ [])) old-at
+      ∙ ap (λ (l : List CellEntry). l ++ (e ∷ [])) (append-nil (flatMap (held indexSpace n) (d .ch .old .child)))
 
   es-bag : Bag es rows
   es-bag q =
       ap (λ (l : List CellEntry). length (keep q l)) es-is
-      ∙ sym (way-entries (planeSpace fanout) laws steps n (d .ch .grown) (d .ch .old .child) e (d .under) (d .next) q)
-      ∙ ap (λ (y : Way (planeSpace fanout) n). length (keep q (wayHeld (planeSpace fanout) n y))) under-is
-      ∙ sym (row-entries (planeSpace fanout) n under q)
+      ∙ sym (way-entries indexSpace laws steps n (d .ch .grown) (d .ch .old .child) e (d .under) (d .next) q)
+      ∙ ap (λ (y : Way indexSpace n). length (keep q (wayHeld indexSpace n y))) under-is
+      ∙ sym (row-entries indexSpace n under q)
 
-  module _ (full : few (planeSpace fanout) n under ≡ false) (line : rankLine (lineOn path n) ≡ lineAt (planeSpace fanout) n under) where
-    under-good : GoodWay (planeSpace fanout) n under
+  module _ (full : few indexSpace n under ≡ false) (line : numberedLine (lineOn path n) ≡ lineAt indexSpace n under) where
+    under-good : GoodWay indexSpace n under
     unfolding GoodWay wayAt
     under-good = good .below
 
-    over : fanout < length (row (planeSpace fanout) n under)
-    over = leb-false (length (row (planeSpace fanout) n under)) fanout (sym (few-row (planeSpace fanout) n under) ∙ full)
+    over : fanout < length (row indexSpace n under)
+    over = leb-false (length (row indexSpace n under)) fanout (sym (few-row indexSpace n under) ∙ full)
 
     abbrev l : Line
-    l = rankLine (lineOn path n)
+    l = numberedLine (lineOn path n)
 
-    line-is : lineOf (planeSpace fanout) n (row (planeSpace fanout) n under) ≡ l
-    line-is = sym (line ∙ line-row (planeSpace fanout) n under)
+    line-is : lineOf indexSpace n (row indexSpace n under) ≡ l
+    line-is = sym (line ∙ line-row indexSpace n under)
 
-    halves-are : map (held (planeSpace fanout) (suc n)) (split (planeSpace fanout) n (polygonOn path n) (row (planeSpace fanout) n under))
-        ≡ keep (entryOn (planeSpace fanout) (left l)) rows ∷ keep (entryOn (planeSpace fanout) (right l)) rows ∷ []
+    halves-are : map (held indexSpace (suc n)) (split indexSpace n (polygonOn path n) (row indexSpace n under))
+        ≡ keep (entryOn indexSpace (left l)) rows ∷ keep (entryOn indexSpace (right l)) rows ∷ []
     halves-are =
-        split-groups (planeSpace fanout) n (polygonOn path n) (row (planeSpace fanout) n under) over (way-fits (planeSpace fanout) n under under-good over)
-        ∙ ap (λ (z : Line). keep (entryOn (planeSpace fanout) (left z)) rows ∷ keep (entryOn (planeSpace fanout) (right z)) rows ∷ []) line-is
+        split-groups indexSpace n (polygonOn path n) (row indexSpace n under) over (way-fits indexSpace n under under-good over)
+        ∙ ap (λ (z : Line). keep (entryOn indexSpace (left z)) rows ∷ keep (entryOn indexSpace (right z)) rows ∷ []) line-is
 
     -- the groups that the code makes
     abbrev gs : List (List CellEntry)
     gs = groupsAt (suc n) m 0 k place (lineOn path n) e
 
-    gs-is : gs ≡ map (held (planeSpace fanout) (suc n)) (take place bs) ++ (halvesOf l es ++ map (held (planeSpace fanout) (suc n)) (drop (place + 1) bs))
+    gs-is : gs ≡ map (held indexSpace (suc n)) (take place bs) ++ (halvesOf l es ++ map (held indexSpace (suc n)) (drop (place + 1) bs))
     unfolding groupsAt
     gs-is = rw (v .reads)
 
-    row-groups : groups (planeSpace fanout) (suc n) w
-        ≡ map (held (planeSpace fanout) (suc n)) (take place bs) ++ (halvesOf l rows ++ map (held (planeSpace fanout) (suc n)) (drop (place + 1) bs))
+    row-groups : groups indexSpace (suc n) w
+        ≡ map (held indexSpace (suc n)) (take place bs) ++ (halvesOf l rows ++ map (held indexSpace (suc n)) (drop (place + 1) bs))
     unfolding row wayAt
     row-groups =
-        groups-is (planeSpace fanout) (suc n) w
-        ∙ map-append (held (planeSpace fanout) (suc n)) (take place (rowAt n m k)) (split (planeSpace fanout) n (polygonOn path n) (row (planeSpace fanout) n under) ++ drop (place + 1) (rowAt n m k))
-        ∙ rw (map-append (held (planeSpace fanout) (suc n)) (split (planeSpace fanout) n (polygonOn path n) (row (planeSpace fanout) n under)) (drop (place + 1) (rowAt n m k)), halves-are, bs-is)
+        groups-is indexSpace (suc n) w
+        ∙ map-append (held indexSpace (suc n)) (take place (rowAt n m k)) (split indexSpace n (polygonOn path n) (row indexSpace n under) ++ drop (place + 1) (rowAt n m k))
+        ∙ rw (map-append (held indexSpace (suc n)) (split indexSpace n (polygonOn path n) (row indexSpace n under)) (drop (place + 1) (rowAt n m k)), halves-are, bs-is)
 
-    alike : Alike (planeSpace fanout) gs (groups (planeSpace fanout) (suc n) w)
+    alike : Alike indexSpace gs (groups indexSpace (suc n) w)
     alike =
-        subst (λ (z : List (List CellEntry)). Alike (planeSpace fanout) gs z) (sym row-groups)
-        (subst (λ (z : List (List CellEntry)). Alike (planeSpace fanout) z (map (held (planeSpace fanout) (suc n)) (take place bs) ++ (halvesOf l rows ++ map (held (planeSpace fanout) (suc n)) (drop (place + 1) bs)))) (sym gs-is)
-        (alike-mid (planeSpace fanout) (map (held (planeSpace fanout) (suc n)) (take place bs)) (map (held (planeSpace fanout) (suc n)) (drop (place + 1) bs))
-        (keep (entryOn (planeSpace fanout) (left l)) es) (keep (entryOn (planeSpace fanout) (right l)) es) (keep (entryOn (planeSpace fanout) (left l)) rows) (keep (entryOn (planeSpace fanout) (right l)) rows)
-        (bag-keep (entryOn (planeSpace fanout) (left l)) es rows es-bag) (bag-keep (entryOn (planeSpace fanout) (right l)) es rows es-bag)))
+        subst (λ (z : List (List CellEntry)). Alike indexSpace gs z) (sym row-groups)
+        (subst (λ (z : List (List CellEntry)). Alike indexSpace z (map (held indexSpace (suc n)) (take place bs) ++ (halvesOf l rows ++ map (held indexSpace (suc n)) (drop (place + 1) bs)))) (sym gs-is)
+        (alike-mid indexSpace (map (held indexSpace (suc n)) (take place bs)) (map (held indexSpace (suc n)) (drop (place + 1) bs))
+        (keep (entryOn indexSpace (left l)) es) (keep (entryOn indexSpace (right l)) es) (keep (entryOn indexSpace (left l)) rows) (keep (entryOn indexSpace (right l)) rows)
+        (bag-keep (entryOn indexSpace (left l)) es rows es-bag) (bag-keep (entryOn indexSpace (right l)) es rows es-bag)))
 
     -- the line found from them is the definition's
-    pub node-line-is : nodeLine fanout gs ≡ lineAt (planeSpace fanout) (suc n) w
-    node-line-is = node-same fanout gs (groups (planeSpace fanout) (suc n) w) alike
+    pub node-line-is : nodeLine fanout gs ≡ lineAt indexSpace (suc n) w
+    node-line-is = node-same fanout gs (groups indexSpace (suc n) w) alike
 
     -- and a line fits them where the node has one too many
-    pub node-line-fits : fanout < length (row (planeSpace fanout) (suc n) w) → LineFits gs
+    pub node-line-fits : fanout < length (row indexSpace (suc n) w) → LineFits gs
     unfolding GoodWay
     node-line-fits o =
-        let f = way-fits (planeSpace fanout) (suc n) w good o in
-        let z = lineOf (planeSpace fanout) (suc n) (row (planeSpace fanout) (suc n) w) in
-        let g : Fit (planeSpace fanout) (onSide (planeSpace fanout)) z (map (held (planeSpace fanout) (suc n)) (row (planeSpace fanout) (suc n) w)) = record {
-          lefts = rw (← length-halfItems (planeSpace fanout) (suc n) (left z) (row (planeSpace fanout) (suc n) w)) (f .lefts);
-          rights = rw (← length-halfItems (planeSpace fanout) (suc n) (right z) (row (planeSpace fanout) (suc n) w)) (f .rights);
+        let f = way-fits indexSpace (suc n) w good o in
+        let z = lineOf indexSpace (suc n) (row indexSpace (suc n) w) in
+        let g : Fit indexSpace (onSide indexSpace) z (map (held indexSpace (suc n)) (row indexSpace (suc n) w)) = record {
+          lefts = rw (← length-halfItems indexSpace (suc n) (left z) (row indexSpace (suc n) w)) (f .lefts);
+          rights = rw (← length-halfItems indexSpace (suc n) (right z) (row indexSpace (suc n) w)) (f .rights);
         } in
-        let q = sym (groups-is (planeSpace fanout) (suc n) w) in
+        let q = sym (groups-is indexSpace (suc n) w) in
         record {
-          some-each = alike-all (planeSpace fanout) (λ x. 1 ≤ length x) (λ x. 1 ≤ length x) (λ x y b h. let i = bag-length x y b in omega arith) gs (groups (planeSpace fanout) (suc n) w) alike
+          some-each = alike-all indexSpace (λ x. 1 ≤ length x) (λ x. 1 ≤ length x) (λ x y b h. let i = bag-length x y b in omega arith) gs (groups indexSpace (suc n) w) alike
               (subst (λ (y : List (List CellEntry)). All (λ x. 1 ≤ length x) y) q (good .full));
-          grid = alike-all (planeSpace fanout) (λ x. All (λ i. onGrid (i .cell) ≡ true) x) (λ x. All (λ i. onGrid (i .cell) ≡ true) x) (λ x y b h. bag-all (λ i. onGrid (i .cell)) x y b h) gs (groups (planeSpace fanout) (suc n) w) alike
+          grid = alike-all indexSpace (λ x. All (λ i. onGrid (i .cell) ≡ true) x) (λ x. All (λ i. onGrid (i .cell) ≡ true) x) (λ x y b h. bag-all (λ i. onGrid (i .cell)) x y b h) gs (groups indexSpace (suc n) w) alike
               (subst (λ (y : List (List CellEntry)). All (λ x. All (λ i. onGrid (i .cell) ≡ true) x) y) q (good .real));
           line = z;
-          fits = fits-same gs (groups (planeSpace fanout) (suc n) w) z alike (subst (λ (y : List (List CellEntry)). Fits holdsOn fanout y z) q (fits-of-fit fanout (map (held (planeSpace fanout) (suc n)) (row (planeSpace fanout) (suc n) w)) z g));
+          fits = fits-same gs (groups indexSpace (suc n) w) z alike (subst (λ (y : List (List CellEntry)). Fits holdsOn fanout y z) q (fits-of-fit fanout (map (held indexSpace (suc n)) (row indexSpace (suc n) w)) z g));
         }

@@ -1,17 +1,18 @@
 -- The bounds of what the loops of the plan read and write.
-use Prim.Native.Nat.{ℕ, _+_, _*_, _≤_, _<_}
+use Prim.Native.Nat.{ℕ, _+_, _≤_, _<_}
+use mathlib.Core.Path.{_≡_}
 use mathlib.Core.List.{List}
 use native.Mathlib.Omega.{arith}
 use mir.Syntax.{w32}
 use mir.Val.{Fits}
-use lib.ListN.{length}
 use Rattle.geometry.specs.declared.rect.Cell.{Cell}
 use Rattle.memory.proofs.ReadingLaws.{level-range}
-use Rattle.memory.specs.Fanout.{fanout}
+use Rattle.plane.specs.Fanout.{fanout}
 use Rattle.layout.specs.Nodes.{PartIn}
-use Rattle.emission.specs.Path.{partOn, PathNode, PathFrom}
-use Rattle.emission.proofs.PathLaws.{path-node}
-use Rattle.insertion.proofs.NodeBounds.{part-in, line-in, part-ends}
+use Rattle.path.specs.Path.{partOn, HasLevel}
+use Rattle.tree_after.specs.Path.{PathNode, PathFrom}
+use Rattle.tree_after.proofs.PathLaws.{path-node}
+use Rattle.insertion.proofs.NodeBounds.{part-ends}
 use Rattle.insertion.proofs.PathLaws.{path-below}
 use Rattle.insertion.proofs.PlanLoop.{Planning, plan-node}
 
@@ -28,19 +29,19 @@ module _ (level : ℕ) (path m : List ℕ) (n : ℕ) (f : PathFrom level path m)
   node : PathNode n path m
   node = path-node path m n (path-below path m level n f h)
 
-  pub count-part : 68 * n < length path
-  count-part = part-in n path m node
+  pub count-level : HasLevel n path
+  count-level = node .room
 
-  pub count-in : PartIn m (partOn path n)
-  count-in = part-ends n path m node
+  pub count-in : (k : ℕ) → k ≡ partOn path n → PartIn m k
+  count-in k e = part-ends n path m node k e
 
   pub count-next : Fits w32 (n + 1)
   count-next = next-fits n path m node
 
 -- of the loop that writes their lines
 module _ (level : ℕ) (path₀ m : List ℕ) (splits : ℕ) (c : Cell) (n : ℕ) (path : List ℕ) (a : Planning level path₀ m splits c n path) (h : n < splits) where
-  pub plan-line : 68 * n + 2 < length path
-  plan-line = line-in n path m (plan-node level path₀ m splits c n path a h)
+  pub plan-level : HasLevel n path
+  plan-level = plan-node level path₀ m splits c n path a h .room
 
   pub plan-next : Fits w32 (n + 1)
   plan-next = next-fits n path m (plan-node level path₀ m splits c n path a h)

@@ -31,96 +31,97 @@ use Rattle.tree.proofs.Laws.{Laws, Steps}
 use Rattle.tree.proofs.Keeps.{sound-wider}
 use Rattle.tree.proofs.InsertAt.{Fresh}
 use Rattle.tree.proofs.PlanIndex.{insert-by-plan}
-use Rattle.plane.specs.Lines.{CellEntry}
-use Rattle.plane.specs.Plane.{planeSpace, planeRoot}
+use Rattle.plane.specs.Lines.{CellEntry, Payload, somePayload, entryOf}
 use Rattle.plane.proofs.Rects.{plane-space-laws}
 use Rattle.plane.proofs.Steps.{plane-steps}
 use Rattle.plane.proofs.Roots.{plane-root-laws}
 use Rattle.memory.specs.Layout.{part, rectCount, rootIn, rectNumbers}
 use Rattle.memory.specs.Reading.{reading}
 use Rattle.memory.proofs.ReadingLaws.{ReadAs, read-as, read-sound}
-use Rattle.memory.specs.Fanout.{fanout}
+use Rattle.plane.specs.Fanout.{fanout, indexSpace, indexRoot}
 use Rattle.layout.proofs.NodeLaws.{rects-length}
-use Rattle.index.specs.Answers.{cellsRemoved}
-use Rattle.index.specs.Changes.{entryOf}
-use Rattle.index.specs.Walks.{Walkable}
-use Rattle.index.proofs.CheckLaws.{node-polygon}
-use Rattle.index.proofs.WalkRows.{walkable}
-use Rattle.index.proofs.TreeWalk.{tree-walkable}
-use Rattle.emission.specs.Path.{partOn, polygonOn, wayAt, plannedTree}
-use Rattle.index.specs.Held.{heldRead}
+use Rattle.answers.specs.Answers.{cellsRemoved}
+use Rattle.walks.specs.Walks.{Walkable}
+use Rattle.layout.proofs.ReadNodes.{node-polygon}
+use Rattle.walks.proofs.WalkRows.{walkable}
+use Rattle.walks.proofs.TreeWalk.{tree-walkable}
+use Rattle.path.specs.Path.{partOn, polygonOn, HasLevel}
+use Rattle.path.specs.Puts.{LevelPut}
+use Rattle.path.proofs.SameLaws.{level-kept}
+use Rattle.tree_after.specs.Path.{wayAt, plannedTree}
+use Rattle.queries.specs.Held.{heldRead}
 use Rattle.tree.proofs.GoodWays.{GoodWay}
 use Rattle.insertion.specs.declared.descent.Descent.{Descent}
-use Rattle.insertion.specs.Descent.{itemsAt, LevelPut, Descending, Kept, Reached, Stopped, Descended}
+use Rattle.insertion.specs.Descent.{itemsAt, Descending, Kept, Reached, Stopped, Descended}
 use Rattle.insertion.specs.Removed.{RemovedBelow, RemovedFound}
 use Rattle.insertion.specs.Planning.{GoodPath, FullLevels, PlanMade}
 use Rattle.insertion.specs.Insert.{Inserting, PathReady, PathPlanned, PathRefused, PathFound}
-use Rattle.insertion.proofs.DescentLaws.{items-are, same-drop, same-polygon}
+use Rattle.insertion.proofs.DescentLaws.{items-are}
 use Rattle.tree.proofs.Ways.{sound-way}
 use Rattle.tree.proofs.Insert.{nodes-after}
 use Rattle.layout.specs.Nodes.{PartIn}
 use Rattle.insertion.proofs.PlanTree.{planned-insert}
 use Rattle.insertion.proofs.SplitCount.{split-often}
 
-abbrev laws : Laws (planeSpace fanout)
+abbrev laws : Laws indexSpace
 laws = plane-space-laws fanout
 
-abbrev steps : Steps (planeSpace fanout)
+abbrev steps : Steps indexSpace
 steps = plane-steps fanout (omega arith)
 
 one-rect : (l : List ℕ) (n : ℕ) → length (rectsIn l n) ≡ 1 → rectsIn l n ≡ rectAt l 0 ∷ []
 unfolding rectsIn
 one-rect l n h = let e : n ≡ 1 = sym (length-rects l n) ∙ h in rw e
 
-good-below : (path m : List ℕ) (e : CellEntry) (n j : ℕ) → j ≤ n → GoodWay (planeSpace fanout) n (wayAt n path m e) → GoodWay (planeSpace fanout) j (wayAt j path m e)
+good-below : (path m : List ℕ) (e : CellEntry) (n j : ℕ) → j ≤ n → GoodWay indexSpace n (wayAt n path m e) → GoodWay indexSpace j (wayAt j path m e)
 unfolding GoodWay wayAt
-good-below path m e zero j h g = subst (λ (i : ℕ). GoodWay (planeSpace fanout) i (wayAt i path m e)) (let z : 0 ≡ j = omega arith in z) g
+good-below path m e zero j h g = subst (λ (i : ℕ). GoodWay indexSpace i (wayAt i path m e)) (let z : 0 ≡ j = omega arith in z) g
 good-below path m e (suc n) j h g = go (ℕ-discrete j (suc n)) (λ i. good-below path m e n j i (g .below))
   where
-    go : Dec (j ≡ suc n) → (j ≤ n → GoodWay (planeSpace fanout) j (wayAt j path m e)) → GoodWay (planeSpace fanout) j (wayAt j path m e)
-    go (yes z) f = subst (λ (i : ℕ). GoodWay (planeSpace fanout) i (wayAt i path m e)) (sym z) g
+    go : Dec (j ≡ suc n) → (j ≤ n → GoodWay indexSpace j (wayAt j path m e)) → GoodWay indexSpace j (wayAt j path m e)
+    go (yes z) f = subst (λ (i : ℕ). GoodWay indexSpace i (wayAt i path m e)) (sym z) g
     go (no z) f = f (omega arith)
 
-module _ (m : List ℕ) (c : Cell) (x : Tree (planeSpace fanout)) (reads : reading fanout m ≡ some (some x)) (grid : onGrid c ≡ true) (new : holds (planeSpace fanout) c (some x) ≡ false) where
+module _ (m : List ℕ) (c : Cell) (x : Tree indexSpace) (reads : reading fanout m ≡ some (some x)) (grid : onGrid c ≡ true) (new : holds indexSpace c (some x) ≡ false) where
   abbrev root : ℕ
   root = rootIn m
 
   read-x : ReadAs fanout m x
   read-x = read-as fanout m x reads
 
-  sound : SoundTree (planeSpace fanout) (planeRoot fanout) x
+  sound : SoundTree indexSpace indexRoot x
   sound = read-sound fanout m x reads .sound
 
   walk : Walkable (x .level) m 0 root
-  walk = walkable (x .level) m 0 root (top (planeSpace fanout) x) (read-x .right) (omega arith) (read-x .root-node)
+  walk = walkable (x .level) m 0 root (top indexSpace x) (read-x .right) (omega arith) (read-x .root-node)
 
   abbrev p : List Rect
-  p = planeRoot fanout .growRoot (x .root) c
+  p = indexRoot .growRoot (x .root) c
 
   -- the rectangle that the code grows
   grown-root : (r g : Rect) → r ≡ rectAt (rectNumbers (part m root)) 0 → g ≡ grown r c → g ∷ [] ≡ p
   grown-root r g e f =
-      let q = node-polygon (x .level) m 0 root (top (planeSpace fanout) x) (read-x .root-node) in
+      let q = node-polygon (x .level) m 0 root (top indexSpace x) (read-x .root-node) in
       let o : length (rectsIn (rectNumbers (part m root)) (rectCount (part m root))) ≡ 1 = ap length (sym q) ∙ sound .one in
       let w : x .root ≡ rectAt (rectNumbers (part m root)) 0 ∷ [] = q ∙ one-rect (rectNumbers (part m root)) (rectCount (part m root)) o in
-      ap (λ (z : Rect). z ∷ []) (f ∙ ap (λ (z : Rect). grown z c) e) ∙ ap (λ (l : List Rect). planeRoot fanout .growRoot l c) (sym w)
+      ap (λ (z : Rect). z ∷ []) (f ∙ ap (λ (z : Rect). grown z c) e) ∙ ap (λ (l : List Rect). indexRoot .growRoot l c) (sym w)
 
   items-x : itemsAt (x .level) m root ≡ x .items
-  items-x = items-are (x .level) m root (top (planeSpace fanout) x) (read-x .root-node)
+  items-x = items-are (x .level) m root (top indexSpace x) (read-x .root-node)
 
-  grown-items : SoundItems (planeSpace fanout) (x .level) p (x .items)
+  grown-items : SoundItems indexSpace (x .level) p (x .items)
   grown-items = record {
-    each = all-map (SoundItem (planeSpace fanout) (x .level) (x .root)) (SoundItem (planeSpace fanout) (x .level) p) (x .items) (λ y. sound-wider (planeSpace fanout) (x .level) (x .root) p y (plane-root-laws fanout .grow-old (x .root) c)) (sound .items .each);
+    each = all-map (SoundItem indexSpace (x .level) (x .root)) (SoundItem indexSpace (x .level) p) (x .items) (λ y. sound-wider indexSpace (x .level) (x .root) p y (plane-root-laws fanout .grow-old (x .root) c)) (sound .items .each);
     apart = sound .items .apart;
   }
 
-  fresh : Fresh (planeSpace fanout) (entryOf c 0) (flatMap (held (planeSpace fanout) (x .level)) (x .items))
-  fresh = any-false (ofCell (planeSpace fanout) c) (entries (planeSpace fanout) (some x)) new
+  fresh : Fresh indexSpace (entryOf c somePayload) (flatMap (held indexSpace (x .level)) (x .items))
+  fresh = any-false (ofCell indexSpace c) (entries indexSpace (some x)) new
 
-  fine-p : planeSpace fanout .Fine p
+  fine-p : indexSpace .Fine p
   fine-p = plane-root-laws fanout .grow-fine (x .root) c grid (sound .fine)
 
-  has-p : planeSpace fanout .has p c ≡ true
+  has-p : indexSpace .has p c ≡ true
   has-p = plane-root-laws fanout .grow-has (x .root) c (sound .one)
 
   -- the cells removed from the root down
@@ -130,58 +131,57 @@ module _ (m : List ℕ) (c : Cell) (x : Tree (planeSpace fanout)) (reads : readi
   unfolding removedTotal
   root-removed path path₁ v u w g =
       w .is g ∙ zero-add _
-      ∙ ap (λ (l : List Rect). removedAt (planeSpace fanout) (x .level) l
+      ∙ ap (λ (l : List Rect). removedAt indexSpace (x .level) l
       (itemsAt (x .level) m (partOn path₁ (x .level))) c) (v .polygon)
-      ∙ ap (λ (l : List (Item (planeSpace fanout) (x .level))). removedAt (planeSpace fanout) (x .level) p l c)
+      ∙ ap (λ (l : List (Item indexSpace (x .level))). removedAt indexSpace (x .level) p l c)
       (ap (itemsAt (x .level) m) (v .part) ∙ items-x)
 
   -- the descent starts at the root
-  root-descending : (path path₁ : List ℕ) → 68 * x .level + 68 ≤ length path → LevelPut path (x .level) root p path₁ → Descending (x .level) path₁ m c
+  root-descending : (path path₁ : List ℕ) → HasLevel (x .level) path → LevelPut path (x .level) root p path₁ → Descending (x .level) path₁ m c
   root-descending path path₁ h v =
       let i : itemsAt (x .level) m (partOn path₁ (x .level)) ≡ x .items = ap (itemsAt (x .level) m) (v .part) ∙ items-x in
-      let l = v .same-length in
       record {
         walk = subst (Walkable (x .level) m 0) (sym (v .part)) walk;
-        room = omega arith;
+        room = level-kept path path₁ (x .level) (v .same-length) h;
         few = v .few;
         unsplit = v .line;
         grid = grid;
-        fine = subst (λ (z : List Rect). planeSpace fanout .Fine z) (sym (v .polygon)) fine-p;
-        has = subst (λ (z : List Rect). planeSpace fanout .has z c ≡ true) (sym (v .polygon)) has-p;
-        items = subst (λ (z : List Rect). SoundItems (planeSpace fanout) (x .level) z (itemsAt (x .level) m (partOn path₁ (x .level)))) (sym (v .polygon))
-            (subst (λ (z : List (Item (planeSpace fanout) (x .level))). SoundItems (planeSpace fanout) (x .level) p z) (sym i) grown-items);
-        count = subst (λ (z : List (Item (planeSpace fanout) (x .level))). Count (planeSpace fanout) z) (sym i) (sound .count);
-        fresh = subst (λ (z : List (Item (planeSpace fanout) (x .level))). Fresh (planeSpace fanout) (entryOf c 0) (flatMap (held (planeSpace fanout) (x .level)) z)) (sym i) fresh;
+        fine = subst (λ (z : List Rect). indexSpace .Fine z) (sym (v .polygon)) fine-p;
+        has = subst (λ (z : List Rect). indexSpace .has z c ≡ true) (sym (v .polygon)) has-p;
+        items = subst (λ (z : List Rect). SoundItems indexSpace (x .level) z (itemsAt (x .level) m (partOn path₁ (x .level)))) (sym (v .polygon))
+            (subst (λ (z : List (Item indexSpace (x .level))). SoundItems indexSpace (x .level) p z) (sym i) grown-items);
+        count = subst (λ (z : List (Item indexSpace (x .level))). Count indexSpace z) (sym i) (sound .count);
+        fresh = subst (λ (z : List (Item indexSpace (x .level))). Fresh indexSpace (entryOf c somePayload) (flatMap (held indexSpace (x .level)) z)) (sym i) fresh;
       }
 
   -- the descent from the root, in the tree's words
   module _ (path path₁ : List ℕ) (v : LevelPut path (x .level) root p path₁) where
-    from-root : (t : ℕ) (o : Option (Way (planeSpace fanout) (x .level))) → descend (planeSpace fanout) (x .level) (polygonOn path₁ (x .level)) (itemsAt (x .level) m (partOn path₁ (x .level))) (entryOf c t) ≡ o
-        → descend (planeSpace fanout) (x .level) p (x .items) (entryOf c t) ≡ o
+    from-root : (t : Payload) (o : Option (Way indexSpace (x .level))) → descend indexSpace (x .level) (polygonOn path₁ (x .level)) (itemsAt (x .level) m (partOn path₁ (x .level))) (entryOf c t) ≡ o
+        → descend indexSpace (x .level) p (x .items) (entryOf c t) ≡ o
     from-root t o h =
-        ap (λ (z : List Rect). descend (planeSpace fanout) (x .level) z (x .items) (entryOf c t)) (sym (v .polygon))
-        ∙ ap (λ (z : List (Item (planeSpace fanout) (x .level))). descend (planeSpace fanout) (x .level) (polygonOn path₁ (x .level)) z (entryOf c t)) (sym (ap (itemsAt (x .level) m) (v .part) ∙ items-x)) ∙ h
+        ap (λ (z : List Rect). descend indexSpace (x .level) z (x .items) (entryOf c t)) (sym (v .polygon))
+        ∙ ap (λ (z : List (Item indexSpace (x .level))). descend indexSpace (x .level) (polygonOn path₁ (x .level)) z (entryOf c t)) (sym (ap (itemsAt (x .level) m) (v .part) ∙ items-x)) ∙ h
 
     -- step 2 refused
-    refused : Stopped (x .level) path₁ m c → (t : ℕ) → insertTree (planeSpace fanout) (planeRoot fanout) (some x) (entryOf c t) ≡ none
+    refused : Stopped (x .level) path₁ m c → (t : Payload) → insertTree indexSpace indexRoot (some x) (entryOf c t) ≡ none
     unfolding bind
-    refused s t = insert-by-plan (planeSpace fanout) (planeRoot fanout) x (entryOf c t) ∙ rw (from-root t none (s .way t))
+    refused s t = insert-by-plan indexSpace indexRoot x (entryOf c t) ∙ rw (from-root t none (s .way t))
 
     module _ (path₂ : List ℕ) (kept : Kept (x .level) path₁ path₂) (z : Reached (x .level) path₁ m c path₂) where
       polygon-2 : polygonOn path₂ (x .level) ≡ p
-      polygon-2 = same-polygon path₂ path₁ (x .level) (same-drop path₂ path₁ (68 * x .level + 2) (68 * x .level + 3) (kept .above) (omega arith)) ∙ v .polygon
+      polygon-2 = kept .polygon (v .few) ∙ v .polygon
 
       part-2 : partOn path₂ (x .level) ≡ root
       part-2 = kept .part ∙ v .part
 
-      way-2 : (t : ℕ) → descend (planeSpace fanout) (x .level) p (x .items) (entryOf c t) ≡ some (wayAt (x .level) path₂ m (entryOf c t))
+      way-2 : (t : Payload) → descend indexSpace (x .level) p (x .items) (entryOf c t) ≡ some (wayAt (x .level) path₂ m (entryOf c t))
       way-2 t =
-          ap (λ (l : List Rect). descend (planeSpace fanout) (x .level) l (x .items) (entryOf c t)) (sym polygon-2)
-          ∙ ap (λ (l : List (Item (planeSpace fanout) (x .level))). descend (planeSpace fanout) (x .level) (polygonOn path₂ (x .level)) l (entryOf c t)) (sym (ap (itemsAt (x .level) m) part-2 ∙ items-x))
+          ap (λ (l : List Rect). descend indexSpace (x .level) l (x .items) (entryOf c t)) (sym polygon-2)
+          ∙ ap (λ (l : List (Item indexSpace (x .level))). descend indexSpace (x .level) (polygonOn path₂ (x .level)) l (entryOf c t)) (sym (ap (itemsAt (x .level) m) part-2 ∙ items-x))
           ∙ z .ways (x .level) (le-refl (x .level)) t
 
-      good-top : (t : ℕ) → GoodWay (planeSpace fanout) (x .level) (wayAt (x .level) path₂ m (entryOf c t))
-      good-top t = sound-way (planeSpace fanout) laws steps (x .level) p (x .items) (entryOf c t) (wayAt (x .level) path₂ m (entryOf c t)) (way-2 t) fine-p grown-items (sound .count) has-p fresh .way
+      good-top : (t : Payload) → GoodWay indexSpace (x .level) (wayAt (x .level) path₂ m (entryOf c t))
+      good-top t = sound-way indexSpace laws steps (x .level) p (x .items) (entryOf c t) (wayAt (x .level) path₂ m (entryOf c t)) (way-2 t) fine-p grown-items (sound .count) has-p fresh .way
 
       good-path : GoodPath (x .level) path₂ m c
       good-path = record { from = z .from; linked = z .linked; grid = grid; ways = z .ways; goods = λ j h t. good-below path₂ m (entryOf c t) (x .level) j h (good-top t) }
@@ -192,7 +192,7 @@ module _ (m : List ℕ) (c : Cell) (x : Tree (planeSpace fanout)) (reads : readi
         top = part-2;
         polygon = λ y h.
             let same : x ≡ y = Option·some-injective x y (Option·some-injective (some x) (some y) (sym reads ∙ h)) in
-            polygon-2 ∙ ap (λ (u : Tree (planeSpace fanout)). planeRoot fanout .growRoot (u .root) c) same;
+            polygon-2 ∙ ap (λ (u : Tree indexSpace). indexRoot .growRoot (u .root) c) same;
       }
 
   -- a path that is ready
@@ -205,25 +205,25 @@ module _ (m : List ℕ) (c : Cell) (x : Tree (planeSpace fanout)) (reads : readi
         top = made .part ∙ r .top;
         after = λ y h t.
             let same : some x ≡ some y = Option·some-injective (some x) (some y) (sym reads ∙ h) in
-            subst (λ (o : Option (Tree (planeSpace fanout))). insertTree (planeSpace fanout) (planeRoot fanout) o (entryOf c t) ≡ some (plannedTree (x .level) path₃ m (entryOf c t))) same
+            subst (λ (o : Option (Tree indexSpace)). insertTree indexSpace indexRoot o (entryOf c t) ≡ some (plannedTree (x .level) path₃ m (entryOf c t))) same
             (planned-insert x path₃ m (entryOf c t) (λ j i. made .planned .each j i t) (made .path-is .goods (x .level) (le-refl (x .level)) t)
             (sym (made .polygon ∙ r .polygon x reads))
-            (ap (λ (l : List (Item (planeSpace fanout) (x .level))). descend (planeSpace fanout) (x .level) (polygonOn path₃ (x .level)) l (entryOf c t)) (sym (ap (itemsAt (x .level) m) (made .part ∙ r .top) ∙ items-x)) ∙ made .path-is .ways (x .level) (le-refl (x .level)) t));
+            (ap (λ (l : List (Item indexSpace (x .level))). descend indexSpace (x .level) (polygonOn path₃ (x .level)) l (entryOf c t)) (sym (ap (itemsAt (x .level) m) (made .part ∙ r .top) ∙ items-x)) ∙ made .path-is .ways (x .level) (le-refl (x .level)) t));
       }
 
-    way-ready : (t : ℕ) → descend (planeSpace fanout) (x .level) p (x .items) (entryOf c t) ≡ some (wayAt (x .level) path₂ m (entryOf c t))
+    way-ready : (t : Payload) → descend indexSpace (x .level) p (x .items) (entryOf c t) ≡ some (wayAt (x .level) path₂ m (entryOf c t))
     way-ready t =
-        ap (λ (l : List Rect). descend (planeSpace fanout) (x .level) l (x .items) (entryOf c t)) (sym (r .polygon x reads))
-        ∙ ap (λ (l : List (Item (planeSpace fanout) (x .level))). descend (planeSpace fanout) (x .level) (polygonOn path₂ (x .level)) l (entryOf c t)) (sym (ap (itemsAt (x .level) m) (r .top) ∙ items-x))
+        ap (λ (l : List Rect). descend indexSpace (x .level) l (x .items) (entryOf c t)) (sym (r .polygon x reads))
+        ∙ ap (λ (l : List (Item indexSpace (x .level))). descend indexSpace (x .level) (polygonOn path₂ (x .level)) l (entryOf c t)) (sym (ap (itemsAt (x .level) m) (r .top) ∙ items-x))
         ∙ r .plannable .path-is .ways (x .level) (le-refl (x .level)) t
 
     -- the tree after has a node more for each split at least
-    pub more-nodes : (n : ℕ) → FullLevels (x .level) path₂ m n → (t : ℕ)
-        → (y : Tree (planeSpace fanout)) × (insertTree (planeSpace fanout) (planeRoot fanout) (some x) (entryOf c t) ≡ some y) × (n + nodeCount (planeSpace fanout) (some x) ≤ nodeCount (planeSpace fanout) (some y))
+    pub more-nodes : (n : ℕ) → FullLevels (x .level) path₂ m n → (t : Payload)
+        → (y : Tree indexSpace) × (insertTree indexSpace indexRoot (some x) (entryOf c t) ≡ some y) × (n + nodeCount indexSpace (some x) ≤ nodeCount indexSpace (some y))
     more-nodes n f t =
         let s = split-often (x .level) path₂ m c n (r .plannable .path-is) f t in
         let way = wayAt (x .level) path₂ m (entryOf c t) in
-        let a = nodes-after (planeSpace fanout) laws steps (planeRoot fanout) (plane-root-laws fanout) (omega arith) x (entryOf c t) way (way-ready t) sound grid new in
+        let a = nodes-after indexSpace laws steps indexRoot (plane-root-laws fanout) (omega arith) x (entryOf c t) way (way-ready t) sound grid new in
         (a .0, a .1, let b = a .2 in omega arith)
 
 -- the first rectangle of a part
@@ -239,15 +239,15 @@ start-room level h = omega arith
 
 -- The same for the code: the tree's level and root by their numbers.
 module _ (m : List ℕ) (level root : ℕ) (c : Cell) (v : Inserting m level root c) where
-  abbrev tree : Tree (planeSpace fanout)
+  abbrev tree : Tree indexSpace
   tree = v .tree-in .tree
 
-  tree-new : holds (planeSpace fanout) c (some tree) ≡ false
+  tree-new : holds indexSpace c (some tree) ≡ false
   unfolding heldRead
   tree-new = sym (ap (heldRead c) (v .tree-in .reads)) ∙ v .new
 
   abbrev grownRoot : List Rect
-  grownRoot = planeRoot fanout .growRoot (tree .root) c
+  grownRoot = indexRoot .growRoot (tree .root) c
 
   walk-root : Walkable level m 0 root
   walk-root = tree-walkable m level root (v .tree-in)
@@ -261,7 +261,7 @@ module _ (m : List ℕ) (level root : ℕ) (c : Cell) (v : Inserting m level roo
   pub cell-y : c .y ≤ 65535
   cell-y = grid-of c (v .grid) .y-most
 
-  module _ (path path₁ : List ℕ) (h : 68 * level + 68 ≤ length path) (q : Polygon) (put : LevelPut path level root (rectsOf q) path₁) (g : Rect) (u : PolygonOf (g ∷ []) q)
+  module _ (path path₁ : List ℕ) (h : HasLevel level path) (q : Polygon) (put : LevelPut path level root (rectsOf q) path₁) (g : Rect) (u : PolygonOf (g ∷ []) q)
       (r : Rect) (f : g ≡ grown r c) (e : r ≡ rectAt (rectNumbers (part m root)) 0) where
     put-tree : LevelPut path (tree .level) (rootIn m) grownRoot path₁
     put-tree =
@@ -272,7 +272,7 @@ module _ (m : List ℕ) (level root : ℕ) (c : Cell) (v : Inserting m level roo
 
     pub find-start : Descending level path₁ m c
     find-start = subst (λ (i : ℕ). Descending i path₁ m c) (v .tree-in .level-is)
-        (root-descending m c tree (v .tree-in .reads) (v .grid) tree-new path path₁ (subst (λ (i : ℕ). 68 * i + 68 ≤ length path) (sym (v .tree-in .level-is)) h) put-tree)
+        (root-descending m c tree (v .tree-in .reads) (v .grid) tree-new path path₁ (subst (λ (i : ℕ). HasLevel i path) (sym (v .tree-in .level-is)) h) put-tree)
 
     pub find-removed : (u : Descent) → RemovedBelow level path₁ m c 0 u → RemovedFound m c u
     find-removed u w = record {
@@ -281,7 +281,7 @@ module _ (m : List ℕ) (level root : ℕ) (c : Cell) (v : Inserting m level roo
             let same : some tree ≡ some y = Option·some-injective (some tree) (some y) (sym (v .tree-in .reads) ∙ k) in
             let w′ : RemovedBelow (tree .level) path₁ m c 0 u = subst (λ (i : ℕ). RemovedBelow i path₁ m c 0 u)
             (sym (v .tree-in .level-is)) w in
-            subst (λ (o : Option (Tree (planeSpace fanout))). u .removed ≡ cellsRemoved o c) same
+            subst (λ (o : Option (Tree indexSpace)). u .removed ≡ cellsRemoved o c) same
             (root-removed m c tree (v .tree-in .reads) (v .grid) tree-new path path₁ put-tree u w′ g);
       };
     }
@@ -292,7 +292,7 @@ module _ (m : List ℕ) (level root : ℕ) (c : Cell) (v : Inserting m level roo
         after = λ y k t.
             let same : some tree ≡ some y = Option·some-injective (some tree) (some y) (sym (v .tree-in .reads) ∙ k) in
             let z′ : Descended level path₁ m c path₂ false = subst (λ (x : Bool). Descended level path₁ m c path₂ x) n z in
-            subst (λ (o : Option (Tree (planeSpace fanout))). insertTree (planeSpace fanout) (planeRoot fanout) o (entryOf c t) ≡ none) same
+            subst (λ (o : Option (Tree indexSpace)). insertTree indexSpace indexRoot o (entryOf c t) ≡ none) same
             (refused m c tree (v .tree-in .reads) (v .grid) tree-new path path₁ put-tree (subst (λ (i : ℕ). Descended i path₁ m c path₂ false) (sym (v .tree-in .level-is)) z′ .is) t);
       }
 
@@ -326,6 +326,6 @@ module _ (m : List ℕ) (level root : ℕ) (c : Cell) (v : Inserting m level roo
         (planned m c tree (v .tree-in .reads) (v .grid) tree-new path r-tree path′ (subst (λ (i : ℕ). PlanMade i path m c path′) (sym (v .tree-in .level-is)) made))
 
     -- the tree after has a node more for each split at least
-    pub ready-more : (n : ℕ) → FullLevels level path m n → (t : ℕ)
-        → (y : Tree (planeSpace fanout)) × (insertTree (planeSpace fanout) (planeRoot fanout) (some tree) (entryOf c t) ≡ some y) × (n + nodeCount (planeSpace fanout) (some tree) ≤ nodeCount (planeSpace fanout) (some y))
+    pub ready-more : (n : ℕ) → FullLevels level path m n → (t : Payload)
+        → (y : Tree indexSpace) × (insertTree indexSpace indexRoot (some tree) (entryOf c t) ≡ some y) × (n + nodeCount indexSpace (some tree) ≤ nodeCount indexSpace (some y))
     ready-more n f t = more-nodes m c tree (v .tree-in .reads) (v .grid) tree-new path r-tree n (subst (λ (i : ℕ). FullLevels i path m n) (sym (v .tree-in .level-is)) f) t

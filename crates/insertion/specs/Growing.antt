@@ -1,41 +1,41 @@
 -- The tree after, in place: where no node is split, the leaf gets the entry, and each node on the path its polygon as
 -- grown.
-use Prim.Native.Nat.{ℕ, zero, suc, _+_, _*_, _≤_, _<_}
+use Prim.Native.Nat.{ℕ, zero, suc, _≤_, _<_}
 use mathlib.Core.Bool.{true}
 use mathlib.Core.List.{List}
 use mathlib.Core.Option.{some}
 use mathlib.Core.Path.{_≡_}
-use lib.ListN.{length, getD, set}
+use lib.ListN.{length, set}
 use Rattle.geometry.specs.declared.rect.Rect.{Rect}
 use Rattle.tree.specs.Nodes.{Item, nodes}
 use Rattle.tree.specs.Tree.{Tree}
 use Rattle.plane.specs.Lines.{CellEntry}
-use Rattle.plane.specs.Plane.{planeSpace}
 use Rattle.memory.specs.Layout.{partsOf, part, inUse, bitsSet, othersZero}
 use Rattle.memory.specs.Image.{nodePart}
 use Rattle.memory.specs.Reading.{readNode}
-use Rattle.memory.specs.Fanout.{fanout}
+use Rattle.plane.specs.Fanout.{fanout, indexSpace}
 use Rattle.layout.specs.declared.node.Node.{Node}
 use Rattle.layout.specs.Beside.{Beside}
 use Rattle.layout.specs.Loaded.{nodeIn, withEntry}
 use Rattle.layout.specs.Nodes.{PartIn, countAt}
 use Rattle.layout.specs.PartSet.{setPart}
-use Rattle.emission.specs.Path.{partOn, placeOn, polygonOn, rowAt, wayAt, PathFrom}
+use Rattle.path.specs.Path.{partOn, placeOn, polygonOn, HasLevel, FewRects}
+use Rattle.tree_after.specs.Path.{rowAt, wayAt, PathFrom}
 use Rattle.insertion.specs.Descent.{Linked}
 
 -- The items that the node on the path at a level gets: a leaf has the entry behind its others; of the branches of a
 -- routing node the one gone to changes.
-unfoldable pub grownItems : (n : ℕ) → List ℕ → List ℕ → CellEntry → List (Item (planeSpace fanout) n)
+unfoldable pub grownItems : (n : ℕ) → List ℕ → List ℕ → CellEntry → List (Item indexSpace n)
 grownItems zero path m e = wayAt zero path m e
 grownItems (suc n) path m e =
     set (rowAt n m (partOn path (suc n))) (placeOn path (suc n)) (record { poly = polygonOn path n; child = grownItems n path m e })
 
 -- the node with its polygon as grown
-abbrev pub grownNode : (n : ℕ) → List ℕ → List ℕ → CellEntry → Item (planeSpace fanout) (suc n)
+abbrev pub grownNode : (n : ℕ) → List ℕ → List ℕ → CellEntry → Item indexSpace (suc n)
 grownNode n path m e = record { poly = polygonOn path n; child = grownItems n path m e }
 
 -- the tree whose root it is
-abbrev pub grownTree : (n : ℕ) → List ℕ → List ℕ → CellEntry → Tree (planeSpace fanout)
+abbrev pub grownTree : (n : ℕ) → List ℕ → List ℕ → CellEntry → Tree indexSpace
 grownTree n path m e = record { level = n; root = polygonOn path n; items = grownItems n path m e }
 
 -- the memory with the node n and its polygon p in part k
@@ -52,8 +52,8 @@ nodeGrown n path m = replaced m (partOn path n) (polygonOn path n) (nodeIn (part
 
 -- A level of the path can be read, and its node has a part of the memory.
 pub record LevelIn (n : ℕ) (path m : List ℕ) : Type 0 where
-  pub room : 68 * n + 68 ≤ length path
-  pub few : getD path (68 * n + 3) 0 ≤ 16
+  pub room : HasLevel n path
+  pub few : FewRects n path
   pub ends : PartIn m (partOn path n)
 
 -- The path leads down to a leaf with room for an entry. Parts not in use are zero.
@@ -65,9 +65,9 @@ pub record Growing (n : ℕ) (path m : List ℕ) : Type 0 where
 
 -- The node on the path at a level, which read as b with its subtree in the parts from lo on, reads as the definition
 -- has it, with as many nodes; m′ is as m beside its subtree.
-pub record GrownNode (n : ℕ) (path m : List ℕ) (e : CellEntry) (m′ : List ℕ) (lo : ℕ) (b : Item (planeSpace fanout) (suc n)) : Type 0 where
+pub record GrownNode (n : ℕ) (path m : List ℕ) (e : CellEntry) (m′ : List ℕ) (lo : ℕ) (b : Item indexSpace (suc n)) : Type 0 where
   pub reads : readNode fanout n m′ lo (partOn path n) ≡ some (grownNode n path m e)
-  pub as-many : nodes (planeSpace fanout) (suc n) (grownNode n path m e) ≡ nodes (planeSpace fanout) (suc n) b
+  pub as-many : nodes indexSpace (suc n) (grownNode n path m e) ≡ nodes indexSpace (suc n) b
   pub beside : Beside m lo (partOn path n) m′
 
 -- The nodes on the path from a level down were written in place, which gave m′. The same parts are in use, and the
@@ -77,6 +77,6 @@ pub record Grown (n : ℕ) (path m : List ℕ) (e : CellEntry) (m′ : List ℕ)
   pub bits : bitsSet m′ ≡ bitsSet m
   pub in-use : (j : ℕ) → j < 256 → inUse m′ j ≡ inUse m j
   pub unused : othersZero m′ (partsOf m′) ≡ true
-  pub node : (lo : ℕ) (b : Item (planeSpace fanout) (suc n)) → lo ≤ partOn path n
+  pub node : (lo : ℕ) (b : Item indexSpace (suc n)) → lo ≤ partOn path n
       → readNode fanout n m lo (partOn path n) ≡ some b
       → GrownNode n path m e m′ lo b

@@ -9,17 +9,17 @@ use Rattle.geometry.specs.declared.rect.Cell.{Cell}
 use Rattle.geometry.specs.Cells.{onGrid}
 use Rattle.tree.specs.Tree.{Tree}
 use Rattle.tree.specs.Insert.{insertTree}
-use Rattle.plane.specs.Lines.{CellEntry}
-use Rattle.plane.specs.Plane.{planeSpace, planeRoot}
+use Rattle.plane.specs.Lines.{CellEntry, Payload, entryOf}
 use Rattle.memory.specs.Layout.{partsOf, rootIn}
 use Rattle.memory.specs.Reading.{reading}
-use Rattle.memory.specs.Fanout.{fanout}
-use Rattle.index.specs.declared.answer.Inserted.{Inserted}
-use Rattle.index.specs.Answers.{insertRead}
-use Rattle.index.specs.Changes.{entryOf, InsertMemory, workAfter}
-use Rattle.index.specs.Open.{TreeIn}
-use Rattle.emission.specs.Path.{partOn, polygonOn, plannedTree}
-use Rattle.index.specs.Held.{heldRead}
+use Rattle.plane.specs.Fanout.{fanout, indexSpace, indexRoot}
+use Rattle.answers.specs.declared.answer.Inserted.{Inserted}
+use Rattle.answers.specs.Answers.{insertRead}
+use Rattle.answers.specs.Changes.{InsertMemory, workAfter}
+use Rattle.memory.specs.TreeIn.{TreeIn}
+use Rattle.path.specs.Path.{partOn, polygonOn}
+use Rattle.tree_after.specs.Path.{plannedTree}
+use Rattle.queries.specs.Held.{heldRead}
 use Rattle.insertion.specs.Planning.{GoodPath, Plannable}
 
 -- The memory reads as a tree that does not hold the cell, which is on the grid.
@@ -33,20 +33,20 @@ pub record Inserting (m : List ℕ) (level root : ℕ) (c : Cell) : Type 0 where
 pub record PathReady (m : List ℕ) (level : ℕ) (c : Cell) (path : List ℕ) : Type 0 where
   pub plannable : Plannable level path m c
   pub top : partOn path level ≡ rootIn m
-  pub polygon : (x : Tree (planeSpace fanout)) → reading fanout m ≡ some (some x)
-      → polygonOn path level ≡ planeRoot fanout .growRoot (x .root) c
+  pub polygon : (x : Tree indexSpace) → reading fanout m ≡ some (some x)
+      → polygonOn path level ≡ indexRoot .growRoot (x .root) c
 
 -- the path and its plan give the tree after
 pub record PathPlanned (m : List ℕ) (level : ℕ) (c : Cell) (path : List ℕ) : Type 0 where
   pub good : GoodPath level path m c
   pub top : partOn path level ≡ rootIn m
-  pub after : (x : Tree (planeSpace fanout)) → reading fanout m ≡ some (some x) → (t : ℕ)
-      → insertTree (planeSpace fanout) (planeRoot fanout) (some x) (entryOf c t) ≡ some (plannedTree level path m (entryOf c t))
+  pub after : (x : Tree indexSpace) → reading fanout m ≡ some (some x) → (t : Payload)
+      → insertTree indexSpace indexRoot (some x) (entryOf c t) ≡ some (plannedTree level path m (entryOf c t))
 
 -- step 2 refuses: 7
 pub record PathRefused (m : List ℕ) (c : Cell) : Type 0 where
-  pub after : (x : Tree (planeSpace fanout)) → reading fanout m ≡ some (some x) → (t : ℕ)
-      → insertTree (planeSpace fanout) (planeRoot fanout) (some x) (entryOf c t) ≡ none
+  pub after : (x : Tree indexSpace) → reading fanout m ≡ some (some x) → (t : Payload)
+      → insertTree indexSpace indexRoot (some x) (entryOf c t) ≡ none
 
 abbrev pub PathFound : List ℕ → ℕ → Cell → List ℕ → Bool → Type 0
 PathFound m level c path true = PathReady m level c path

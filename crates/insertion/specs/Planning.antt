@@ -9,13 +9,12 @@ use lib.ListN.{length}
 use Rattle.geometry.specs.declared.rect.Cell.{Cell}
 use Rattle.geometry.specs.Cells.{onGrid}
 use Rattle.tree.specs.Plan.{descend, few, lineAt}
-use Rattle.plane.specs.Lines.{CellEntry}
-use Rattle.plane.specs.Plane.{planeSpace}
-use Rattle.plane.specs.Candidates.{rankLine}
-use Rattle.memory.specs.Fanout.{fanout}
-use Rattle.index.specs.Changes.{entryOf}
+use Rattle.plane.specs.Lines.{CellEntry, Payload, entryOf}
+use Rattle.plane.specs.Candidates.{numberedLine}
+use Rattle.plane.specs.Fanout.{indexSpace}
 use Rattle.split_line.specs.LineNumber.{LineIs}
-use Rattle.emission.specs.Path.{partOn, lineOn, polygonOn, wayAt, PathFrom}
+use Rattle.path.specs.Path.{partOn, lineOn, polygonOn}
+use Rattle.tree_after.specs.Path.{wayAt, PathFrom}
 use Rattle.tree.proofs.GoodWays.{GoodWay}
 use Rattle.layout.specs.Nodes.{countAt}
 use Rattle.insertion.specs.Descent.{itemsAt, Linked}
@@ -25,9 +24,9 @@ pub record GoodPath (n : ℕ) (path m : List ℕ) (c : Cell) : Type 0 where
   pub from : PathFrom n path m
   pub linked : Linked n path m
   pub grid : onGrid c ≡ true
-  pub ways : (j : ℕ) → j ≤ n → (t : ℕ)
-      → descend (planeSpace fanout) j (polygonOn path j) (itemsAt j m (partOn path j)) (entryOf c t) ≡ some (wayAt j path m (entryOf c t))
-  pub goods : (j : ℕ) → j ≤ n → (t : ℕ) → GoodWay (planeSpace fanout) j (wayAt j path m (entryOf c t))
+  pub ways : (j : ℕ) → j ≤ n → (t : Payload)
+      → descend indexSpace j (polygonOn path j) (itemsAt j m (partOn path j)) (entryOf c t) ≡ some (wayAt j path m (entryOf c t))
+  pub goods : (j : ℕ) → j ≤ n → (t : Payload) → GoodWay indexSpace j (wayAt j path m (entryOf c t))
 
 -- A good path none of whose nodes is split so far.
 pub record Plannable (n : ℕ) (path m : List ℕ) (c : Cell) : Type 0 where
@@ -36,13 +35,13 @@ pub record Plannable (n : ℕ) (path m : List ℕ) (c : Cell) : Type 0 where
 
 -- The path says at a level whether its node is split, and at which line.
 pub record PlannedAt (n : ℕ) (path m : List ℕ) (e : CellEntry) : Type 0 where
-  pub split : eqb (lineOn path n) 0 ≡ few (planeSpace fanout) n (wayAt n path m e)
-  pub line : few (planeSpace fanout) n (wayAt n path m e) ≡ false
-      → rankLine (lineOn path n) ≡ lineAt (planeSpace fanout) n (wayAt n path m e)
+  pub split : eqb (lineOn path n) 0 ≡ few indexSpace n (wayAt n path m e)
+  pub line : few indexSpace n (wayAt n path m e) ≡ false
+      → numberedLine (lineOn path n) ≡ lineAt indexSpace n (wayAt n path m e)
 
 -- It says so at each level.
 pub record Planned (n : ℕ) (path m : List ℕ) (c : Cell) : Type 0 where
-  pub each : (j : ℕ) → j ≤ n → (t : ℕ) → PlannedAt j path m (entryOf c t)
+  pub each : (j : ℕ) → j ≤ n → (t : Payload) → PlannedAt j path m (entryOf c t)
 
 -- The first n nodes on the path from the leaf up, and no others, have eight items. Each of them gets one item more, so
 -- it is split.
@@ -53,11 +52,11 @@ pub record FullLevels (level : ℕ) (path m : List ℕ) (n : ℕ) : Type 0 where
 
 -- The nodes below a level are all split.
 abbrev pub AllSplit : ℕ → List ℕ → List ℕ → Cell → Type 0
-AllSplit n path m c = (j : ℕ) → j < n → (t : ℕ) → few (planeSpace fanout) j (wayAt j path m (entryOf c t)) ≡ false
+AllSplit n path m c = (j : ℕ) → j < n → (t : Payload) → few indexSpace j (wayAt j path m (entryOf c t)) ≡ false
 
 -- They are split at the lines that the path says.
 pub record SplitBelow (n : ℕ) (path m : List ℕ) (c : Cell) : Type 0 where
-  pub each : (j : ℕ) → j < n → (t : ℕ) → PlannedAt j path m (entryOf c t)
+  pub each : (j : ℕ) → j < n → (t : Payload) → PlannedAt j path m (entryOf c t)
   pub all : AllSplit n path m c
 
 -- The node on the path at a level gets one item too many: it has eight, and the nodes below it are split.
@@ -69,7 +68,7 @@ pub record Full (n level : ℕ) (path m : List ℕ) (c : Cell) : Type 0 where
 
 -- r is the number of the line at which it is split
 abbrev pub LineOfLevel : ℕ → List ℕ → List ℕ → Cell → ℕ → Type 0
-LineOfLevel n path m c r = (t : ℕ) → LineIs r (lineAt (planeSpace fanout) n (wayAt n path m (entryOf c t)))
+LineOfLevel n path m c r = (t : Payload) → LineIs r (lineAt indexSpace n (wayAt n path m (entryOf c t)))
 
 -- The plan was made: the path has the same nodes and polygons, and each level's line.
 pub record PlanMade (n : ℕ) (path m : List ℕ) (c : Cell) (path' : List ℕ) : Type 0 where

@@ -7,11 +7,10 @@ use mathlib.Core.Path.{_≡_}
 use Rattle.geometry.specs.declared.rect.Cell.{Cell}
 use Rattle.tree.specs.Tree.{Tree}
 use Rattle.tree.specs.Removed.{removedAt}
-use Rattle.plane.specs.Plane.{planeSpace}
 use Rattle.memory.specs.Reading.{reading}
-use Rattle.memory.specs.Fanout.{fanout}
-use Rattle.index.specs.Answers.{cellsRemoved}
-use Rattle.emission.specs.Path.{partOn, polygonOn}
+use Rattle.plane.specs.Fanout.{fanout, indexSpace}
+use Rattle.answers.specs.Answers.{cellsRemoved}
+use Rattle.path.specs.Path.{partOn, polygonOn}
 use Rattle.insertion.specs.declared.descent.Descent.{Descent}
 use Rattle.insertion.specs.Descent.{itemsAt}
 
@@ -19,11 +18,11 @@ use Rattle.insertion.specs.Descent.{itemsAt}
 -- of all below it.
 pub record RemovedBelow (n : ℕ) (path m : List ℕ) (c : Cell) (above : ℕ) (r : Descent) : Type 0 where
   pub is : r .reached ≡ true
-      → r .removed ≡ above + removedAt (planeSpace fanout) n (polygonOn path n) (itemsAt n m (partOn path n)) c
+      → r .removed ≡ above + removedAt indexSpace n (polygonOn path n) (itemsAt n m (partOn path n)) c
 
 -- The number is the total of the insertion of the cell into the tree that the memory reads as.
 pub record RemovedIs (m : List ℕ) (c : Cell) (removed : ℕ) : Type 0 where
-  pub is : (x : Tree (planeSpace fanout)) → reading fanout m ≡ some (some x) → removed ≡ cellsRemoved (some x) c
+  pub is : (x : Tree indexSpace) → reading fanout m ≡ some (some x) → removed ≡ cellsRemoved (some x) c
 
 -- So it is if the leaf was reached.
 pub record RemovedFound (m : List ℕ) (c : Cell) (r : Descent) : Type 0 where

@@ -2,26 +2,26 @@
 // grown.
 ghost use mathlib.Core.Path.{_≡_};
 ghost use Prim.Native.Nat.{_<_};
+ghost use Rattle.layout.specs.Entries.{treeEntry};
 ghost use Rattle.layout.specs.Nodes.{countAt};
-ghost use Rattle.index.specs.Changes.{entryOf};
-ghost use Rattle.emission.specs.Path.{partOn};
+ghost use Rattle.path.specs.Path.{partOn};
 ghost use Rattle.insertion.specs.Growing.{leafGrown, nodeGrown, LevelIn, Growing, Grown};
-use emission::PATH_LEVEL;
-use emission::path_polygon;
-use geometry::Cell;
+use layout::Entry;
 use layout::node_at;
 use layout::replace_node;
+use path::part_on;
+use path::polygon_on;
 
 // Writes the entry and the polygon to the leaf on the path.
-fn grow_leaf(m: &mut [u32], path: &[u32], c: Cell, tag: u32)
+fn grow_leaf(m: &mut [u32], path: &[u32], e: Entry)
     requires { ⌜ LevelIn 0 (now path) (now m) ⌝ }
     requires { ⌜ countAt (now m) (partOn (now path) 0) < 8 ⌝ }
-    ensures { λ _. ⌜ now (m .exit) ≡ leafGrown (now (path .entry)) (now (m .entry)) (entryOf c tag) ⌝ }
+    ensures { λ _. ⌜ now (m .exit) ≡ leafGrown (now (path .entry)) (now (m .entry)) (treeEntry e) ⌝ }
 {
-    let k = path[0];
+    let k = part_on(path, 0);
     let leaf = node_at(m, k);
-    let p = path_polygon(path, 0);
-    replace_node(m, k, p, leaf.with_entry(c, tag));
+    let p = polygon_on(path, 0);
+    replace_node(m, k, p, leaf.with_entry(e));
 }
 
 // Writes the polygon to the node on the path at a level.
@@ -30,21 +30,21 @@ fn grow_node(m: &mut [u32], path: &[u32], level: u32)
     ensures { λ _. ⌜ now (m .exit) ≡ nodeGrown level (now (path .entry)) (now (m .entry)) ⌝ }
 {
     let n = level as usize;
-    let k = path[PATH_LEVEL * n];
+    let k = part_on(path, n);
     let node = node_at(m, k);
-    let p = path_polygon(path, n);
+    let p = polygon_on(path, n);
     replace_node(m, k, p, node);
 }
 
 // Writes the nodes on the path from a level down to their parts, the leaf first.
-pub fn grow_path(m: &mut [u32], path: &[u32], level: u32, c: Cell, tag: u32)
+pub fn grow_path(m: &mut [u32], path: &[u32], level: u32, e: Entry)
     requires { ⌜ Growing level (now path) (now m) ⌝ }
-    ensures { λ _. ⌜ Grown level (now (path .entry)) (now (m .entry)) (entryOf c tag) (now (m .exit)) ⌝ }
+    ensures { λ _. ⌜ Grown level (now (path .entry)) (now (m .entry)) (treeEntry e) (now (m .exit)) ⌝ }
 {
     if level == 0 {
-        grow_leaf(m, path, c, tag);
+        grow_leaf(m, path, e);
         return;
     }
-    grow_path(m, path, level - 1, c, tag);
+    grow_path(m, path, level - 1, e);
     grow_node(m, path, level);
 }

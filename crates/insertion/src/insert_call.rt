@@ -3,89 +3,79 @@ ghost use mathlib.Core.Path.{_≡_};
 ghost use lib.ListN.{length};
 ghost use mathlib.Core.Bool.{true};
 ghost use Rattle.geometry.specs.Cells.{onGrid};
-ghost use Rattle.index.specs.Changes.{entryOf, InsertCall};
-ghost use Rattle.index.specs.Open.{TreeIn, OpenedAs};
+ghost use Rattle.layout.specs.Entries.{treeEntry};
+ghost use Rattle.answers.specs.Changes.{InsertCall};
+ghost use Rattle.memory.specs.TreeIn.{Known, TreeIn};
+ghost use Rattle.soundness.specs.Open.{OpenedAs};
 ghost use Rattle.insertion.specs.Insert.{InsertDone};
-use crate::building::build_on_path;
+use crate::building::insert_new;
 use crate::first::insert_first;
-use geometry::Cell;
-use index::Inserted;
-use index::Opened;
-use index::is_held;
-use index::open;
+use answers::Inserted;
+use layout::Entry;
 use layout::fill_zeros;
-use layout::right_length;
+use layout::is_index_length;
+use queries::is_held;
+use soundness::Opened;
+use soundness::open_known;
 
 // The insertion into a tree.
-fn insert_into(
-    m: &mut [u32],
-    work: &mut [u32],
-    level: u32,
-    root: u32,
-    c: Cell,
-    tag: u32,
-) -> Inserted
-    requires { ⌜ TreeIn (now m) level root × (length (now work) ≡ length (now m)) × (onGrid c ≡ true) ⌝ }
-    ensures { λ r. ⌜ InsertDone (now (m .entry)) (now (work .entry)) (entryOf c tag) (now (m .exit)) (now (work .exit)) r ⌝ }
+fn insert_in_tree(m: &mut [u32], work: &mut [u32], level: u32, root: u32, e: Entry) -> Inserted
+    requires { ⌜ TreeIn (now m) level root ⌝ }
+    requires { ⌜ length (now work) ≡ length (now m) ⌝ }
+    requires { ⌜ onGrid (e .cell) ≡ true ⌝ }
+    ensures { λ r. ⌜ InsertDone (now (m .entry)) (now (work .entry)) (treeEntry e) (now (m .exit)) (now (work .exit)) r ⌝ }
 {
-    if is_held(m, level, root, c) {
-        return Inserted::CellHeld;
+    if is_held(m, level, root, e.cell) {
+        return Inserted::Held;
     }
-    let r = build_on_path(m, work, level, root, c, tag);
+    let r = insert_new(m, work, level, root, e);
     fill_zeros(work);
     r
 }
 
 // The insertion into an opened memory, its work area and cell tested.
-fn insert_read(m: &mut [u32], work: &mut [u32], opened: Opened, c: Cell, tag: u32) -> Inserted
-    requires { ⌜ OpenedAs (now m) opened × (length (now work) ≡ length (now m)) × (onGrid c ≡ true) ⌝ }
-    ensures { λ r. ⌜ InsertDone (now (m .entry)) (now (work .entry)) (entryOf c tag) (now (m .exit)) (now (work .exit)) r ⌝ }
+fn insert_opened(m: &mut [u32], work: &mut [u32], opened: Opened, e: Entry) -> Inserted
+    requires { ⌜ OpenedAs (now m) opened ⌝ }
+    requires { ⌜ length (now work) ≡ length (now m) ⌝ }
+    requires { ⌜ onGrid (e .cell) ≡ true ⌝ }
+    ensures { λ r. ⌜ InsertDone (now (m .entry)) (now (work .entry)) (treeEntry e) (now (m .exit)) (now (work .exit)) r ⌝ }
 {
     match opened {
-        Opened::NoTree => {
-            return Inserted::NoTree;
+        Opened::NoSoundTree => {
+            return Inserted::NoSoundTree;
         }
         Opened::Empty => {
-            let r = insert_first(m, work, c, tag);
+            let r = insert_first(m, work, e);
             fill_zeros(work);
             return r;
         }
         Opened::Tree { level, root } => {
-            return insert_into(m, work, level, root, c, tag);
+            return insert_in_tree(m, work, level, root, e);
         }
     }
 }
 
 // Inserts an entry; the work area is as long as the index.
-pub fn insert(m: &mut [u32], work: &mut [u32], c: Cell, tag: u32) -> Inserted
-    ensures { λ r. ⌜ InsertCall (now (m .entry)) (now (work .entry)) (entryOf c tag) (now (m .exit)) (now (work .exit)) r ⌝ }
+pub fn insert(m: &mut [u32], work: &mut [u32], e: Entry) -> Inserted
+    ensures { λ r. ⌜ InsertCall (now (m .entry)) (now (work .entry)) (treeEntry e) (now (m .exit)) (now (work .exit)) r ⌝ }
 {
-    if !right_length(m) {
-        return Inserted::WrongLength;
-    }
-    if work.len() != m.len() {
-        return Inserted::WrongWorkLength;
-    }
-    if !c.on_grid() {
-        return Inserted::OffGrid;
-    }
-    let opened = open(m);
-    insert_read(m, work, opened, c, tag)
+    insert_known(m, work, false, e)
 }
 
-// The same with a memory that was opened before, so that it is not tested again.
-pub fn insert_opened(m: &mut [u32], work: &mut [u32], opened: Opened, c: Cell, tag: u32) -> Inserted
-    requires { ⌜ OpenedAs (now m) opened ⌝ }
-    ensures { λ r. ⌜ InsertCall (now (m .entry)) (now (work .entry)) (entryOf c tag) (now (m .exit)) (now (work .exit)) r ⌝ }
+// The same; a memory that is known to read as an index is not tested.
+pub fn insert_known(m: &mut [u32], work: &mut [u32], known: bool, e: Entry) -> Inserted
+    requires { ⌜ Known (now m) known ⌝ }
+    ensures { λ r. ⌜ InsertCall (now (m .entry)) (now (work .entry)) (treeEntry e) (now (m .exit)) (now (work .exit)) r ⌝ }
 {
-    if !right_length(m) {
+    if !is_index_length(m) {
         return Inserted::WrongLength;
     }
     if work.len() != m.len() {
-        return Inserted::WrongWorkLength;
+        return Inserted::WorkLength;
     }
-    if !c.on_grid() {
-        return Inserted::OffGrid;
+    if !e.cell.on_grid() {
+        return Inserted::Invalid;
     }
-    insert_read(m, work, opened, c, tag)
+    let opened = open_known(m, known);
+    insert_opened(m, work, opened, e)
 }

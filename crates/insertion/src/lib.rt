@@ -7,4 +7,4 @@ mod insert_call;
 mod planning;
 
 pub use insert_call::insert;
-pub use insert_call::insert_opened;
+pub use insert_call::insert_known;

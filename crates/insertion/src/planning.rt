@@ -1,13 +1,14 @@
 // Step 4, planned: which nodes on the path are split, and at which lines.
-ghost use Rattle.emission.specs.Path.{PathFrom};
+ghost use Rattle.tree_after.specs.Path.{PathFrom};
 ghost use Rattle.insertion.specs.Planning.{Plannable, FullLevels, Full, LineOfLevel, PlanMade};
-use emission::PATH_LEVEL;
-use emission::PATH_LINE;
-use emission::PATH_PLACE;
 use geometry::Cell;
 use layout::FANOUT;
 use layout::count_at;
 use layout::part_at;
+use path::line_on;
+use path::part_on;
+use path::place_on;
+use path::put_line_on;
 use split_line::leaf_line;
 use split_line::node_line;
 
@@ -16,13 +17,12 @@ fn line_at(m: &[u32], path: &[u32], n: u32, level: u32, c: Cell) -> u32
     requires { ⌜ Full n level (now path) (now m) c ⌝ }
     ensures { λ r. ⌜ LineOfLevel n (now (path .entry)) (now (m .entry)) c r ⌝ }
 {
-    let at = PATH_LEVEL * (n as usize);
-    let k = path[at];
+    let k = part_on(path, n as usize);
     if n == 0 {
         return leaf_line(part_at(m, k), c);
     }
-    let place = path[at + PATH_PLACE];
-    let below = path[PATH_LEVEL * ((n - 1) as usize) + PATH_LINE];
+    let place = place_on(path, n as usize);
+    let below = line_on(path, (n - 1) as usize);
     node_line(m, n, 0, k, place, below, c)
 }
 
@@ -34,7 +34,7 @@ pub fn split_count(m: &[u32], path: &[u32], level: u32) -> u32
 {
     let mut n: u32 = 0;
     while n <= level {
-        let k = path[PATH_LEVEL * (n as usize)];
+        let k = part_on(path, n as usize);
         if count_at(m, k) < FANOUT {
             return n;
         }
@@ -52,7 +52,7 @@ pub fn plan(m: &[u32], level: u32, splits: u32, c: Cell, path: &mut [u32])
     let mut n: u32 = 0;
     while n < splits {
         let line = line_at(m, path, n, level, c);
-        path[PATH_LEVEL * (n as usize) + PATH_LINE] = line;
+        put_line_on(path, n as usize, line);
         n += 1;
     }
 }

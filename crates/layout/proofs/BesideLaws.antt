@@ -8,8 +8,8 @@ use native.Mathlib.Omega.{arith}
 use native.Mathlib.Decide.{ℕ-discrete}
 use lib.ListN.{length, take, drop, replicate, length-take, length-drop, length-replicate}
 use lib.Seq.{getD-take, getD-drop, ext-getD}
-use Rattle.tree.proofs.Booleans.{contrary}
-use Rattle.memory.specs.Layout.{partsOf, rightLength, part, inUse, bitsSet, allZero, othersZero}
+use Rattle.polygons.proofs.Booleans.{not-both}
+use Rattle.memory.specs.Layout.{partsOf, isIndexLength, part, inUse, bitsSet, allZero, othersZero}
 use Rattle.memory.proofs.ReadingLaws.{unused-zero, zero-unused, zeros-zero}
 use Rattle.layout.specs.Beside.{Beside}
 use Rattle.layout.specs.Nodes.{PartIn}
@@ -40,8 +40,8 @@ beside-then m lo k m₁ m₂ v w = record {
 }
 
 -- a memory of the same length is right too
-pub right-same : (m m′ : List ℕ) → length m′ ≡ length m → rightLength m ≡ true → rightLength m′ ≡ true
-unfolding rightLength
+pub right-same : (m m′ : List ℕ) → length m′ ≡ length m → isIndexLength m ≡ true → isIndexLength m′ ≡ true
+unfolding isIndexLength
 right-same m m′ l r = rw l r
 
 -- the unused numbers of the first 64 are as they were
@@ -73,7 +73,7 @@ module _ (m : List ℕ) (k : ℕ) (u : UsedPart m k) (few : partsOf m ≤ 256) (
     set-unused = rw (set-length m k p (u .ends) size) (zero-unused (setPart m k p) (partsOf m) (λ j h e. go j h e (ℕ-discrete j k)))
       where
         go : (j : ℕ) → j < partsOf m → inUse (setPart m k p) j ≡ false → Dec (j ≡ k) → allZero (part (setPart m k p) j) ≡ true
-        go j h e (yes q) = absurd (contrary (inUse m k) (u .used) (rw q at (sym (set-in-use m k p (u .ends) size j (omega arith)) ∙ e)))
+        go j h e (yes q) = absurd (not-both (inUse m k) (u .used) (rw q at (sym (set-in-use m k p (u .ends) size j (omega arith)) ∙ e)))
         go j h e (no q) =
             rw (set-others m k p (u .ends) size j q) (unused-zero m (partsOf m) j others h (sym (set-in-use m k p (u .ends) size j (omega arith)) ∙ e))
 

@@ -8,8 +8,8 @@ use native.Mathlib.Omega.{arith}
 use native.Mathlib.Decide.{decLt}
 use lib.ListN.{length, getD, set, take, drop, length-append, length-set, length-take, length-drop, List·getD-append}
 use lib.Seq.{getD-set-same, getD-set-other, getD-take, getD-drop, getD-at, getD-append-add, ext-getD}
+use Rattle.polygons.proofs.Booleans.{both, split-and}
 use Rattle.geometry.specs.Numbers.{rectAt, rectsIn}
-use Rattle.geometry.proofs.Booleans.{both, split-and}
 use Rattle.plane.specs.Lines.{CellEntry}
 use Rattle.memory.specs.Layout.{part, rectCount, itemCount, polygonIn, entryIn, entriesIn, childrenIn, allZero, restZero}
 use Rattle.layout.specs.Nodes.{NodePart}

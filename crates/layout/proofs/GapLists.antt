@@ -7,7 +7,7 @@ use native.Mathlib.Omega.{arith}
 use borrow.Author.Tests.{eq-eqb}
 use lib.ListN.{length, getD, take, drop, length-append, length-take, length-drop, List·getD-append}
 use lib.Seq.{length-take-le, getD-append-add, getD-take, getD-drop}
-use Rattle.geometry.proofs.Booleans.{both}
+use Rattle.polygons.proofs.Booleans.{both}
 use Rattle.memory.specs.Layout.{allZero}
 use Rattle.layout.specs.Gap.{withoutAt}
 

@@ -8,27 +8,27 @@ use borrow.Author.Tests.{le-leb, lt-leb, eq-eqb, ne-eqb}
 use lib.Dec.{leb, eqb}
 use lib.ListN.{length, take, drop, length-take, length-drop}
 use lib.Seq.{getD-take, getD-drop, ext-getD}
-use Rattle.memory.specs.Layout.{partsOf, rightLength, allZero}
+use Rattle.memory.specs.Layout.{partsOf, isIndexLength, allZero}
 
 -- the length is that of an index
 module _ (m : List ℕ) where
-  pub length-stop-1 : length m < 64 → false ≡ rightLength m
-  unfolding rightLength
+  pub length-stop-1 : length m < 64 → false ≡ isIndexLength m
+  unfolding isIndexLength
   length-stop-1 h =
       let e : eqb (length m) (64 + 128 * partsOf m) ≡ false = ne-eqb (length m) (64 + 128 * partsOf m) (λ q. omega arith) in
       rw e
 
-  pub length-stop-2 : 64 ≤ length m → (length m ≡ 64 + 128 * partsOf m → ⊥) → false ≡ rightLength m
-  unfolding rightLength
+  pub length-stop-2 : 64 ≤ length m → (length m ≡ 64 + 128 * partsOf m → ⊥) → false ≡ isIndexLength m
+  unfolding isIndexLength
   length-stop-2 h n = rw (ne-eqb (length m) (64 + 128 * partsOf m) n)
 
   module _ (e : length m ≡ 64 + 128 * partsOf m) where
-    pub length-stop-3 : partsOf m < 1 → false ≡ rightLength m
-    unfolding rightLength
+    pub length-stop-3 : partsOf m < 1 → false ≡ isIndexLength m
+    unfolding isIndexLength
     length-stop-3 h = rw (eq-eqb (length m) (64 + 128 * partsOf m) e, lt-leb 1 (partsOf m) h)
 
-    pub length-last : 1 ≤ partsOf m → leb (partsOf m) 256 ≡ rightLength m
-    unfolding rightLength
+    pub length-last : 1 ≤ partsOf m → leb (partsOf m) 256 ≡ isIndexLength m
+    unfolding isIndexLength
     length-last h = rw (eq-eqb (length m) (64 + 128 * partsOf m) e, le-leb 1 (partsOf m) h)
 
 -- the numbers of the head behind the root's part, as they are lent

@@ -14,3 +14,5 @@ pub mod NodeStore
 pub mod LoadedLaws
 pub mod BesideLaws
 pub mod LoadedParts
+pub mod ReadNodes
+pub mod EntryRows

@@ -6,15 +6,18 @@ use mathlib.Core.Bool.{Bool}
 use native.Mathlib.Omega.{arith}
 use lib.ListN.{length, getD, take, drop, set, replicate, length-append, length-replicate, replicate-append-replicate}
 use lib.Seq.{set-append-seam, append-snoc, take-take, getD-take, getD-drop}
+use Rattle.polygons.proofs.ListLaws.{flatMap-append}
 use Rattle.geometry.specs.declared.rect.Cell.{Cell}
 use Rattle.geometry.specs.declared.rect.Rect.{Rect}
-use Rattle.tree.proofs.Lists.{flatMap-append, flatMap-one}
+use Rattle.tree.proofs.Lists.{flatMap-one}
 use Rattle.plane.specs.Lines.{CellEntry}
 use Rattle.memory.specs.Layout.{part, itemCount, entryIn}
 use Rattle.memory.specs.Image.{padded, entryNumbers, nodePart}
 use Rattle.memory.proofs.PartImage.{length-padded, length-entries}
+use Rattle.layout.specs.declared.entry.Entry.{Entry}
 use Rattle.layout.specs.declared.node.Node.{Node}
 use Rattle.layout.specs.Nodes.{NodePart, childIn, countAt, childAt}
+use Rattle.layout.specs.Entries.{treeEntry}
 use Rattle.layout.specs.Items.{putEntry}
 use Rattle.layout.specs.Gap.{MovedDown}
 use Rattle.layout.specs.Loaded.{nodeOf, leafOf, routingOf, nodeIn, childAmong, entryAmong, nodeChild, nodeEntry, withEntry, withChild, ItemOut}
@@ -72,9 +75,10 @@ pub cell-here : (l : List ℕ) (i : ℕ) → record { x = getD l (3 * i) 0; y = 
 unfolding entryAmong
 cell-here l i = refl
 
-pub tag-here : (l : List ℕ) (i : ℕ) → getD l (3 * i + 2) 0 ≡ entryAmong l i .tag
+pub entry-here : (l : List ℕ) (i : ℕ)
+    → treeEntry (record { cell = record { x = getD l (3 * i) 0; y = getD l (3 * i + 1) 0 }; tag = getD l (3 * i + 2) 0 }) ≡ entryAmong l i
 unfolding entryAmong
-tag-here l i = refl
+entry-here l i = refl
 
 pub entry-is : (n : Node) (e : CellEntry) (l : List ℕ) → l ≡ putEntry (n .items) (n .count) e → record { count = n .count + 1; items = l } ≡ withEntry n e
 unfolding withEntry
@@ -114,12 +118,8 @@ module _ (p : List ℕ) (n : Node) (q : n ≡ nodeIn p) where
   pub loaded-cell : (i : ℕ) (c : Cell) → i < 8 → c ≡ nodeEntry n i .cell → c ≡ entryIn p i .cell
   loaded-cell i c h e = e ∙ ap (λ (x : CellEntry). x .cell) (loaded-entry i h)
 
-  pub loaded-tag : (i t : ℕ) → i < 8 → t ≡ nodeEntry n i .tag → t ≡ entryIn p i .tag
-  loaded-tag i t h e = e ∙ ap (λ (x : CellEntry). x .tag) (loaded-entry i h)
-
-  pub loaded-put : (i : ℕ) (c : Cell) (t : ℕ) (l : List ℕ) (at : ℕ) (l′ : List ℕ) → i < 8 → c ≡ nodeEntry n i .cell → t ≡ nodeEntry n i .tag
-      → l′ ≡ putEntry l at (record { cell = c; tag = t }) → l′ ≡ putEntry l at (entryIn p i)
-  loaded-put i c t l at l′ h e f g = let a = loaded-cell i c h e in let b = loaded-tag i t h f in rw (a, b) at g
+  pub loaded-is : (i : ℕ) (e : Entry) → i < 8 → treeEntry e ≡ nodeEntry n i → treeEntry e ≡ entryIn p i
+  loaded-is i e h q = q ∙ loaded-entry i h
 
 -- an entry of a leaf's part, by the leaf as it was loaded
 module _ (p : List ℕ) (v : NodePart p) (n : Node) (q : n ≡ nodeIn p) (i : ℕ) (h : i < n .count) where

@@ -5,10 +5,12 @@ use mathlib.Core.List.{List}
 use native.Mathlib.Omega.{arith}
 use lib.ListN.{length, take, drop, getD, length-take, length-drop}
 use lib.Seq.{take-all, getD-take, getD-drop}
+use mathlib.Core.Bool.{true}
 use Rattle.geometry.specs.Numbers.{rectsIn}
+use Rattle.geometry.specs.Cells.{allValid}
 use Rattle.memory.specs.Layout.{part, rectCount, itemCount, polygonIn, entryIn, childrenIn, rectNumbers}
 use Rattle.memory.proofs.ReadingLaws.{part-length}
-use Rattle.layout.specs.Nodes.{PartIn, NodePart, PolygonPart, childIn, countAt, childAt}
+use Rattle.layout.specs.Nodes.{PartIn, NodePart, PolygonPart, childIn, countAt, childAt, GoodPolygonPart}
 
 pub part-is : (m : List ℕ) (k : ℕ) → take (64 + 128 * k + 128 - (64 + 128 * k)) (drop (64 + 128 * k) m) ≡ part m k
 unfolding part
@@ -59,6 +61,14 @@ polygon-few m k p l r x e f g =
     let q : rectCount p ≡ rectCount (part m k) = ap rectCount e in
     let d = rects-length p l n f in
     omega arith
+
+-- of a good polygon there is one, and they are valid
+module _ (m : List ℕ) (k : ℕ) (p l : List ℕ) (r : ℕ) (p-is : p ≡ part m k) (l-is : l ≡ rectNumbers p) (r-is : r ≡ rectCount p) (g : GoodPolygonPart m k) where
+  pub lent-some : 1 ≤ r
+  lent-some = rw (r-is, p-is) (g .some-rects)
+
+  pub lent-valid : allValid (rectsIn l r) ≡ true
+  lent-valid = ap allValid (lent-polygon m k p l r p-is l-is r-is) ∙ g .valid
 
 pub rects-long : (p l : List ℕ) (r : ℕ) → NodePart p → l ≡ rectNumbers p → r ≡ rectCount p → 4 * r ≤ length l
 rects-long p l r v e f =

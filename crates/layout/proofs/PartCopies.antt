@@ -9,10 +9,11 @@ use borrow.Rule.Slice.PartMut.{putMid}
 use lib.Dec.{eqb}
 use lib.ListN.{length, take, drop, getD, set, replicate, length-append, length-set, length-take, length-drop, take-append-drop, drop-of-length-le}
 use lib.Seq.{take-all, take-add, drop-cons, drop-drop, getD-drop}
-use Rattle.geometry.proofs.Booleans.{split-and}
+use Rattle.polygons.proofs.Booleans.{split-and}
+use Rattle.polygons.proofs.ListLaws.{flatMap-append}
 use Rattle.geometry.specs.Numbers.{numbersOf}
 use Rattle.geometry.proofs.NumberLaws.{length-rects, numbers-take}
-use Rattle.tree.proofs.Lists.{flatMap-append, flatMap-one}
+use Rattle.tree.proofs.Lists.{flatMap-one}
 use Rattle.memory.specs.Layout.{allZero, rectCount, itemCount, polygonIn, entryIn, entriesIn, childrenIn, restZero}
 use Rattle.memory.specs.Image.{padded, entryNumbers, nodePart}
 use Rattle.memory.proofs.ReadingLaws.{zero-at}

@@ -10,10 +10,10 @@ use borrow.Author.Tests.{le-leb, lt-leb, lt-ltb, le-ltb, leb-true}
 use lib.Dec.{leb, eqb}
 use lib.ListN.{length, take, drop, length-drop, take-append-drop}
 use lib.Seq.{drop-drop, take-all}
-use Rattle.geometry.proofs.Booleans.{is-false, not-both, neither, both, all4}
+use Rattle.polygons.proofs.Booleans.{is-false, not-both, neither, both, all4}
 use Rattle.memory.specs.Layout.{partsOf, part, inUse, allZero, othersZero, rectCount, itemCount, countsFit, restZero, nodeFits}
-use Rattle.memory.proofs.ReadingLaws.{RightLength, part-length, unused-zero}
-use Rattle.memory.specs.Fanout.{fanout}
+use Rattle.memory.proofs.ReadingLaws.{IndexLength, part-length, unused-zero}
+use Rattle.plane.specs.Fanout.{fanout}
 use Rattle.layout.specs.Nodes.{NodePart}
 
 -- the counts, tested one after the other
@@ -130,10 +130,10 @@ module _ (m : List ℕ) (k : ℕ) (a : Bool) (e : a ≡ inUse m k) where
 pub record Unused (m : List ℕ) (n k : ℕ) : Type 0 where
   pub parts : n ≡ partsOf m
   pub k-le : k ≤ n
-  pub right : RightLength m
+  pub right : IndexLength m
   pub zero-parts : othersZero m k ≡ true
 
-pub unused-start : (m : List ℕ) (n : ℕ) → n ≡ partsOf m → RightLength m → Unused m n 0
+pub unused-start : (m : List ℕ) (n : ℕ) → n ≡ partsOf m → IndexLength m → Unused m n 0
 unfolding othersZero
 unused-start m n c r = record { parts = c; k-le = omega arith; right = r; zero-parts = refl }
 

@@ -93,9 +93,6 @@ head-put h n parts height a b c d e f g i z l a′ b′ c′ d′ e′ f′ g′
 take-all : (l : List ℕ) (n : ℕ) → length l ≡ n → take n l ≡ l
 take-all l n h = ap (take n) (sym (append-nil l)) ∙ take-at l [] n h
 
-none-left : (l : List ℕ) (n : ℕ) → length l ≤ n → drop n l ≡ []
-none-left l n h = drop-of-length-le l h
-
 -- The three writes of the code, one after another.
 module _ (m w h mid z : List ℕ) (parts height : ℕ) (fits : 64 + 128 * parts ≤ length m) (long : length w ≡ length m) (head : h ≡ headNumbers parts height) where
   abbrev stop : ℕ
@@ -121,12 +118,12 @@ module _ (m w h mid z : List ℕ) (parts height : ℕ) (fits : 64 + 128 * parts 
       let from : List ℕ = take (stop - 64) (drop 64 w) in
       let a : length from ≡ stop - 64 = simp (length-take, length-drop) (omega arith) in
       let b : length (take (stop - 64) (drop 64 one)) ≤ stop - 64 = simp (length-take, length-drop) (omega arith) in
-      let g : mid ≡ from = e ∙ ap (λ (x : List ℕ). x ++ drop (stop - 64) (take (stop - 64) (drop 64 one))) (take-all from (stop - 64) a) ∙ ap (λ (x : List ℕ). from ++ x) (none-left (take (stop - 64) (drop 64 one)) (stop - 64) b) ∙ append-nil from in
+      let g : mid ≡ from = e ∙ ap (λ (x : List ℕ). x ++ drop (stop - 64) (take (stop - 64) (drop 64 one))) (take-all from (stop - 64) a) ∙ ap (λ (x : List ℕ). from ++ x) (drop-of-length-le (take (stop - 64) (drop 64 one)) b) ∙ append-nil from in
       let i : one ≡ headNumbers parts height ++ drop 64 m = ap (λ (x : List ℕ). x ++ drop 64 m) head in
       let j : two ≡ take 64 one ++ (from ++ drop (stop - 64) (drop 64 one)) = ap (λ (x : List ℕ). take 64 one ++ (x ++ drop (stop - 64) (drop 64 one))) g in
       let n = length-drop stop two in
       let k : length (take (length two - stop) (drop stop two)) ≡ length two - stop = length-take (length two - stop) (drop stop two) ∙ omega arith in
-      let o : drop (length two - stop) (drop stop two) ≡ [] = none-left (drop stop two) (length two - stop) (omega arith) in
+      let o : drop (length two - stop) (drop stop two) ≡ [] = drop-of-length-le (drop stop two) {i = length two - stop} (omega arith) in
       put-together m w parts height fits long one i two j (take stop two ++ (z ++ drop (length two - stop) (drop stop two)))
       (ap (λ (x : List ℕ). take stop two ++ (x ++ drop (length two - stop) (drop stop two))) (f ∙ ap (λ (y : ℕ). replicate y 0) k) ∙ ap (λ (x : List ℕ). take stop two ++ (replicate (length two - stop) 0 ++ x)) o)
 

@@ -11,7 +11,7 @@ use lib.Bits.{bitOr, or-add-and, and-le-l, and-le-r, or-zero-l}
 use lib.Dec.{eqb}
 use lib.ListN.{length, getD, drop, set, replicate, length-set, drop-of-length-le}
 use lib.Seq.{drop-cons}
-use Rattle.geometry.proofs.Booleans.{same, both, split-and}
+use Rattle.polygons.proofs.Booleans.{same, both, split-and}
 use Rattle.memory.specs.Layout.{allZero}
 
 -- one of two numbers has a bit exactly if one of them is not zero

@@ -3,6 +3,7 @@ pub mod Gap
 pub mod PartSet
 pub mod Writing
 pub mod Parts
+pub mod Entries
 pub mod Items
 pub mod Loaded
 pub mod Beside

@@ -3,7 +3,9 @@ use Prim.Native.Nat.{ℕ, _+_, _*_, _≤_, _<_}
 use mathlib.Core.List.{List}
 use mathlib.Core.Path.{_≡_}
 use lib.ListN.{length, getD}
-use Rattle.memory.specs.Layout.{partsOf, part, rectCount, itemCount}
+use mathlib.Core.Bool.{true}
+use Rattle.geometry.specs.Cells.{allValid}
+use Rattle.memory.specs.Layout.{partsOf, part, rectCount, itemCount, polygonIn}
 
 -- a list as long as a part
 abbrev pub IsPart : List ℕ → Type 0
@@ -34,3 +36,9 @@ pub record NodePart (p : List ℕ) : Type 0 where
 pub record PolygonPart (m : List ℕ) (k : ℕ) : Type 0 where
   pub below : k < partsOf m
   pub few-rects : rectCount (part m k) ≤ 16
+
+-- that polygon has a rectangle, and its rectangles are valid
+pub record GoodPolygonPart (m : List ℕ) (k : ℕ) : Type 0 where
+  pub polygon : PolygonPart m k
+  pub some-rects : 1 ≤ rectCount (part m k)
+  pub valid : allValid (polygonIn (part m k)) ≡ true

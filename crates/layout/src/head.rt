@@ -2,8 +2,8 @@
 ghost use mathlib.Core.Path.{_≡_};
 ghost use Prim.Native.Nat.{_≤_};
 ghost use lib.ListN.{length, take, drop};
-ghost use Rattle.memory.specs.Layout.{partsOf, rightLength, heightIn, rootIn, allZero};
-ghost use Rattle.memory.proofs.ReadingLaws.{RightLength};
+ghost use Rattle.memory.specs.Layout.{partsOf, isIndexLength, heightIn, rootIn, allZero};
+ghost use Rattle.memory.proofs.ReadingLaws.{IndexLength};
 use crate::numbers::HEAD;
 use crate::numbers::HEAD_END;
 use crate::numbers::HEIGHT;
@@ -13,8 +13,8 @@ use crate::numbers::ROOT;
 use crate::zeros::all_zero;
 
 // Whether the length is that of an index of 1 to 256 parts.
-pub fn right_length(m: &[u32]) -> bool
-    ensures { λ b. ⌜ b ≡ rightLength (now (m .entry)) ⌝ }
+pub fn is_index_length(m: &[u32]) -> bool
+    ensures { λ b. ⌜ b ≡ isIndexLength (now (m .entry)) ⌝ }
 {
     let len = m.len();
     if len < HEAD {
@@ -32,7 +32,7 @@ pub fn right_length(m: &[u32]) -> bool
 
 // How many parts the memory has.
 pub fn part_count(m: &[u32]) -> u32
-    requires { ⌜ RightLength (now m) ⌝ }
+    requires { ⌜ IndexLength (now m) ⌝ }
     ensures { λ n. ⌜ n ≡ partsOf (now (m .entry)) ⌝ }
 {
     ((m.len() - HEAD) / PART) as u32

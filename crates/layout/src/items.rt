@@ -2,17 +2,18 @@
 ghost use Prim.Native.Nat.{_+_, _*_, _≤_};
 ghost use mathlib.Core.Path.{_≡_};
 ghost use lib.ListN.{length};
+ghost use Rattle.layout.specs.Entries.{treeEntry};
 ghost use Rattle.layout.specs.Items.{putEntry};
+use crate::entry::Entry;
 use crate::numbers::ENTRY;
-use geometry::Cell;
 
 // Writes an entry at the at-th place of the list.
-pub fn put_entry(list: &mut [u32], at: usize, c: Cell, tag: u32)
+pub fn put_entry(list: &mut [u32], at: usize, e: Entry)
     requires { ⌜ 3 * (at + 1) ≤ length (now list) ⌝ }
-    ensures { λ _. ⌜ now (list .exit) ≡ putEntry (now (list .entry)) at (record { cell = c; tag = tag }) ⌝ }
+    ensures { λ _. ⌜ now (list .exit) ≡ putEntry (now (list .entry)) at (treeEntry e) ⌝ }
 {
     let to = ENTRY * at;
-    list[to] = c.x;
-    list[to + 1] = c.y;
-    list[to + 2] = tag;
+    list[to] = e.cell.x;
+    list[to + 1] = e.cell.y;
+    list[to + 2] = e.tag;
 }

@@ -4,9 +4,11 @@ ghost use mathlib.Core.Path.{_≡_};
 ghost use Prim.Native.Nat.{_≤_, _<_};
 ghost use lib.ListN.{set};
 ghost use Rattle.memory.specs.Layout.{part};
+ghost use Rattle.layout.specs.Entries.{treeEntry};
 ghost use Rattle.layout.specs.Items.{putEntry};
 ghost use Rattle.layout.specs.Loaded.{nodeOf, nodeIn, childAmong, entryAmong, withEntry, withChild, ItemOut};
 ghost use Rattle.layout.specs.Nodes.{IsPart, PartIn};
+use crate::entry::Entry;
 use crate::gap::move_down;
 use crate::items::put_entry;
 use crate::numbers::CHILD;
@@ -54,13 +56,13 @@ impl Node {
     }
 
     // A leaf with one more entry, behind the others.
-    pub fn with_entry(self, c: Cell, tag: u32) -> Node
+    pub fn with_entry(self, e: Entry) -> Node
         requires { ⌜ self .count < 9 ⌝ }
-        ensures { λ n. ⌜ n ≡ withEntry self (record { cell = c; tag = tag }) ⌝ }
+        ensures { λ n. ⌜ n ≡ withEntry self (treeEntry e) ⌝ }
     {
         let at = self.count as usize;
         let mut items = self.items;
-        put_entry(&mut items, at, c, tag);
+        put_entry(&mut items, at, e);
         Node {
             count: self.count + 1,
             items,
@@ -138,23 +140,30 @@ pub fn cell(items: &Items, i: usize) -> Cell
     }
 }
 
-// Its tag.
-pub fn tag(items: &Items, i: usize) -> u32
+// The i-th entry of a leaf, by its items.
+pub fn nth_entry(items: &Items, i: usize) -> Entry
     requires { ⌜ i < 9 ⌝ }
-    ensures { λ t. ⌜ t ≡ entryAmong (now (items .entry)) i .tag ⌝ }
+    ensures { λ e. ⌜ treeEntry e ≡ entryAmong (now (items .entry)) i ⌝ }
 {
-    items[ENTRY * i + 2]
+    let at = ENTRY * i;
+    Entry {
+        cell: Cell {
+            x: items[at],
+            y: items[at + 1],
+        },
+        tag: items[at + 2],
+    }
 }
 
 // Writes one more entry to a leaf's items, behind those that it has, so that the leaf is not copied.
-pub fn add_entry(items: &mut Items, count: u32, c: Cell, tag: u32)
+pub fn add_entry(items: &mut Items, count: u32, e: Entry)
     requires { ⌜ count < 9 ⌝ }
-    ensures { λ _. ⌜ now (items .exit) ≡ putEntry (now (items .entry)) count (record { cell = c; tag = tag }) ⌝ }
+    ensures { λ _. ⌜ now (items .exit) ≡ putEntry (now (items .entry)) count (treeEntry e) ⌝ }
 {
     let at = ENTRY * (count as usize);
-    items[at] = c.x;
-    items[at + 1] = c.y;
-    items[at + 2] = tag;
+    items[at] = e.cell.x;
+    items[at + 1] = e.cell.y;
+    items[at + 2] = e.tag;
 }
 
 // Writes one more child to a routing node's items, by its part number.

@@ -4,8 +4,8 @@ ghost use mathlib.Core.Bool.{_||_};
 ghost use Prim.Native.Nat.{_+_, _-_, _*_, _≤_, _<_};
 ghost use lib.ListN.{take, drop};
 ghost use Rattle.memory.specs.Layout.{partsOf, part, inUse, allZero, rectCount, countsFit, restZero, nodeFits, othersZero};
-ghost use Rattle.memory.proofs.ReadingLaws.{RightLength};
-ghost use Rattle.memory.specs.Fanout.{fanout};
+ghost use Rattle.memory.proofs.ReadingLaws.{IndexLength};
+ghost use Rattle.plane.specs.Fanout.{fanout};
 ghost use Rattle.layout.specs.Nodes.{IsPart, NodePart};
 use crate::bits::in_use;
 use crate::head::part_count;
@@ -69,7 +69,7 @@ fn rest_zero(p: &[u32], w: usize) -> bool
 
 // Whether part k is a node's, whose items take w numbers each: in use, with counts and unused numbers that fit.
 pub fn node_fits(m: &[u32], k: u32, w: usize) -> bool
-    requires { ⌜ RightLength (now m) × (w ≤ 3) ⌝ }
+    requires { ⌜ IndexLength (now m) × (w ≤ 3) ⌝ }
     ensures { λ b. ⌜ b ≡ nodeFits fanout w (now (m .entry)) k ⌝ }
 {
     if part_count(m) <= k {
@@ -87,7 +87,7 @@ pub fn node_fits(m: &[u32], k: u32, w: usize) -> bool
 
 // Whether part k is in use or all zero.
 fn used_or_zero(m: &[u32], k: u32) -> bool
-    requires { ⌜ RightLength (now m) × (k < partsOf (now m)) ⌝ }
+    requires { ⌜ IndexLength (now m) × (k < partsOf (now m)) ⌝ }
     ensures { λ b. ⌜ b ≡ inUse (now (m .entry)) k || allZero (part (now (m .entry)) k) ⌝ }
 {
     if in_use(m, k) {
@@ -98,7 +98,7 @@ fn used_or_zero(m: &[u32], k: u32) -> bool
 
 // Whether every part is in use or all zero.
 pub fn others_zero(m: &[u32]) -> bool
-    requires { ⌜ RightLength (now m) ⌝ }
+    requires { ⌜ IndexLength (now m) ⌝ }
     ensures { λ b. ⌜ b ≡ othersZero (now (m .entry)) (partsOf (now (m .entry))) ⌝ }
 {
     let n = part_count(m);

@@ -3,7 +3,7 @@
 -- returned and the values stored (`made`), not of what a definition says that they should be.
 use Prim.Native.Nat.{ℕ, _≤_}
 use mathlib.Core.Path.{_≡_, refl, ap, _∙_}
-use mathlib.Core.List.{List, [], _∷_, map}
+use mathlib.Core.List.{List, [], map}
 use contract.Lifetimes.{Lfts}
 use denote.Ref.{now}
 use borrow.Fn.Kinds.{endedOf}
@@ -13,25 +13,26 @@ use lib.ListN.{length}
 use Rattle.geometry.specs.Cells.{cellOf, rectOf}
 use Rattle.tree.specs.Lists.{All}
 use Rattle.tree.specs.Calls.{insertCall, removeCall, clearCall, pointCall, windowCall, nearestCall, emptyCall}
-use Rattle.index.specs.Answers.{insertAnswer, removeAnswer, clearAnswer, pointAnswer, windowAnswer, nearestAnswer, emptyAnswer}
-use Rattle.index.specs.Changes.{entryOf}
-use Rattle.index.specs.Numbers.{insertTold, removeTold, clearTold, pointTold, windowTold, nearestTold, emptyTold}
-use Rattle.index.specs.declared.answer.Inserted.{Inserted}
-use Rattle.index.specs.declared.answer.Inserted.the-variants as I
-use Rattle.index.specs.declared.answer.Removed.{Removed}
-use Rattle.index.specs.declared.answer.Removed.the-variants as R
-use Rattle.index.specs.declared.answer.Cleared.{Cleared}
-use Rattle.index.specs.declared.answer.Cleared.the-variants as C
-use Rattle.index.specs.declared.answer.PointFound.{PointFound}
-use Rattle.index.specs.declared.answer.PointFound.the-variants as P
-use Rattle.index.specs.declared.answer.WindowFound.{WindowFound}
-use Rattle.index.specs.declared.answer.WindowFound.the-variants as W
-use Rattle.index.specs.declared.answer.NearestFound.{NearestFound}
-use Rattle.index.specs.declared.answer.NearestFound.the-variants as Near
-use Rattle.index.specs.declared.answer.EmptyFound.{EmptyFound}
-use Rattle.index.specs.declared.answer.EmptyFound.the-variants as Empty
-use Rattle.history.specs.Calls.{Made, freshMemory, Linked}
-use Rattle.history.specs.Contract.{Kept}
+use Rattle.plane.specs.Lines.{entryOf}
+use Rattle.tree.proofs.Lists.{all-of-map, all-any}
+use Rattle.answers.specs.Answers.{insertAnswer, removeAnswer, clearAnswer, pointAnswer, windowAnswer, nearestAnswer, emptyAnswer}
+use Rattle.answers.specs.Numbers.{insertReply, removeReply, clearReply, pointReply, windowReply, nearestReply, emptyReply}
+use Rattle.answers.specs.declared.answer.Inserted.{Inserted}
+use Rattle.answers.specs.declared.answer.Inserted.the-variants as I
+use Rattle.answers.specs.declared.answer.Removed.{Removed}
+use Rattle.answers.specs.declared.answer.Removed.the-variants as R
+use Rattle.answers.specs.declared.answer.Cleared.{Cleared}
+use Rattle.answers.specs.declared.answer.Cleared.the-variants as C
+use Rattle.answers.specs.declared.answer.PointFound.{PointFound}
+use Rattle.answers.specs.declared.answer.PointFound.the-variants as P
+use Rattle.answers.specs.declared.answer.WindowFound.{WindowFound}
+use Rattle.answers.specs.declared.answer.WindowFound.the-variants as W
+use Rattle.answers.specs.declared.answer.NearestFound.{NearestFound}
+use Rattle.answers.specs.declared.answer.NearestFound.the-variants as Near
+use Rattle.answers.specs.declared.answer.EmptyFound.{EmptyFound}
+use Rattle.answers.specs.declared.answer.EmptyFound.the-variants as Empty
+use Rattle.history.specs.Calls.{Performed, freshMemory, Linked}
+use Rattle.history.specs.Contract.{ByContract}
 use Rattle.history.specs.Claim.{HistoryClaim}
 use Rattle.history.specs.Emptiness.{EmptyAsWindow}
 use Rattle.history.proofs.History.{kept-history}
@@ -127,70 +128,70 @@ pub data Step : Type 0 where
   empties : Emptiness → Step
 
 -- The number and the values stored are those of the answer: one law for each kind of call, by the cases of its answer.
-insert-tells : (r : Inserted) (n held removed held′ removed′ : ℕ) → n ≡ insertTold r .number
-    → held′ ≡ stored (insertTold r) 0 held → removed′ ≡ stored (insertTold r) 1 removed
-    → insertSeen n held′ removed′ ≡ insertTold r
+insert-tells : (r : Inserted) (n held removed held′ removed′ : ℕ) → n ≡ insertReply r .number
+    → held′ ≡ stored (insertReply r) 0 held → removed′ ≡ stored (insertReply r) 1 removed
+    → insertSeen n held′ removed′ ≡ insertReply r
 insert-tells (I.Accepted k x) n held removed held′ removed′ p q o = rw (p, q, o)
 insert-tells I.WrongLength n held removed held′ removed′ p q o = rw p
-insert-tells I.WrongWorkLength n held removed held′ removed′ p q o = rw p
-insert-tells I.OffGrid n held removed held′ removed′ p q o = rw p
-insert-tells I.NoTree n held removed held′ removed′ p q o = rw p
-insert-tells I.CellHeld n held removed held′ removed′ p q o = rw p
-insert-tells I.PolygonLimit n held removed held′ removed′ p q o = rw p
-insert-tells I.NodeLimit n held removed held′ removed′ p q o = rw p
+insert-tells I.WorkLength n held removed held′ removed′ p q o = rw p
+insert-tells I.Invalid n held removed held′ removed′ p q o = rw p
+insert-tells I.NoSoundTree n held removed held′ removed′ p q o = rw p
+insert-tells I.Held n held removed held′ removed′ p q o = rw p
+insert-tells I.OverLimit n held removed held′ removed′ p q o = rw p
+insert-tells I.TooManyNodes n held removed held′ removed′ p q o = rw p
 
-remove-tells : (r : Removed) (n held held′ : ℕ) → n ≡ removeTold r .number → held′ ≡ stored (removeTold r) 0 held
-    → changeSeen n held′ ≡ removeTold r
+remove-tells : (r : Removed) (n held held′ : ℕ) → n ≡ removeReply r .number → held′ ≡ stored (removeReply r) 0 held
+    → changeSeen n held′ ≡ removeReply r
 remove-tells (R.Accepted k) n held held′ p q = rw (p, q)
 remove-tells R.WrongLength n held held′ p q = rw p
-remove-tells R.OffGrid n held held′ p q = rw p
-remove-tells R.NoTree n held held′ p q = rw p
-remove-tells R.CellNotHeld n held held′ p q = rw p
+remove-tells R.Invalid n held held′ p q = rw p
+remove-tells R.NoSoundTree n held held′ p q = rw p
+remove-tells R.NotHeld n held held′ p q = rw p
 
-clear-tells : (r : Cleared) (n held held′ : ℕ) → n ≡ clearTold r .number → held′ ≡ stored (clearTold r) 0 held
-    → changeSeen n held′ ≡ clearTold r
+clear-tells : (r : Cleared) (n held held′ : ℕ) → n ≡ clearReply r .number → held′ ≡ stored (clearReply r) 0 held
+    → changeSeen n held′ ≡ clearReply r
 clear-tells (C.Accepted k) n held held′ p q = rw (p, q)
 clear-tells C.WrongLength n held held′ p q = rw p
 
-point-tells : (r : PointFound) (n held visits tag held′ visits′ tag′ : ℕ) → n ≡ pointTold r .number
-    → held′ ≡ stored (pointTold r) 0 held → visits′ ≡ stored (pointTold r) 1 visits → tag′ ≡ stored (pointTold r) 2 tag
-    → pointSeen n held′ visits′ tag′ ≡ pointTold r
+point-tells : (r : PointFound) (n held visits tag held′ visits′ tag′ : ℕ) → n ≡ pointReply r .number
+    → held′ ≡ stored (pointReply r) 0 held → visits′ ≡ stored (pointReply r) 1 visits → tag′ ≡ stored (pointReply r) 2 tag
+    → pointSeen n held′ visits′ tag′ ≡ pointReply r
 point-tells (P.Held x y) n held visits tag held′ visits′ tag′ p q a b = rw (p, q, a, b)
 point-tells (P.NotHeld y) n held visits tag held′ visits′ tag′ p q a b = rw (p, q, a)
 point-tells P.WrongLength n held visits tag held′ visits′ tag′ p q a b = rw p
-point-tells P.OffGrid n held visits tag held′ visits′ tag′ p q a b = rw p
-point-tells P.NoTree n held visits tag held′ visits′ tag′ p q a b = rw p
+point-tells P.Invalid n held visits tag held′ visits′ tag′ p q a b = rw p
+point-tells P.NoSoundTree n held visits tag held′ visits′ tag′ p q a b = rw p
 
-window-tells : (r : WindowFound) (n matches visits matches′ visits′ : ℕ) → n ≡ windowTold r .number
-    → matches′ ≡ stored (windowTold r) 0 matches → visits′ ≡ stored (windowTold r) 1 visits
-    → windowSeen n matches′ visits′ ≡ windowTold r
+window-tells : (r : WindowFound) (n matches visits matches′ visits′ : ℕ) → n ≡ windowReply r .number
+    → matches′ ≡ stored (windowReply r) 0 matches → visits′ ≡ stored (windowReply r) 1 visits
+    → windowSeen n matches′ visits′ ≡ windowReply r
 window-tells (W.Found x y) n matches visits matches′ visits′ p q a = rw (p, q, a)
 window-tells W.WrongLength n matches visits matches′ visits′ p q a = rw p
-window-tells W.BadWindow n matches visits matches′ visits′ p q a = rw p
-window-tells W.NoTree n matches visits matches′ visits′ p q a = rw p
+window-tells W.Invalid n matches visits matches′ visits′ p q a = rw p
+window-tells W.NoSoundTree n matches visits matches′ visits′ p q a = rw p
 window-tells (W.ShortList x) n matches visits matches′ visits′ p q a = rw (p, q)
 
-nearest-tells : (r : NearestFound) (n x y tag distance visits x′ y′ tag′ distance′ visits′ : ℕ) → n ≡ nearestTold r .number
-    → x′ ≡ stored (nearestTold r) 0 x → y′ ≡ stored (nearestTold r) 1 y → tag′ ≡ stored (nearestTold r) 2 tag
-    → distance′ ≡ stored (nearestTold r) 3 distance → visits′ ≡ stored (nearestTold r) 4 visits
-    → nearestSeen n x′ y′ tag′ distance′ visits′ ≡ nearestTold r
+nearest-tells : (r : NearestFound) (n x y tag distance visits x′ y′ tag′ distance′ visits′ : ℕ) → n ≡ nearestReply r .number
+    → x′ ≡ stored (nearestReply r) 0 x → y′ ≡ stored (nearestReply r) 1 y → tag′ ≡ stored (nearestReply r) 2 tag
+    → distance′ ≡ stored (nearestReply r) 3 distance → visits′ ≡ stored (nearestReply r) 4 visits
+    → nearestSeen n x′ y′ tag′ distance′ visits′ ≡ nearestReply r
 nearest-tells (Near.Found _ _ _ _ _) n x y tag distance visits x′ y′ tag′ distance′ visits′ p a b d e f = rw (p, a, b, d, e, f)
 nearest-tells Near.WrongLength n x y tag distance visits x′ y′ tag′ distance′ visits′ p a b d e f = rw p
-nearest-tells Near.OffGrid n x y tag distance visits x′ y′ tag′ distance′ visits′ p a b d e f = rw p
-nearest-tells Near.NoTree n x y tag distance visits x′ y′ tag′ distance′ visits′ p a b d e f = rw p
+nearest-tells Near.Invalid n x y tag distance visits x′ y′ tag′ distance′ visits′ p a b d e f = rw p
+nearest-tells Near.NoSoundTree n x y tag distance visits x′ y′ tag′ distance′ visits′ p a b d e f = rw p
 nearest-tells Near.NothingHeld n x y tag distance visits x′ y′ tag′ distance′ visits′ p a b d e f = rw p
 
-empty-tells : (r : EmptyFound) (n empty visits empty′ visits′ : ℕ) → n ≡ emptyTold r .number
-    → empty′ ≡ stored (emptyTold r) 0 empty → visits′ ≡ stored (emptyTold r) 1 visits
-    → emptySeen n empty′ visits′ ≡ emptyTold r
+empty-tells : (r : EmptyFound) (n empty visits empty′ visits′ : ℕ) → n ≡ emptyReply r .number
+    → empty′ ≡ stored (emptyReply r) 0 empty → visits′ ≡ stored (emptyReply r) 1 visits
+    → emptySeen n empty′ visits′ ≡ emptyReply r
 empty-tells (Empty.Empty _) n empty visits empty′ visits′ p q a = rw (p, q, a)
 empty-tells (Empty.Occupied _) n empty visits empty′ visits′ p q a = rw (p, q, a)
 empty-tells Empty.WrongLength n empty visits empty′ visits′ p q a = rw p
-empty-tells Empty.BadWindow n empty visits empty′ visits′ p q a = rw p
-empty-tells Empty.NoTree n empty visits empty′ visits′ p q a = rw p
+empty-tells Empty.Invalid n empty visits empty′ visits′ p q a = rw p
+empty-tells Empty.NoSoundTree n empty visits empty′ visits′ p q a = rw p
 
 -- What a step was handed, and what came of it: the lists and places as they were at the return, and the number returned.
-abbrev pub made : Step → Made
+abbrev pub made : Step → Performed
 made (inserts s) =
     let a = s .args in
     let z = s .exits in
@@ -199,8 +200,8 @@ made (inserts s) =
       before = now (a .0);
       after = now (z .0);
       lent = now (a .1 .0);
-      left = now (z .1 .0);
-      told = insertSeen (s .out) (now (z .1 .1 .1 .1 .1 .0)) (now (z .1 .1 .1 .1 .1 .1 .0));
+      at-exit = now (z .1 .0);
+      reply = insertSeen (s .out) (now (z .1 .1 .1 .1 .1 .0)) (now (z .1 .1 .1 .1 .1 .1 .0));
     }
 made (removes s) =
     let a = s .args in
@@ -210,8 +211,8 @@ made (removes s) =
       before = now (a .0);
       after = now (z .0);
       lent = [];
-      left = [];
-      told = changeSeen (s .out) (now (z .1 .1 .1 .0));
+      at-exit = [];
+      reply = changeSeen (s .out) (now (z .1 .1 .1 .0));
     }
 made (clears s) =
     let z = s .exits in
@@ -220,8 +221,8 @@ made (clears s) =
       before = now (s .args .0);
       after = now (z .0);
       lent = [];
-      left = [];
-      told = changeSeen (s .out) (now (z .1 .0));
+      at-exit = [];
+      reply = changeSeen (s .out) (now (z .1 .0));
     }
 made (points s) =
     let a = s .args in
@@ -231,8 +232,8 @@ made (points s) =
       before = now (a .0);
       after = now (a .0);
       lent = [];
-      left = [];
-      told = pointSeen (s .out) (now (z .1 .1 .1 .0)) (now (z .1 .1 .1 .1 .0)) (now (z .1 .1 .1 .1 .1 .0));
+      at-exit = [];
+      reply = pointSeen (s .out) (now (z .1 .1 .1 .0)) (now (z .1 .1 .1 .1 .0)) (now (z .1 .1 .1 .1 .1 .0));
     }
 made (windows s) =
     let a = s .args in
@@ -242,8 +243,8 @@ made (windows s) =
       before = now (a .0);
       after = now (a .0);
       lent = now (a .1 .1 .1 .1 .1 .0);
-      left = now (z .1 .1 .1 .1 .1 .0);
-      told = windowSeen (s .out) (now (z .1 .1 .1 .1 .1 .1 .0)) (now (z .1 .1 .1 .1 .1 .1 .1 .0));
+      at-exit = now (z .1 .1 .1 .1 .1 .0);
+      reply = windowSeen (s .out) (now (z .1 .1 .1 .1 .1 .1 .0)) (now (z .1 .1 .1 .1 .1 .1 .1 .0));
     }
 made (nearests s) =
     let a = s .args in
@@ -253,8 +254,8 @@ made (nearests s) =
       before = now (a .0);
       after = now (a .0);
       lent = [];
-      left = [];
-      told = nearestSeen (s .out) (now (z .0)) (now (z .1 .0)) (now (z .1 .1 .0)) (now (z .1 .1 .1 .0)) (now (z .1 .1 .1 .1 .0));
+      at-exit = [];
+      reply = nearestSeen (s .out) (now (z .0)) (now (z .1 .0)) (now (z .1 .1 .0)) (now (z .1 .1 .1 .0)) (now (z .1 .1 .1 .1 .0));
     }
 made (empties s) =
     let a = s .args in
@@ -264,34 +265,34 @@ made (empties s) =
       before = now (a .0);
       after = now (a .0);
       lent = [];
-      left = [];
-      told = emptySeen (s .out) (now (z .0)) (now (z .1 .0));
+      at-exit = [];
+      reply = emptySeen (s .out) (now (z .0)) (now (z .1 .0));
     }
 
 -- A step's own contract is what the claim rests on.
-pub kept : (s : Step) → Kept (made s)
+pub kept : (s : Step) → ByContract (made s)
 kept (inserts s) =
     let v = s .meets in
     record {
       result = _;
-      told = insert-tells (insertAnswer _ _ _) (s .out) _ _ _ _ (v .number) (v .held-is) (v .removed-is);
+      reply = insert-tells (insertAnswer _ _ _) (s .out) _ _ _ _ (v .number) (v .held-is) (v .removed-is);
       contract = record { answer = refl; memory = v .memory; memory-length = v .memory-length; work = v .work };
     }
 kept (removes s) =
     let v = s .meets in
     record {
       result = _;
-      told = remove-tells (removeAnswer _ _) (s .out) _ _ (v .number) (v .held-is);
+      reply = remove-tells (removeAnswer _ _) (s .out) _ _ (v .number) (v .held-is);
       contract = record { answer = refl; memory = v .memory; memory-length = v .memory-length };
       list = refl;
     }
 kept (clears s) =
     let v = s .meets in
-    record { told = clear-tells (clearAnswer _) (s .out) _ _ (v .number) (v .held-is); memory = v .memory; list = refl }
+    record { reply = clear-tells (clearAnswer _) (s .out) _ _ (v .number) (v .held-is); memory = v .memory; list = refl }
 kept (points s) =
     let v = s .meets in
     record {
-      told = point-tells (pointAnswer _ _) (s .out) _ _ _ _ _ _ (v .number) (v .held-is) (v .visits-is) (v .tag-is);
+      reply = point-tells (pointAnswer _ _) (s .out) _ _ _ _ _ _ (v .number) (v .held-is) (v .visits-is) (v .tag-is);
       memory = refl;
       list = refl;
     }
@@ -299,14 +300,14 @@ kept (windows s) =
     let v = s .meets in
     record {
       result = _;
-      told = window-tells (windowAnswer _ _ _) (s .out) _ _ _ _ (v .number) (v .matches-is) (v .visits-is);
+      reply = window-tells (windowAnswer _ _ _) (s .out) _ _ _ _ (v .number) (v .matches-is) (v .visits-is);
       contract = record { answer = refl; list = v .list-is };
       memory = refl;
     }
 kept (nearests s) =
     let v = s .meets in
     record {
-      told =
+      reply =
           nearest-tells (nearestAnswer _ _) (s .out) _ _ _ _ _ _ _ _ _ _ (v .number) (v .near-x-is) (v .near-y-is) (v .tag-is) (v .distance-is) (v .visits-is);
       memory = refl;
       list = refl;
@@ -314,15 +315,13 @@ kept (nearests s) =
 kept (empties s) =
     let v = s .meets in
     record {
-      told = empty-tells (emptyAnswer _ _) (s .out) _ _ _ _ (v .number) (v .empty-is) (v .visits-is);
+      reply = empty-tells (emptyAnswer _ _) (s .out) _ _ _ _ (v .number) (v .empty-is) (v .visits-is);
       memory = refl;
       list = refl;
     }
 
-pub all-kept : (ss : List Step) → All Kept (map made ss)
-unfolding All
-all-kept [] = tt
-all-kept (s ∷ ss) = (kept s, all-kept ss)
+pub all-kept : (ss : List Step) → All ByContract (map made ss)
+all-kept ss = all-of-map ByContract made ss (all-any (λ s. ByContract (made s)) ss kept)
 
 -- Demand 3: for every N from 1 to 256, every list of these calls from a fresh memory, each handed the memory that the last one left.
 pub exported-history : (N : ℕ) → 1 ≤ N → N ≤ 256 → (ss : List Step) (m : List ℕ) → Linked (freshMemory N) (map made ss) m
@@ -335,12 +334,12 @@ exported-history N a b ss m l = kept-history N a b (map made ss) m (all-kept ss)
 pub exported-empty-as-window : (s : Emptiness) (t : Window) → now (s .args .0) ≡ now (t .args .0)
     → s .args .1 .0 ≡ t .args .1 .0 → s .args .1 .1 .0 ≡ t .args .1 .1 .0
     → s .args .1 .1 .1 .0 ≡ t .args .1 .1 .1 .0 → s .args .1 .1 .1 .1 .0 ≡ t .args .1 .1 .1 .1 .0
-    → EmptyAsWindow (made (empties s) .told) (made (windows t) .told)
+    → EmptyAsWindow (made (empties s) .reply) (made (windows t) .reply)
 exported-empty-as-window s t m a b c d =
     let i = now (t .args .0) in
     let w = rectOf (t .args .1 .0) (t .args .1 .1 .0) (t .args .1 .1 .1 .0) (t .args .1 .1 .1 .1 .0) in
     let n = length (now (t .args .1 .1 .1 .1 .1 .0)) in
-    let e : made (empties s) .told ≡ emptyTold (emptyAnswer i w) = rw (← m, ← a, ← b, ← c, ← d) (kept (empties s) .told) in
+    let e : made (empties s) .reply ≡ emptyReply (emptyAnswer i w) = rw (← m, ← a, ← b, ← c, ← d) (kept (empties s) .reply) in
     let k = kept (windows t) in
-    let f : made (windows t) .told ≡ windowTold (windowAnswer i w n) = k .told ∙ ap windowTold (k .contract .answer) in
+    let f : made (windows t) .reply ≡ windowReply (windowAnswer i w n) = k .reply ∙ ap windowReply (k .contract .answer) in
     rw (e, f) (empty-as-window i w n)

@@ -10,6 +10,7 @@ use Rattle.geometry.specs.declared.rect.Rect.{Rect}
 use Rattle.geometry.specs.Cells.{rectOf, valid}
 use Rattle.tree.specs.Calls.{windowCall}
 use Rattle.plane.specs.Lines.{CellEntry}
+use Rattle.answers.specs.Listing.{listWidth}
 use Rattle.history.specs.Calls.{accepted, recordFrom}
 use Rattle.history.specs.SameAnswers.{FromFresh, Entered, Rearranged, SameAnswer}
 use Rattle.history.proofs.SameLists.{kept-same, kept-same-points, kept-room, entered-record}
@@ -34,8 +35,8 @@ windowOf s = rectOf (s .args .1 .0) (s .args .1 .1 .0) (s .args .1 .1 .1 .0) (s 
 -- room for all entries, three numbers each.
 pub exported-room-accepted : (N : ℕ) (ss : List Step) (m : List ℕ) (es : List CellEntry)
     → FromFresh N (map made ss) m → Entered (map made ss) es
-    → (s : Window) → now (s .args .0) ≡ m → valid (windowOf s) ≡ true → 3 * length es ≤ length (made (windows s) .lent)
-    → accepted (made (windows s) .told) ≡ true
+    → (s : Window) → now (s .args .0) ≡ m → valid (windowOf s) ≡ true → listWidth * length es ≤ length (made (windows s) .lent)
+    → accepted (made (windows s) .reply) ≡ true
 exported-room-accepted N ss m es l x s h g n =
     kept-room N (map made ss) m l (all-kept ss) (windowOf s) (made (windows s)) (kept (windows s)) h g
     (rw (entered-record (map made ss) es x) n)
@@ -54,7 +55,7 @@ module _ (N N′ : ℕ) (ss ss′ : List Step) (m m′ : List ℕ) (es es′ : L
   -- "every window query given a list long enough": a valid window, and room for all entries in both result lists
   pub exported-same-windows : (s s′ : Window) → now (s .args .0) ≡ m → now (s′ .args .0) ≡ m′ → windowOf s ≡ windowOf s′
       → valid (windowOf s) ≡ true
-      → 3 * length es ≤ length (made (windows s) .lent) → 3 * length es′ ≤ length (made (windows s′) .lent)
+      → listWidth * length es ≤ length (made (windows s) .lent) → listWidth * length es′ ≤ length (made (windows s′) .lent)
       → Rearranged (made (windows s)) (made (windows s′))
   exported-same-windows s s′ h h′ w g n n′ =
       exported-same-points (windows s) (windows s′) h h′ (ap windowCall w) .written

@@ -1,3 +1,3 @@
-pub mod ExportWays
+pub mod ExportReturns
 pub mod ExportedHistory
 pub mod ExportedSamePoints

@@ -1,22 +1,30 @@
 // The calls for C and Rust: 0 or the number of the refusal is returned, and the values are stored through pointers.
-ghost use Rattle.index.specs.Changes.{entryOf};
 ghost use Rattle.geometry.specs.Cells.{cellOf, rectOf};
+ghost use Rattle.plane.specs.Lines.{entryOf};
 ghost use Rattle.lintzoger.specs.Exports.{InsertExported, RemoveExported, ClearExported, PointExported, WindowExported, NearestExported, EmptyExported};
+use answers::Cleared;
+use answers::EmptyFound;
+use answers::Inserted;
+use answers::NearestFound;
+use answers::PointFound;
+use answers::Removed;
+use answers::WindowFound;
+use answers::clear_reply;
+use answers::empty_reply;
+use answers::insert_reply;
+use answers::nearest_reply;
+use answers::point_reply;
+use answers::remove_reply;
+use answers::window_reply;
 use emptiness::is_empty;
 use geometry::Cell;
 use geometry::Rect;
-use index::Cleared;
-use index::EmptyFound;
-use index::Inserted;
-use index::NearestFound;
-use index::PointFound;
-use index::Removed;
-use index::WindowFound;
-use index::clear;
-use index::point;
-use index::window;
 use insertion::insert;
+use layout::Entry;
 use nearest::nearest;
+use queries::point;
+use queries::window;
+use removal::clear;
 use removal::remove;
 
 #[no_mangle]
@@ -33,7 +41,12 @@ pub extern "C" fn lintzoger_insert(
         (now (held .entry)) (now (removed .entry)) r
         (now (index .exit)) (now (work .exit)) (now (held .exit)) (now (removed .exit)) ⌝ }
 {
-    match insert(index, work, Cell { x, y }, tag) {
+    let entry = Entry {
+        cell: Cell { x, y },
+        tag,
+    };
+    let answer = insert(index, work, entry);
+    match answer {
         Inserted::Accepted {
             held: n,
             removed: cells,
@@ -42,13 +55,7 @@ pub extern "C" fn lintzoger_insert(
             *removed = cells;
             0
         }
-        Inserted::WrongLength => 1,
-        Inserted::WrongWorkLength => 2,
-        Inserted::OffGrid => 3,
-        Inserted::NoTree => 4,
-        Inserted::CellHeld => 5,
-        Inserted::PolygonLimit => 7,
-        Inserted::NodeLimit => 8,
+        _ => insert_reply(answer).number,
     }
 }
 
@@ -56,15 +63,13 @@ pub extern "C" fn lintzoger_insert(
 pub extern "C" fn lintzoger_remove(index: &mut [u32], x: u32, y: u32, held: &mut u32) -> u32
     ensures { λ r. ⌜ RemoveExported (now (index .entry)) (cellOf x y) (now (held .entry)) r (now (index .exit)) (now (held .exit)) ⌝ }
 {
-    match remove(index, Cell { x, y }) {
+    let answer = remove(index, Cell { x, y });
+    match answer {
         Removed::Accepted(n) => {
             *held = n;
             0
         }
-        Removed::WrongLength => 1,
-        Removed::OffGrid => 3,
-        Removed::NoTree => 4,
-        Removed::CellNotHeld => 6,
+        _ => remove_reply(answer).number,
     }
 }
 
@@ -72,12 +77,13 @@ pub extern "C" fn lintzoger_remove(index: &mut [u32], x: u32, y: u32, held: &mut
 pub extern "C" fn lintzoger_clear(index: &mut [u32], held: &mut u32) -> u32
     ensures { λ r. ⌜ ClearExported (now (index .entry)) (now (held .entry)) r (now (index .exit)) (now (held .exit)) ⌝ }
 {
-    match clear(index) {
+    let answer = clear(index);
+    match answer {
         Cleared::Accepted(n) => {
             *held = n;
             0
         }
-        Cleared::WrongLength => 1,
+        _ => clear_reply(answer).number,
     }
 }
 
@@ -94,7 +100,8 @@ pub extern "C" fn lintzoger_point(
         (now (held .entry)) (now (visits .entry)) (now (tag .entry)) r
         (now (held .exit)) (now (visits .exit)) (now (tag .exit)) ⌝ }
 {
-    match point(index, Cell { x, y }) {
+    let answer = point(index, Cell { x, y });
+    match answer {
         PointFound::Held { tag: t, visits: v } => {
             *held = 1;
             *visits = v;
@@ -106,9 +113,7 @@ pub extern "C" fn lintzoger_point(
             *visits = v;
             0
         }
-        PointFound::WrongLength => 1,
-        PointFound::OffGrid => 3,
-        PointFound::NoTree => 4,
+        _ => point_reply(answer).number,
     }
 }
 
@@ -127,7 +132,8 @@ pub extern "C" fn lintzoger_window(
         (now (list .entry)) (now (matches .entry)) (now (visits .entry)) r
         (now (list .exit)) (now (matches .exit)) (now (visits .exit)) ⌝ }
 {
-    match window(index, Rect { llx, lly, urx, ury }, list) {
+    let answer = window(index, Rect { llx, lly, urx, ury }, list);
+    match answer {
         WindowFound::Found {
             matches: m,
             visits: v,
@@ -136,13 +142,11 @@ pub extern "C" fn lintzoger_window(
             *visits = v;
             0
         }
-        WindowFound::WrongLength => 1,
-        WindowFound::BadWindow => 3,
-        WindowFound::NoTree => 4,
         WindowFound::ShortList { matches: m } => {
             *matches = m;
-            9
+            window_reply(answer).number
         }
+        _ => window_reply(answer).number,
     }
 }
 
@@ -161,7 +165,8 @@ pub extern "C" fn lintzoger_nearest(
         (now («near_x» .entry)) (now («near_y» .entry)) (now (tag .entry)) (now (distance .entry)) (now (visits .entry)) r
         (now («near_x» .exit)) (now («near_y» .exit)) (now (tag .exit)) (now (distance .exit)) (now (visits .exit)) ⌝ }
 {
-    match nearest(index, Cell { x, y }) {
+    let answer = nearest(index, Cell { x, y });
+    match answer {
         NearestFound::Found {
             x: found_x,
             y: found_y,
@@ -176,10 +181,7 @@ pub extern "C" fn lintzoger_nearest(
             *visits = v;
             0
         }
-        NearestFound::WrongLength => 1,
-        NearestFound::OffGrid => 3,
-        NearestFound::NoTree => 4,
-        NearestFound::NothingHeld => 10,
+        _ => nearest_reply(answer).number,
     }
 }
 
@@ -196,7 +198,8 @@ pub extern "C" fn lintzoger_is_empty(
     ensures { λ r. ⌜ EmptyExported (now (index .entry)) (rectOf llx lly urx ury)
         (now (empty .entry)) (now (visits .entry)) r (now (empty .exit)) (now (visits .exit)) ⌝ }
 {
-    match is_empty(index, Rect { llx, lly, urx, ury }) {
+    let answer = is_empty(index, Rect { llx, lly, urx, ury });
+    match answer {
         EmptyFound::Empty { visits: v } => {
             *empty = 1;
             *visits = v;
@@ -207,8 +210,6 @@ pub extern "C" fn lintzoger_is_empty(
             *visits = v;
             0
         }
-        EmptyFound::WrongLength => 1,
-        EmptyFound::BadWindow => 3,
-        EmptyFound::NoTree => 4,
+        _ => empty_reply(answer).number,
     }
 }

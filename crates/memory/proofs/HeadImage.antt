@@ -14,7 +14,7 @@ use lib.Pow.{pow-pos, pow-mono}
 use Rattle.plane.specs.Best.{upFrom}
 use Rattle.memory.specs.Layout.{allZero, inUse, onesOf, bitsSet, heightIn, rootIn}
 use Rattle.memory.specs.Image.{padded, bitsWord, headNumbers}
-use Rattle.memory.proofs.PartImage.{zeros}
+use Rattle.memory.proofs.ReadingLaws.{zeros-zero}
 
 -- the bit above, of the half
 half-bit : (w s : ℕ) → w / 2 ^ suc s ≡ w / 2 / 2 ^ s
@@ -68,7 +68,7 @@ module _ (used height : ℕ) (rest : List ℕ) where
   -- the numbers from 10 on are zero
   pub head-zero : allZero (drop 10 (take 64 (headNumbers used height ++ rest))) ≡ true
   unfolding headNumbers padded upFrom
-  head-zero = zeros 54
+  head-zero = zeros-zero 54
 
   -- as many bits are set as parts are in use
   pub head-bits : used ≤ 256 → bitsSet (headNumbers used height ++ rest) ≡ used

@@ -9,16 +9,16 @@ use native.Mathlib.Nat.{le-refl}
 use borrow.Author.Tests.{eq-eqb, eqb-true}
 use lib.Dec.{eqb}
 use lib.ListN.{length}
+use Rattle.polygons.proofs.Booleans.{both}
 use Rattle.geometry.specs.Cells.{allValid}
-use Rattle.geometry.proofs.Booleans.{both}
 use Rattle.tree.specs.Nodes.{Item, nodes}
 use Rattle.tree.specs.Tree.{Tree, top}
 use Rattle.plane.specs.Plane.{planeSpace}
-use Rattle.memory.specs.Layout.{partsOf, rightLength, rootIn, othersZero}
+use Rattle.memory.specs.Layout.{partsOf, isIndexLength, rootIn, othersZero}
 use Rattle.cover.specs.Tests.{allPass, pairsPass}
 use Rattle.memory.specs.SoundTest.{countTest, apartTest, itemTest, soundTest}
 use Rattle.memory.specs.Reading.{readNode, readTree, restFits, reading}
-use Rattle.memory.specs.Image.{emitNode, image}
+use Rattle.memory.specs.Image.{writeNode, image}
 use Rattle.memory.proofs.NodeImage.{Sized, NodeOk, all5, count-ok, length-node, node-sized, node-reads}
 use Rattle.memory.proofs.MemoryImage.{memory-height, memory-root, memory-head-zero, memory-bits, memory-length, memory-parts, memory-right, memory-holds, memory-others}
 
@@ -41,7 +41,7 @@ module _ (fanout N : ℕ) (t : Tree (planeSpace fanout)) (small : fanout ≤ 20)
   b = top (planeSpace fanout) t
 
   abbrev ps : List (List ℕ)
-  ps = emitNode fanout (t .level) 0 b
+  ps = writeNode fanout (t .level) 0 b
 
   ps-sized : Sized ps
   ps-sized = node-sized fanout small (t .level) 0 b (root-ok fanout t sound)
@@ -55,7 +55,7 @@ module _ (fanout N : ℕ) (t : Tree (planeSpace fanout)) (small : fanout ≤ 20)
   image-length = memory-length N (suc (t .level)) ps ps-sized ps-fit
 
   -- that length is right
-  pub image-right : rightLength (image fanout N t) ≡ true
+  pub image-right : isIndexLength (image fanout N t) ≡ true
   unfolding image
   image-right = memory-right N (suc (t .level)) ps ps-sized ps-fit some-part few-parts
 

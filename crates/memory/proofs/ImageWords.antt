@@ -1,6 +1,6 @@
 -- Document 01, 'Memory is a list of 32-bit numbers': so are the numbers of an image.
 use mathlib.Core.Path.{_≡_}
-use mathlib.Core.Bool.{Bool, true, false, false≢true}
+use mathlib.Core.Bool.{Bool, true, false≢true}
 use mathlib.Core.List.{List, [], _∷_, _++_, map, flatMap}
 use mathlib.Core.Logic.{_⊎_, inl, inr}
 use Prim.Native.Nat.{ℕ, zero, suc, _+_, _*_, _-_, _^_, _≤_, _<_, min}
@@ -8,23 +8,23 @@ use native.Mathlib.Omega.{arith}
 use lib.ListN.{length, replicate, length-append}
 use lib.Pow.{pow-pos, pow-mono}
 use Rattle.polygons.specs.Lists.{any}
+use Rattle.polygons.proofs.Booleans.{either, split-and}
 use Rattle.geometry.specs.declared.rect.Cell.{Cell}
 use Rattle.geometry.specs.declared.rect.Rect.{Rect}
 use Rattle.geometry.specs.Cells.{hasCell, valid, allValid, anyHas}
 use Rattle.geometry.specs.Numbers.{numbersOf}
-use Rattle.geometry.proofs.Booleans.{split-and, either}
 use Rattle.geometry.proofs.CellLaws.{OnGrid, grid-of, valid-grid, valid-of}
 use mathlib.Core.Option.{some}
 use Rattle.tree.specs.Lists.{total, All}
 use Rattle.tree.specs.Nodes.{Item, held, nodes}
 use Rattle.tree.specs.Tree.{Tree, entries, top}
-use Rattle.tree.proofs.Lists.{all-append, all-first, all-second, all-map, all-flatMap}
+use Rattle.tree.proofs.Lists.{all-append, all-map, all-flatMap, flatMap-all}
 use Rattle.plane.specs.Best.{upFrom}
 use Rattle.plane.specs.Lines.{CellEntry}
 use Rattle.plane.specs.Plane.{planeSpace}
 use Rattle.cover.specs.Tests.{allPass}
 use Rattle.memory.specs.SoundTest.{itemTest, soundTest}
-use Rattle.memory.specs.Image.{padded, entryNumbers, nodePart, bitsWord, headNumbers, memoryOf, emitRow, emitNode, image}
+use Rattle.memory.specs.Image.{padded, entryNumbers, nodePart, bitsWord, headNumbers, memoryOf, writeRow, writeNode, image}
 use Rattle.memory.proofs.NodeImage.{NodeOk, item-ok, length-node, some-parts}
 use Rattle.memory.proofs.ImageLaws.{root-ok}
 
@@ -84,37 +84,31 @@ unfolding All nodePart
 part-words p c items h k v w =
     (omega arith, (omega arith, all-append Word (padded 64 (numbersOf p)) _ (padded-words 64 (numbersOf p) (rect-words p v)) (padded-words 62 items w)))
 
--- what holds of all that is gathered holds of what each element gives
-gathered-all : {A B : Type 0} (P : B → Type 0) (f : A → List B) (l : List A) → All P (flatMap f l) → All (λ a. All P (f a)) l
-unfolding All flatMap
-gathered-all P f [] h = tt
-gathered-all P f (a ∷ l) h = (all-first P (f a) (flatMap f l) h, gathered-all P f l (all-second P (f a) (flatMap f l) h))
-
 -- numbers below a are below all that is not less
 below-more : (l : List ℕ) (a b : ℕ) → a ≤ b → All (λ k. k < a) l → All (λ k. k < b) l
 below-more l a b h g = all-map (λ k. k < a) (λ k. k < b) l (λ k k′. omega arith) g
 
-module _ {B : Type 0} (emit : ℕ → B → List (List ℕ)) where
+module _ {B : Type 0} (write : ℕ → B → List (List ℕ)) where
   -- the top nodes lie among the parts of the row
-  tops-below : ((next : ℕ) (b : B) → 1 ≤ length (emit next b)) → (next : ℕ) (bs : List B) → All (λ k. k < next + length (emitRow emit next bs .parts)) (emitRow emit next bs .tops)
-  unfolding All emitRow
-  tops-below one next [] = tt
-  tops-below one next (b ∷ bs) =
-      let own = emit next b in
-      let after = emitRow emit (next + length own) bs .parts in
+  roots-below : ((next : ℕ) (b : B) → 1 ≤ length (write next b)) → (next : ℕ) (bs : List B) → All (λ k. k < next + length (writeRow write next bs .parts)) (writeRow write next bs .roots)
+  unfolding All writeRow
+  roots-below one next [] = tt
+  roots-below one next (b ∷ bs) =
+      let own = write next b in
+      let after = writeRow write (next + length own) bs .parts in
       let s = length-append own after in
       let o = one next b in
-      (omega arith, below-more (emitRow emit (next + length own) bs .tops) (next + length own + length after) (next + length (own ++ after)) (omega arith) (tops-below one (next + length own) bs))
+      (omega arith, below-more (writeRow write (next + length own) bs .roots) (next + length own + length after) (next + length (own ++ after)) (omega arith) (roots-below one (next + length own) bs))
 
   -- the numbers of a row's parts
   row-words : (test : B → Bool) (P : B → Type 0) (most : ℕ) →
-      ((next : ℕ) (b : B) → test b ≡ true → P b → next + length (emit next b) ≤ most → All Words (emit next b)) →
-      (next : ℕ) (bs : List B) → allPass test bs ≡ true → All P bs → next + length (emitRow emit next bs .parts) ≤ most → All Words (emitRow emit next bs .parts)
-  unfolding All emitRow allPass
+      ((next : ℕ) (b : B) → test b ≡ true → P b → next + length (write next b) ≤ most → All Words (write next b)) →
+      (next : ℕ) (bs : List B) → allPass test bs ≡ true → All P bs → next + length (writeRow write next bs .parts) ≤ most → All Words (writeRow write next bs .parts)
+  unfolding All writeRow allPass
   row-words test P most each next [] t p h = tt
   row-words test P most each next (b ∷ bs) t p h =
-      let own = emit next b in
-      let after = emitRow emit (next + length own) bs .parts in
+      let own = write next b in
+      let after = writeRow write (next + length own) bs .parts in
       let s = length-append own after in
       let t′ = split-and (test b) (allPass test bs) t in
       all-append Words own after (each next b (t′ .0) (p .0) (omega arith)) (row-words test P most each (next + length own) bs (t′ .1) (p .1) (omega arith))
@@ -143,21 +137,21 @@ head-words used height h k = padded-words 64 _ (all-append Word (map (bitsWord u
 module _ (fanout : ℕ) (small : fanout ≤ 20) where
   -- the numbers of a subtree's parts
   node-words : (n next : ℕ) (b : Item (planeSpace fanout) (suc n)) → NodeOk fanout n b → All Tagged (held (planeSpace fanout) (suc n) b) →
-      next + length (emitNode fanout n next b) ≤ 256 → All Words (emitNode fanout n next b)
-  unfolding All emitNode held
+      next + length (writeNode fanout n next b) ≤ 256 → All Words (writeNode fanout n next b)
+  unfolding All writeNode held
   node-words zero next b ok g h =
-      let tags = all-map _ Tagged (b .child) (λ e k. k .0) (gathered-all Tagged (held (planeSpace fanout) zero) (b .child) g) in
+      let tags = all-map _ Tagged (b .child) (λ e k. k .0) (flatMap-all Tagged (held (planeSpace fanout) zero) (b .child) g) in
       (part-words (b .poly) _ _ (ok .few-rects) (omega arith) (ok .valid) (entry-words fanout (b .poly) (b .child) (ok .valid) (ok .each) tags), tt)
   node-words (suc n) next b ok g h =
-      let below = emitRow (emitNode fanout n) next (b .child) in
-      let own = nodePart (b .poly) (length (b .child)) (below .tops) in
+      let below = writeRow (writeNode fanout n) next (b .child) in
+      let own = nodePart (b .poly) (length (b .child)) (below .roots) in
       let s = length-append (below .parts) (own ∷ []) in
-      let tops = below-more (below .tops) (next + length (below .parts)) (2 ^ 32) (omega arith) (tops-below (emitNode fanout n) (some-parts fanout n) next (b .child)) in
+      let roots = below-more (below .roots) (next + length (below .parts)) (2 ^ 32) (omega arith) (roots-below (writeNode fanout n) (some-parts fanout n) next (b .child)) in
       all-append Words (below .parts) _
-      (row-words (emitNode fanout n) (itemTest fanout (suc n) (b .poly)) (λ c. All Tagged (held (planeSpace fanout) (suc n) c)) 256
+      (row-words (writeNode fanout n) (itemTest fanout (suc n) (b .poly)) (λ c. All Tagged (held (planeSpace fanout) (suc n) c)) 256
       (λ k c t p l. node-words n k c (item-ok fanout n (b .poly) c t) p l) next (b .child) (ok .each)
-      (gathered-all Tagged (held (planeSpace fanout) (suc n)) (b .child) g) (omega arith))
-      (part-words (b .poly) _ _ (ok .few-rects) (omega arith) (ok .valid) tops, tt)
+      (flatMap-all Tagged (held (planeSpace fanout) (suc n)) (b .child) g) (omega arith))
+      (part-words (b .poly) _ _ (ok .few-rects) (omega arith) (ok .valid) roots, tt)
 
   -- a node is as high as it has nodes, or less
   level-nodes : (n : ℕ) (b : Item (planeSpace fanout) (suc n)) → NodeOk fanout n b → suc n ≤ nodes (planeSpace fanout) (suc n) b
@@ -176,7 +170,7 @@ module _ (fanout : ℕ) (small : fanout ≤ 20) where
   image-words N t few fit sound tags =
       let b = top (planeSpace fanout) t in
       let ok = root-ok fanout t sound in
-      let ps = emitNode fanout (t .level) 0 b in
+      let ps = writeNode fanout (t .level) 0 b in
       let s = length-node fanout (t .level) 0 b in
       let l = level-nodes (t .level) b ok in
       let w = node-words (t .level) 0 b ok tags (omega arith) in

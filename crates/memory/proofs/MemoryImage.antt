@@ -9,13 +9,14 @@ use borrow.Author.Tests.{lt-ltb, le-leb, eq-eqb}
 use lib.Dec.{eqb, ltb}
 use lib.ListN.{length, take, drop, replicate, length-append}
 use lib.Seq.{take-at, drop-at, drop-drop}
-use Rattle.geometry.proofs.Booleans.{split-and, both}
+use Rattle.polygons.proofs.Booleans.{both, split-and}
 use Rattle.tree.specs.Lists.{All}
-use Rattle.memory.specs.Layout.{partsOf, rightLength, part, inUse, bitsSet, heightIn, rootIn, allZero, othersZero}
+use Rattle.memory.specs.Layout.{partsOf, isIndexLength, part, inUse, bitsSet, heightIn, rootIn, allZero, othersZero}
 use Rattle.memory.specs.Image.{padded, headNumbers, memoryOf}
-use Rattle.memory.proofs.PartImage.{zeros, length-padded, drop-padded}
+use Rattle.memory.proofs.PartImage.{length-padded, drop-padded}
 use Rattle.memory.proofs.HeadImage.{head-length, head-height, head-root, head-zero, head-bits, head-in-use}
 use Rattle.memory.proofs.NodeImage.{Holds, Sized}
+use Rattle.memory.proofs.ReadingLaws.{zeros-zero}
 
 -- what is left of zeros is zero
 zero-drop : (n : ℕ) (l : List ℕ) → allZero l ≡ true → allZero (drop n l) ≡ true
@@ -106,8 +107,8 @@ module _ (N height : ℕ) (ps : List (List ℕ)) (sized : Sized ps) (fit : lengt
   memory-parts = let l = memory-length in omega arith
 
   -- the length is right
-  pub memory-right : 1 ≤ N → N ≤ 256 → rightLength (memoryOf N height ps) ≡ true
-  unfolding rightLength
+  pub memory-right : 1 ≤ N → N ≤ 256 → isIndexLength (memoryOf N height ps) ≡ true
+  unfolding isIndexLength
   memory-right h k = rw (memory-parts, le-leb 1 N h, le-leb N 256 k, eq-eqb (length (memoryOf N height ps)) (64 + 128 * N) memory-length)
 
   -- the parts given are held, from part 0 on
@@ -130,7 +131,7 @@ module _ (N height : ℕ) (ps : List (List ℕ)) (sized : Sized ps) (fit : lengt
         ← (drop-drop (128 * (k - length ps)) (64 + 128 * length ps) (memoryOf N height ps)),
         drop-padded (64 + 128 * N) (64 + 128 * length ps) (filled height ps) length-filled,
       )
-      (zero-take 128 _ (zero-drop (128 * (k - length ps)) _ (zeros (64 + 128 * N - (64 + 128 * length ps)))))
+      (zero-take 128 _ (zero-drop (128 * (k - length ps)) _ (zeros-zero (64 + 128 * N - (64 + 128 * length ps)))))
 
   -- so the test of unused parts passes
   pub memory-others : N ≤ 256 → othersZero (memoryOf N height ps) N ≡ true

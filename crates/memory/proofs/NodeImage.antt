@@ -9,19 +9,19 @@ use native.Mathlib.Nat.{le-refl}
 use borrow.Author.Tests.{lt-ltb, le-leb, leb-true}
 use lib.Dec.{leb}
 use lib.ListN.{length, length-append}
+use Rattle.polygons.proofs.Booleans.{split-and, all4}
 use Rattle.geometry.specs.declared.rect.Rect.{Rect}
 use Rattle.geometry.specs.Cells.{allValid}
-use Rattle.geometry.proofs.Booleans.{split-and, all4}
 use Rattle.tree.specs.Lists.{total, All}
-use Rattle.tree.specs.Space.{Space}
-use Rattle.tree.specs.Nodes.{EntryOf, Item, nodes}
+use Rattle.tree.specs.Nodes.{Item, nodes}
 use Rattle.tree.proofs.Lists.{all-append}
 use Rattle.plane.specs.Plane.{planeSpace}
 use Rattle.memory.specs.Layout.{partsOf, part, inUse, nodeFits}
 use Rattle.cover.specs.Tests.{allPass, pairsPass, insideOf}
+use Rattle.tree.proofs.Walk.{leaf-nodes}
 use Rattle.memory.specs.SoundTest.{polygonFits, countTest, apartTest, itemTest}
 use Rattle.memory.specs.Reading.{readRow, readNode}
-use Rattle.memory.specs.Image.{nodePart, entryNumbers, emitRow, emitNode}
+use Rattle.memory.specs.Image.{nodePart, entryNumbers, writeRow, writeNode}
 use Rattle.memory.proofs.PartImage.{part-length, part-polygon, part-children, part-rest, part-counts, part-entries, length-entries}
 
 -- five tests that pass together, each pass
@@ -30,12 +30,6 @@ all5 a b c d e h =
     let t = split-and (a && b && c && d) e h in
     let u = all4 a b c d (t .0) in
     (u .0, u .1, u .2, u .3, t .1)
-
--- entries are no nodes
-no-nodes : (S : Space) (es : List (EntryOf S)) → total (nodes S zero) es ≡ 0
-unfolding total nodes
-no-nodes S [] = refl
-no-nodes S (e ∷ es) = let ih = no-nodes S es in omega arith
 
 -- The k-th part of a memory is p, and in use.
 pub record Held (m : List ℕ) (k : ℕ) (p : List ℕ) : Type 0 where
@@ -61,43 +55,43 @@ holds-append m k (p ∷ ps) qs h =
 abbrev pub Sized : List (List ℕ) → Type 0
 Sized ps = All (λ p. length p ≡ 128) ps
 
-module _ {B : Type 0} (emit : ℕ → B → List (List ℕ)) where
+module _ {B : Type 0} (write : ℕ → B → List (List ℕ)) where
   -- as many top nodes as subtrees
-  pub length-tops : (next : ℕ) (bs : List B) → length (emitRow emit next bs .tops) ≡ length bs
-  unfolding emitRow
-  length-tops next [] = refl
-  length-tops next (b ∷ bs) = ap suc (length-tops (next + length (emit next b)) bs)
+  pub length-roots : (next : ℕ) (bs : List B) → length (writeRow write next bs .roots) ≡ length bs
+  unfolding writeRow
+  length-roots next [] = refl
+  length-roots next (b ∷ bs) = ap suc (length-roots (next + length (write next b)) bs)
 
   -- the parts of the subtrees add up
-  pub length-row : (size : B → ℕ) → ((next : ℕ) (b : B) → length (emit next b) ≡ size b) → (next : ℕ) (bs : List B) → length (emitRow emit next bs .parts) ≡ total size bs
-  unfolding emitRow total
+  pub length-row : (size : B → ℕ) → ((next : ℕ) (b : B) → length (write next b) ≡ size b) → (next : ℕ) (bs : List B) → length (writeRow write next bs .parts) ≡ total size bs
+  unfolding writeRow total
   length-row size each next [] = refl
   length-row size each next (b ∷ bs) =
-      let ih = length-row size each (next + length (emit next b)) bs in
+      let ih = length-row size each (next + length (write next b)) bs in
       let e = each next b in
       rw length-append (omega arith)
 
   module _ (test : B → Bool) where
     -- every part of a row has 128 numbers
-    row-sized : ((next : ℕ) (b : B) → test b ≡ true → Sized (emit next b)) → (next : ℕ) (bs : List B) → allPass test bs ≡ true → Sized (emitRow emit next bs .parts)
-    unfolding emitRow All allPass
+    row-sized : ((next : ℕ) (b : B) → test b ≡ true → Sized (write next b)) → (next : ℕ) (bs : List B) → allPass test bs ≡ true → Sized (writeRow write next bs .parts)
+    unfolding writeRow All allPass
     row-sized each next [] h = tt
     row-sized each next (b ∷ bs) h =
         let t = split-and (test b) (allPass test bs) h in
-        all-append _ (emit next b) _ (each next b (t .0)) (row-sized each (next + length (emit next b)) bs (t .1))
+        all-append _ (write next b) _ (each next b (t .0)) (row-sized each (next + length (write next b)) bs (t .1))
 
     -- a row is read back where each of its subtrees is
     pub row-reads :
         (read : ℕ → ℕ → Option B) (m : List ℕ) (hi : ℕ) →
-        ((next : ℕ) (b : B) → 1 ≤ length (emit next b)) →
-        ((lo next : ℕ) (b : B) → test b ≡ true → lo ≤ next → Holds m next (emit next b) → read lo (next + length (emit next b) - 1) ≡ some b) →
-        (lo next : ℕ) (bs : List B) → allPass test bs ≡ true → lo ≤ next → next + length (emitRow emit next bs .parts) ≤ hi →
-        Holds m next (emitRow emit next bs .parts) → readRow read lo hi (emitRow emit next bs .tops) ≡ some bs
-    unfolding emitRow allPass readRow bind
+        ((next : ℕ) (b : B) → 1 ≤ length (write next b)) →
+        ((lo next : ℕ) (b : B) → test b ≡ true → lo ≤ next → Holds m next (write next b) → read lo (next + length (write next b) - 1) ≡ some b) →
+        (lo next : ℕ) (bs : List B) → allPass test bs ≡ true → lo ≤ next → next + length (writeRow write next bs .parts) ≤ hi →
+        Holds m next (writeRow write next bs .parts) → readRow read lo hi (writeRow write next bs .roots) ≡ some bs
+    unfolding writeRow allPass readRow bind
     row-reads read m hi one each lo next [] t l u h = refl
     row-reads read m hi one each lo next (b ∷ bs) t l u h =
-        let own = emit next b in
-        let after = emitRow emit (next + length own) bs .parts in
+        let own = write next b in
+        let after = writeRow write (next + length own) bs .parts in
         let k : ℕ = next + length own - 1 in
         let t′ = split-and (test b) (allPass test bs) t in
         let h′ = holds-append m next own after h in
@@ -151,29 +145,29 @@ module _ (fanout : ℕ) where
       }
 
   -- there are as many parts as nodes
-  pub length-node : (n next : ℕ) (b : Item (planeSpace fanout) (suc n)) → length (emitNode fanout n next b) ≡ nodes (planeSpace fanout) (suc n) b
-  unfolding emitNode nodes
-  length-node zero next b = let z = no-nodes (planeSpace fanout) (b .child) in omega arith
+  pub length-node : (n next : ℕ) (b : Item (planeSpace fanout) (suc n)) → length (writeNode fanout n next b) ≡ nodes (planeSpace fanout) (suc n) b
+  unfolding writeNode nodes
+  length-node zero next b = let z = leaf-nodes (planeSpace fanout) (b .child) in omega arith
   length-node (suc n) next b =
-      let l = length-row (emitNode fanout n) (nodes (planeSpace fanout) (suc n)) (length-node n) next (b .child) in
+      let l = length-row (writeNode fanout n) (nodes (planeSpace fanout) (suc n)) (length-node n) next (b .child) in
       rw length-append (omega arith)
 
   -- there is at least one
-  pub some-parts : (n next : ℕ) (b : Item (planeSpace fanout) (suc n)) → 1 ≤ length (emitNode fanout n next b)
+  pub some-parts : (n next : ℕ) (b : Item (planeSpace fanout) (suc n)) → 1 ≤ length (writeNode fanout n next b)
   unfolding nodes
   some-parts n next b = let l = length-node n next b in omega arith
 
   module _ (small : fanout ≤ 20) where
     -- each part has 128 numbers
-    pub node-sized : (n next : ℕ) (b : Item (planeSpace fanout) (suc n)) → NodeOk n b → Sized (emitNode fanout n next b)
-    unfolding emitNode All
+    pub node-sized : (n next : ℕ) (b : Item (planeSpace fanout) (suc n)) → NodeOk n b → Sized (writeNode fanout n next b)
+    unfolding writeNode All
     node-sized zero next b ok =
         let l = length-entries (b .child) in
         (part-length (b .poly) _ _ (ok .few-rects) (omega arith), tt)
     node-sized (suc n) next b ok =
-        let l = length-tops (emitNode fanout n) next (b .child) in
-        all-append _ (emitRow (emitNode fanout n) next (b .child) .parts) _
-        (row-sized (emitNode fanout n) (itemTest fanout (suc n) (b .poly)) (λ k c t. node-sized n k c (item-ok n (b .poly) c t)) next (b .child) (ok .each))
+        let l = length-roots (writeNode fanout n) next (b .child) in
+        all-append _ (writeRow (writeNode fanout n) next (b .child) .parts) _
+        (row-sized (writeNode fanout n) (itemTest fanout (suc n) (b .poly)) (λ k c t. node-sized n k c (item-ok n (b .poly) c t)) next (b .child) (ok .each))
         (part-length (b .poly) _ _ (ok .few-rects) (omega arith), tt)
 
     -- a leaf at its part
@@ -189,31 +183,31 @@ module _ (fanout : ℕ) where
         (ap some (λ i. record { poly = part-polygon (b .poly) c items few (omega arith) i; child = part-entries (b .poly) c (b .child) few (omega arith) i }))
 
     -- a routing node at its part, its row read
-    routing-reads : (n : ℕ) (m : List ℕ) (lo k : ℕ) (b : Item (planeSpace fanout) (suc (suc n))) (tops : List ℕ) → NodeOk (suc n) b →
-        Held m k (nodePart (b .poly) (length (b .child)) tops) → length tops ≡ length (b .child) → readRow (readNode fanout n m) lo k tops ≡ some (b .child) →
+    routing-reads : (n : ℕ) (m : List ℕ) (lo k : ℕ) (b : Item (planeSpace fanout) (suc (suc n))) (roots : List ℕ) → NodeOk (suc n) b →
+        Held m k (nodePart (b .poly) (length (b .child)) roots) → length roots ≡ length (b .child) → readRow (readNode fanout n m) lo k roots ≡ some (b .child) →
         readNode fanout (suc n) m lo k ≡ some b
     unfolding readNode bind
-    routing-reads n m lo k b tops ok h l r =
+    routing-reads n m lo k b roots ok h l r =
         let c = length (b .child) in
         let few = ok .few-rects in
-        let fit : length tops ≤ 62 = omega arith in
-        rw (node-fits fanout 1 m k (b .poly) c tops h (ok .some-rects) few (ok .some-items) (ok .few-items) fit (omega arith), h .same, part-children (b .poly) c tops few fit l, r)
-        (ap some (λ i. record { poly = part-polygon (b .poly) c tops few fit i; child = b .child }))
+        let fit : length roots ≤ 62 = omega arith in
+        rw (node-fits fanout 1 m k (b .poly) c roots h (ok .some-rects) few (ok .some-items) (ok .few-items) fit (omega arith), h .same, part-children (b .poly) c roots few fit l, r)
+        (ap some (λ i. record { poly = part-polygon (b .poly) c roots few fit i; child = b .child }))
 
     -- a node is read back
-    pub node-reads : (n : ℕ) (m : List ℕ) (lo next : ℕ) (b : Item (planeSpace fanout) (suc n)) → NodeOk n b → lo ≤ next → Holds m next (emitNode fanout n next b) →
-        readNode fanout n m lo (next + length (emitNode fanout n next b) - 1) ≡ some b
-    unfolding emitNode Holds readNode bind
+    pub node-reads : (n : ℕ) (m : List ℕ) (lo next : ℕ) (b : Item (planeSpace fanout) (suc n)) → NodeOk n b → lo ≤ next → Holds m next (writeNode fanout n next b) →
+        readNode fanout n m lo (next + length (writeNode fanout n next b) - 1) ≡ some b
+    unfolding writeNode Holds readNode bind
     node-reads zero m lo next b ok l h =
         let e : next + 1 - 1 ≡ next = omega arith in
         rw e (leaf-reads m lo next b ok (h .0))
     node-reads (suc n) m lo next b ok l h =
-        let below = emitRow (emitNode fanout n) next (b .child) in
-        let own = nodePart (b .poly) (length (b .child)) (below .tops) in
+        let below = writeRow (writeNode fanout n) next (b .child) in
+        let own = nodePart (b .poly) (length (b .child)) (below .roots) in
         let s = length-append (below .parts) (own ∷ []) in
         let e : next + length (below .parts ++ (own ∷ [])) - 1 ≡ next + length (below .parts) = omega arith in
         let h′ = holds-append m next (below .parts) (own ∷ []) h in
-        let row : readRow (readNode fanout n m) lo (next + length (below .parts)) (below .tops) ≡ some (b .child) =
-        row-reads (emitNode fanout n) (itemTest fanout (suc n) (b .poly)) (readNode fanout n m) m (next + length (below .parts)) (some-parts n)
+        let row : readRow (readNode fanout n m) lo (next + length (below .parts)) (below .roots) ≡ some (b .child) =
+        row-reads (writeNode fanout n) (itemTest fanout (suc n) (b .poly)) (readNode fanout n m) m (next + length (below .parts)) (some-parts n)
         (λ lo k c t. node-reads n m lo k c (item-ok n (b .poly) c t)) lo next (b .child) (ok .each) l (le-refl _) (h′ .0) in
-        rw e (routing-reads n m lo (next + length (below .parts)) b (below .tops) ok (h′ .1 .0) (length-tops (emitNode fanout n) next (b .child)) row)
+        rw e (routing-reads n m lo (next + length (below .parts)) b (below .roots) ok (h′ .1 .0) (length-roots (writeNode fanout n) next (b .child)) row)

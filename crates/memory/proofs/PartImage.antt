@@ -13,14 +13,9 @@ use Rattle.geometry.specs.Numbers.{rectsIn, numbersOf}
 use Rattle.geometry.proofs.CellLaws.{rect-is}
 use Rattle.geometry.proofs.NumberLaws.{length-numbers, numbers-take}
 use Rattle.plane.specs.Lines.{CellEntry}
-use Rattle.memory.specs.Layout.{allZero, rectCount, itemCount, polygonIn, entryIn, entriesIn, childrenIn, restZero, countsFit}
+use Rattle.memory.specs.Layout.{itemCount, polygonIn, entryIn, entriesIn, childrenIn, restZero, countsFit}
 use Rattle.memory.specs.Image.{padded, entryNumbers, nodePart}
-
--- zeros are all zero
-pub zeros : (n : ℕ) → allZero (replicate n 0) ≡ true
-unfolding allZero
-zeros zero = refl
-zeros (suc n) = zeros n
+use Rattle.memory.proofs.ReadingLaws.{zeros-zero}
 
 -- a list filled up to n numbers has n numbers
 pub length-padded : (n : ℕ) (l : List ℕ) → length l ≤ n → length (padded n l) ≡ n
@@ -49,11 +44,6 @@ rects-back l rest =
     let n = length-numbers l in
     numbers-same _ l
     (numbers-take (numbersOf l ++ rest) (length l) (simp length-append (omega arith)) ∙ take-at (numbersOf l) rest (4 * length l) n)
-
--- the count of rectangles is read back
-pub part-rects : (p : List Rect) (c : ℕ) (items : List ℕ) → rectCount (nodePart p c items) ≡ length p
-unfolding nodePart
-part-rects p c items = refl
 
 -- the count of items is read back
 pub part-count : (p : List Rect) (c : ℕ) (items : List ℕ) → itemCount (nodePart p c items) ≡ c
@@ -105,7 +95,7 @@ module _ (p : List Rect) (c : ℕ) (items : List ℕ) (few : length p ≤ 16) (f
   -- the unused numbers are zero
   pub part-rest : (w : ℕ) → length items ≡ w * c → restZero w (nodePart p c items) ≡ true
   unfolding restZero nodePart
-  part-rest w e = rw (rects-rest, items-rest (w * c) e, zeros (64 - 4 * length p), zeros (62 - w * c))
+  part-rest w e = rw (rects-rest, items-rest (w * c) e, zeros-zero (64 - 4 * length p), zeros-zero (62 - w * c))
 
   -- the counts fit
   pub part-counts : (fanout : ℕ) → 1 ≤ length p → 1 ≤ c → c ≤ fanout → countsFit fanout (nodePart p c items) ≡ true
@@ -118,7 +108,7 @@ unfolding entryNumbers
 length-entries = flat-length entryNumbers 3 (λ e. refl)
 
 -- what getD gives past the end
-noEntry : CellEntry
+pub noEntry : CellEntry
 noEntry = record { cell = record { x = 0; y = 0 }; tag = 0 }
 
 -- entries with equal numbers are equal

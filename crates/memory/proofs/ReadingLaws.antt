@@ -12,14 +12,16 @@ use native.Mathlib.Decide.{decLt}
 use borrow.Author.Tests.{leb-true, ltb-true, eqb-true, le-leb, lt-ltb, eq-eqb}
 use lib.Dec.{leb, ltb, eqb}
 use lib.ListN.{length, take, drop, getD, set, replicate, length-append, length-take, length-drop, length-replicate}
+use Rattle.polygons.proofs.Booleans.{both, split-and, all4}
 use Rattle.geometry.specs.declared.rect.Rect.{Rect}
-use Rattle.geometry.proofs.Booleans.{both, split-and, all4}
 use Rattle.tree.specs.Lists.{All, Pairs, total}
 use Rattle.tree.specs.Nodes.{Item, nodes}
 use Rattle.tree.specs.Tree.{Tree, SoundTree, top}
 use Rattle.tree.proofs.Lists.{all-append, all-map, all-both, pairs-append}
+use Rattle.tree.proofs.Any.{bind-some}
+use Rattle.tree.proofs.Walk.{leaf-nodes}
 use Rattle.plane.specs.Plane.{planeSpace, planeRoot}
-use Rattle.memory.specs.Layout.{partsOf, rightLength, part, inUse, bitsSet, heightIn, rootIn, allZero, rectCount, itemCount, polygonIn, entriesIn, childrenIn, countsFit, restZero, nodeFits, othersZero}
+use Rattle.memory.specs.Layout.{partsOf, isIndexLength, part, inUse, bitsSet, heightIn, rootIn, allZero, rectCount, itemCount, polygonIn, entriesIn, childrenIn, countsFit, restZero, nodeFits, othersZero}
 use Rattle.memory.specs.SoundTest.{soundTest}
 use Rattle.memory.specs.Reading.{readRow, readNode, treeOf, restFits, readTree, readHeight, reading}
 use Rattle.memory.specs.Reached.{reached}
@@ -29,12 +31,6 @@ use Rattle.memory.proofs.SoundTested.{sound-tested}
 chosen : {A : Type 0} (b : Bool) (x : Option A) (a : A) → cond b x none ≡ some a → (b ≡ true) × (x ≡ some a)
 chosen true x a e = (refl, e)
 chosen false x a e = let z : _≡_ {A = ℕ} 0 1 = cc in absurd (omega arith)
-
--- a step that gave something had something to start from
-bind-some : {A B : Type 0} (o : Option A) (f : A → Option B) (b : B) → bind o f ≡ some b → (a : A) × (o ≡ some a) × (f a ≡ some b)
-unfolding bind
-bind-some none f b e = let z : _≡_ {A = ℕ} 0 1 = cc in absurd (omega arith)
-bind-some (some a) f b e = (a, refl, e)
 
 -- a row of branches taken apart: its first branch at part k and the others
 pub record RowParts {B : Type 0} (read : ℕ → ℕ → Option B) (lo hi k : ℕ) (ks : List ℕ) (bs : List B) : Type 0 where
@@ -74,14 +70,6 @@ module _ {B : Type 0} (read : ℕ → ℕ → Option B) where
   row-length lo hi (k ∷ ks) bs e =
       let r = row-parts lo hi k ks bs e in
       ap length (sym (r .whole)) ∙ ap suc (row-length (k + 1) hi ks (r .others) (r .tail))
-
-  -- a row reads the same up to a higher end
-  pub row-higher : (lo hi hi′ : ℕ) (ks : List ℕ) (bs : List B) → hi ≤ hi′ → readRow read lo hi ks ≡ some bs → readRow read lo hi′ ks ≡ some bs
-  unfolding readRow
-  row-higher lo hi hi′ [] bs h e = e
-  row-higher lo hi hi′ (k ∷ ks) bs h e =
-      let r = row-parts lo hi k ks bs e in
-      make-row lo hi′ k ks (r .first) (r .others) (r .from) (omega arith) (r .head) (row-higher (k + 1) hi hi′ ks (r .others) h (r .tail)) ∙ ap some (r .whole)
 
 -- two ways of reading that agree from lo to below hi read the same row there
 pub row-same : {B : Type 0} (f g : ℕ → ℕ → Option B) (lo hi : ℕ) (ks : List ℕ) → ((l j : ℕ) → lo ≤ l → l ≤ j → j < hi → f l j ≡ g l j)
@@ -421,11 +409,6 @@ module _ (m : List ℕ) where
       rw (← (x .count)) (omega arith)
 
 module _ (fanout : ℕ) (m : List ℕ) where
-  entries-nodes : (l : List (Item (planeSpace fanout) zero)) → total (nodes (planeSpace fanout) zero) l ≡ 0
-  unfolding total nodes
-  entries-nodes [] = refl
-  entries-nodes (e ∷ l) = let ih = entries-nodes l in omega arith
-
   reaches-row : (n : ℕ) → ((lo k : ℕ) (b : Item (planeSpace fanout) (suc n)) → lo ≤ k → readNode fanout n m lo k ≡ some b
       → Reaches m lo (k + 1) (reached n m k) (nodes (planeSpace fanout) (suc n) b))
       → (lo hi : ℕ) (ks : List ℕ) (bs : List (Item (planeSpace fanout) (suc n))) → lo ≤ hi → readRow (readNode fanout n m) lo hi ks ≡ some bs
@@ -447,7 +430,7 @@ module _ (fanout : ℕ) (m : List ℕ) where
   node-reaches zero lo k b h e =
       let p = leaf-parts fanout m lo k b e in
       let u = fits-as fanout 3 m k (p .fits) in
-      let z = entries-nodes (b .child) in
+      let z = leaf-nodes (planeSpace fanout) (b .child) in
       let one : Reaches m lo (k + 1) (k ∷ []) (0 + 1) = reaches-append m lo k (k + 1) [] (k ∷ []) 0 1 h (omega arith) (reaches-none m lo k) (reaches-one m k (u .below) (u .used)) in
       subst (λ c. Reaches m lo (k + 1) (k ∷ []) c) (let q : 0 + 1 ≡ 1 + total (nodes (planeSpace fanout) zero) (b .child) = omega arith in q) one
   node-reaches (suc n) lo k b h e =
@@ -528,22 +511,22 @@ pub parts-are : (m : List ℕ) (N : ℕ) → length m ≡ 64 + 128 * N → parts
 parts-are m N e = omega arith
 
 -- a memory of 1 to 256 parts has a right length
-pub right-length : (m : List ℕ) (N : ℕ) → length m ≡ 64 + 128 * N → 1 ≤ N → N ≤ 256 → rightLength m ≡ true
-unfolding rightLength
-right-length m N e h k =
+pub is-index-length : (m : List ℕ) (N : ℕ) → length m ≡ 64 + 128 * N → 1 ≤ N → N ≤ 256 → isIndexLength m ≡ true
+unfolding isIndexLength
+is-index-length m N e h k =
     let p = parts-are m N e in
     both _ _ (both _ _ (eq-eqb (length m) (64 + 128 * partsOf m) (omega arith)) (le-leb 1 (partsOf m) (omega arith))) (le-leb (partsOf m) 256 (omega arith))
 
 -- what a right length says
-pub record RightLength (m : List ℕ) : Type 0 where
+pub record IndexLength (m : List ℕ) : Type 0 where
   pub length-is : length m ≡ 64 + 128 * partsOf m
   pub some-parts : 1 ≤ partsOf m
   pub few-parts : partsOf m ≤ 256
 
 -- a memory of a right length has 1 to 256 parts
-pub length-right : (m : List ℕ) → rightLength m ≡ true → RightLength m
-unfolding rightLength
-length-right m e =
+pub index-length : (m : List ℕ) → isIndexLength m ≡ true → IndexLength m
+unfolding isIndexLength
+index-length m e =
     let a = split-and _ (leb (partsOf m) 256) e in
     let b = split-and (eqb (length m) (64 + 128 * partsOf m)) (leb 1 (partsOf m)) (a .0) in
     record { length-is = eqb-true _ _ (b .0); some-parts = leb-true _ _ (b .1); few-parts = leb-true _ _ (a .1) }
@@ -563,19 +546,19 @@ zero-at (a ∷ l) (suc i) e = zero-at l i (split-and (eqb a 0) (allZero l) e .1)
 
 module _ (fanout : ℕ) where
   -- a memory of all zeros is the empty index
-  pub zeros-read : (m : List ℕ) → rightLength m ≡ true → allZero m ≡ true → reading fanout m ≡ some none
+  pub zeros-read : (m : List ℕ) → isIndexLength m ≡ true → allZero m ≡ true → reading fanout m ≡ some none
   unfolding reading
   zeros-read m r z = rw (r, zero-at m 8 z, z)
 
   -- the fresh index of N parts reads as the empty index
   pub fresh : (N : ℕ) → 1 ≤ N → N ≤ 256 → reading fanout (replicate (64 + 128 * N) 0) ≡ some none
-  fresh N h k = zeros-read (replicate (64 + 128 * N) 0) (right-length _ N (length-replicate _ 0) h k) (zeros-zero (64 + 128 * N))
+  fresh N h k = zeros-read (replicate (64 + 128 * N) 0) (is-index-length _ N (length-replicate _ 0) h k) (zeros-zero (64 + 128 * N))
 
   -- a memory that reads as the empty index has a right length and is all zeros
-  pub read-empty : (m : List ℕ) → reading fanout m ≡ some none → (rightLength m ≡ true) × (allZero m ≡ true)
+  pub read-empty : (m : List ℕ) → reading fanout m ≡ some none → (isIndexLength m ≡ true) × (allZero m ≡ true)
   unfolding reading
   read-empty m e =
-      let a = chosen (rightLength m) _ none e in
+      let a = chosen (isIndexLength m) _ none e in
       (a .0, go (heightIn m) (a .1))
     where
       go : (h : ℕ) → readHeight fanout h m ≡ some none → allZero m ≡ true
@@ -587,7 +570,7 @@ module _ (fanout : ℕ) where
 
   -- what a memory is that reads as a tree
   pub record ReadAs (m : List ℕ) (t : Tree (planeSpace fanout)) : Type 0 where
-    pub right : rightLength m ≡ true
+    pub right : isIndexLength m ≡ true
     pub height-is : heightIn m ≡ suc (t .level)
     pub root-node : readNode fanout (t .level) m 0 (rootIn m) ≡ some (top (planeSpace fanout) t)
     pub bits : nodes (planeSpace fanout) (suc (t .level)) (top (planeSpace fanout) t) ≡ bitsSet m
@@ -595,7 +578,7 @@ module _ (fanout : ℕ) where
     pub others-zero : othersZero m (partsOf m) ≡ true
     pub tested : soundTest fanout t ≡ true
 
-  read-tree : (n : ℕ) (m : List ℕ) (t : Tree (planeSpace fanout)) → rightLength m ≡ true → heightIn m ≡ suc n → readTree fanout n m ≡ some t → ReadAs m t
+  read-tree : (n : ℕ) (m : List ℕ) (t : Tree (planeSpace fanout)) → isIndexLength m ≡ true → heightIn m ≡ suc n → readTree fanout n m ≡ some t → ReadAs m t
   unfolding readTree restFits
   read-tree n m t r h e =
       let x = bind-some (readNode fanout n m 0 (rootIn m)) _ t e in
@@ -618,10 +601,10 @@ module _ (fanout : ℕ) where
   pub read-as : (m : List ℕ) (t : Tree (planeSpace fanout)) → reading fanout m ≡ some (some t) → ReadAs m t
   unfolding reading
   read-as m t e =
-      let a = chosen (rightLength m) _ (some t) e in
+      let a = chosen (isIndexLength m) _ (some t) e in
       go (heightIn m) refl (a .0) (a .1)
     where
-      go : (h : ℕ) → heightIn m ≡ h → rightLength m ≡ true → readHeight fanout h m ≡ some (some t) → ReadAs m t
+      go : (h : ℕ) → heightIn m ≡ h → isIndexLength m ≡ true → readHeight fanout h m ≡ some (some t) → ReadAs m t
       go zero q r e =
           let x = chosen (allZero m) _ (some t) e .1 in
           let z : _≡_ {A = ℕ} 0 1 = cc in
@@ -642,7 +625,7 @@ module _ (fanout : ℕ) where
     pub bits : nodes (planeSpace fanout) (suc (t .level)) (top (planeSpace fanout) t) ≡ bitsSet m
     pub fits : nodes (planeSpace fanout) (suc (t .level)) (top (planeSpace fanout) t) ≤ partsOf m
     pub levels : suc (t .level) ≤ partsOf m
-    pub right : rightLength m ≡ true
+    pub right : isIndexLength m ≡ true
     pub some-parts : 1 ≤ partsOf m
     pub few-parts : partsOf m ≤ 256
 
@@ -650,7 +633,7 @@ module _ (fanout : ℕ) where
   pub read-sound : (m : List ℕ) (t : Tree (planeSpace fanout)) → reading fanout m ≡ some (some t) → ReadSound m t
   read-sound m t e =
       let r = read-as m t e in
-      let l = length-right m (r .right) in
+      let l = index-length m (r .right) in
       record {
         sound = sound-tested fanout t (r .tested);
         bits = r .bits;

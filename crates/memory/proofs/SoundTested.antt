@@ -9,10 +9,10 @@ use lib.Dec.{leb, eqb}
 use lib.ListN.{length}
 use Rattle.polygons.specs.Limits.{mostOfPolygon}
 use Rattle.polygons.specs.Lists.{any}
+use Rattle.polygons.proofs.Booleans.{is-false, not-both, both, split-and}
 use Rattle.geometry.specs.declared.rect.Cell.{Cell}
 use Rattle.geometry.specs.declared.rect.Rect.{Rect}
 use Rattle.geometry.specs.Cells.{hasCell, valid, allValid, anyHas}
-use Rattle.geometry.proofs.Booleans.{is-false, not-both, both, split-and}
 use Rattle.cover.specs.Tests.{allPass, pairsPass, insideOf, apart}
 use Rattle.cover.proofs.CoverCells.{inside-cells, cells-inside, apart-cells, cells-apart}
 use Rattle.tree.specs.Lists.{All, Pairs}
@@ -21,6 +21,7 @@ use Rattle.tree.specs.Sound.{Apart, Count, SoundItem}
 use Rattle.tree.specs.Tree.{Tree, SoundTree}
 use Rattle.tree.specs.Boxes.{anyHas as boxesHas}
 use Rattle.plane.specs.Plane.{planeSpace, planeRoot}
+use Rattle.plane.proofs.Rects.{all-valid, valid-all, same-cell}
 use Rattle.memory.specs.SoundTest.{polygonFits, countTest, apartTest, itemTest, soundTest}
 
 module _ {A : Type 0} (p : A → Bool) (P : A → Type 0) where
@@ -51,25 +52,6 @@ module _ {A : Type 0} (p : A → A → Bool) (R : A → A → Type 0) where
   pass-of-pairs f [] h = refl
   pass-of-pairs f (a ∷ l) h = both _ _ (pass-of-all (p a) (R a) (f a) l (h .0)) (pass-of-pairs f l (h .1))
 
--- a valid list as a fact of each rectangle
-valid-all : (p : List Rect) → allValid p ≡ true → All (λ r. valid r ≡ true) p
-unfolding allValid All
-valid-all [] e = tt
-valid-all (r ∷ p) e = let k = split-and (valid r) (allValid p) e in (k .0, valid-all p (k .1))
-
-all-valid : (p : List Rect) → All (λ r. valid r ≡ true) p → allValid p ≡ true
-unfolding allValid All
-all-valid [] h = refl
-all-valid (r ∷ p) h = both _ _ (h .0) (all-valid p (h .1))
-
--- cells whose coordinates pass as equal are equal
-same-cell : (c d : Cell) → eqb (c .x) (d .x) && eqb (c .y) (d .y) ≡ true → c ≡ d
-same-cell c d e =
-    let k = split-and (eqb (c .x) (d .x)) (eqb (c .y) (d .y)) e in
-    let a = eqb-true _ _ (k .0) in
-    let b = eqb-true _ _ (k .1) in
-    λ i. record { x = a i; y = b i }
-
 cell-same : (c : Cell) → eqb (c .x) (c .x) && eqb (c .y) (c .y) ≡ true
 cell-same c = both _ _ (eq-eqb (c .x) (c .x) refl) (eq-eqb (c .y) (c .y) refl)
 
@@ -86,16 +68,16 @@ module _ (fanout : ℕ) where
   fine-of-fits p e =
       let k = split-and _ (allValid p) e in
       let n = split-and (leb 1 (length p)) (leb (length p) mostOfPolygon) (k .0) in
-      record { lower = leb-true _ _ (n .0); upper = leb-true _ _ (n .1); valid = valid-all p (k .1) }
+      record { lower = leb-true _ _ (n .0); upper = leb-true _ _ (n .1); valid = all-valid p (k .1) }
 
   -- a polygon of 1 to 16 valid rectangles passes
   pub fits-of-fine : (p : List Rect) → planeSpace fanout .Fine p → polygonFits p ≡ true
   unfolding polygonFits
-  fits-of-fine p f = both _ _ (both _ _ (le-leb _ _ (f .lower)) (le-leb _ _ (f .upper))) (all-valid p (f .valid))
+  fits-of-fine p f = both _ _ (both _ _ (le-leb _ _ (f .lower)) (le-leb _ _ (f .upper))) (valid-all p (f .valid))
 
   -- the rectangles of such a polygon are valid
   pub valid-of-fine : (p : List Rect) → planeSpace fanout .Fine p → allValid p ≡ true
-  valid-of-fine p f = all-valid p (f .valid)
+  valid-of-fine p f = valid-all p (f .valid)
 
   -- items that pass share no cell
   pub apart-of-test : (n : ℕ) (a b : Item (planeSpace fanout) n) → apartTest fanout n a b ≡ true → Apart (planeSpace fanout) n a b
@@ -166,7 +148,7 @@ module _ (fanout : ℕ) where
       let f = split-and (eqb (length (t .root)) 1) (allValid (t .root)) (i .0) in
       let one : length (t .root) ≡ 1 = eqb-true _ _ (f .0) in
       record {
-        fine = record { lower = omega arith; upper = omega arith; valid = valid-all (t .root) (f .1) };
+        fine = record { lower = omega arith; upper = omega arith; valid = all-valid (t .root) (f .1) };
         one = one;
         count = count-of-test (t .items) (i .1);
         items = record {

@@ -14,7 +14,7 @@ use lib.ListN.{length, take, getD}
 use lib.Pow.{shr-shr}
 use lib.Seq.{take-suc}
 use Rattle.polygons.specs.Lists.{any}
-use Rattle.geometry.proofs.Booleans.{neither, both, split-and}
+use Rattle.polygons.proofs.Booleans.{neither, both, split-and}
 use Rattle.tree.specs.Lists.{All, Pairs}
 use Rattle.tree.specs.Tree.{Tree, top}
 use Rattle.tree.proofs.Lists.{all-map, all-both}
@@ -22,7 +22,7 @@ use Rattle.plane.specs.Plane.{planeSpace}
 use Rattle.memory.specs.Layout.{partsOf, inUse, onesOf, rootIn}
 use Rattle.memory.specs.Reading.{reading}
 use Rattle.memory.specs.Reached.{reached}
-use Rattle.memory.proofs.ReadingLaws.{node-reaches, read-as, length-right}
+use Rattle.memory.proofs.ReadingLaws.{node-reaches, read-as, index-length}
 
 abbrev one : Bool → ℕ
 one b = cond b 1 0
@@ -203,7 +203,7 @@ module _ (fanout : ℕ) where
       → (j : ℕ) → j < 256 → inUse m j ≡ true → any (eqb j) (reached (t .level) m (rootIn m)) ≡ true
   used-reached m t f e j h u =
       let r = read-as fanout m t e in
-      let l = length-right m (r .right) in
+      let l = index-length m (r .right) in
       let c = node-reaches fanout m (t .level) 0 (rootIn m) (top (planeSpace fanout) t) (omega arith) (r .root-node) in
       let ks = reached (t .level) m (rootIn m) in
       let n : length ks ≡ countFrom (inUse m) 0 256 = c .count ∙ r .bits ∙ words-count m 8 (omega arith) f in

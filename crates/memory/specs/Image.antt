@@ -1,6 +1,6 @@
 -- The image of a tree: a memory of N parts that reads as that tree. Document 01: 'Each sound tree of at most N nodes has an accepted image.'
 -- Which parts the nodes take is left free; this image takes the first ones, in depth-first order, a node after its children.
--- docs/RULES.md 3.17, 5.8
+-- docs/RULES.md 3.17
 use Prim.Native.Nat.{ℕ, zero, suc, _+_, _*_, _-_, _^_, min}
 use mathlib.Core.List.{List, [], _∷_, _++_, map, flatMap}
 use lib.ListN.{length, replicate}
@@ -37,25 +37,25 @@ unfoldable pub memoryOf : ℕ → ℕ → List (List ℕ) → List ℕ
 memoryOf N height parts = padded (64 + 128 * N) (headNumbers (length parts) height ++ flatMap (λ p. p) parts)
 
 -- the parts of some subtrees, the first of which gets the number next, and the parts of their top nodes
-pub record Emitted : Type 0 where
+pub record WrittenRow : Type 0 where
   pub parts : List (List ℕ)
-  pub tops : List ℕ
+  pub roots : List ℕ
 
-unfoldable pub emitRow : {B : Type 0} → (ℕ → B → List (List ℕ)) → ℕ → List B → Emitted
-emitRow emit next [] = record { parts = []; tops = [] }
-emitRow emit next (b ∷ bs) =
-    let own = emit next b in
-    let others = emitRow emit (next + length own) bs in
-    record { parts = own ++ others .parts; tops = (next + length own - 1) ∷ others .tops }
+unfoldable pub writeRow : {B : Type 0} → (ℕ → B → List (List ℕ)) → ℕ → List B → WrittenRow
+writeRow write next [] = record { parts = []; roots = [] }
+writeRow write next (b ∷ bs) =
+    let own = write next b in
+    let others = writeRow write (next + length own) bs in
+    record { parts = own ++ others .parts; roots = (next + length own - 1) ∷ others .roots }
 
 module _ (fanout : ℕ) where
   -- the parts of a node's subtree, the first of which gets the number next; the node's own part is the last
-  unfoldable pub emitNode : (n : ℕ) → ℕ → Item (planeSpace fanout) (suc n) → List (List ℕ)
-  emitNode zero next b = nodePart (b .poly) (length (b .child)) (flatMap entryNumbers (b .child)) ∷ []
-  emitNode (suc n) next b =
-      let below = emitRow (emitNode n) next (b .child) in
-      below .parts ++ (nodePart (b .poly) (length (b .child)) (below .tops) ∷ [])
+  unfoldable pub writeNode : (n : ℕ) → ℕ → Item (planeSpace fanout) (suc n) → List (List ℕ)
+  writeNode zero next b = nodePart (b .poly) (length (b .child)) (flatMap entryNumbers (b .child)) ∷ []
+  writeNode (suc n) next b =
+      let below = writeRow (writeNode n) next (b .child) in
+      below .parts ++ (nodePart (b .poly) (length (b .child)) (below .roots) ∷ [])
 
   -- the image of a tree in a memory of N parts
   unfoldable pub image : ℕ → Tree (planeSpace fanout) → List ℕ
-  image N t = memoryOf N (suc (t .level)) (emitNode (t .level) 0 (top (planeSpace fanout) t))
+  image N t = memoryOf N (suc (t .level)) (writeNode (t .level) 0 (top (planeSpace fanout) t))

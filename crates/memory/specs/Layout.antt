@@ -16,8 +16,8 @@ abbrev pub partsOf : List ℕ → ℕ
 partsOf m = (length m - 64) / 128
 
 -- 'N from 1 to 256': the length is 64 + 128 × N for such an N
-unfoldable pub rightLength : List ℕ → Bool
-rightLength m = eqb (length m) (64 + 128 * partsOf m) && leb 1 (partsOf m) && leb (partsOf m) 256
+unfoldable pub isIndexLength : List ℕ → Bool
+isIndexLength m = eqb (length m) (64 + 128 * partsOf m) && leb 1 (partsOf m) && leb (partsOf m) 256
 
 -- the k-th part
 unfoldable pub part : List ℕ → ℕ → List ℕ

@@ -11,7 +11,7 @@ use Rattle.tree.specs.Space.{Branch}
 use Rattle.tree.specs.Nodes.{Item, nodes}
 use Rattle.tree.specs.Tree.{Tree}
 use Rattle.plane.specs.Plane.{planeSpace}
-use Rattle.memory.specs.Layout.{partsOf, rightLength, part, bitsSet, heightIn, rootIn, allZero, itemCount, polygonIn, entriesIn, childrenIn, nodeFits, othersZero}
+use Rattle.memory.specs.Layout.{partsOf, isIndexLength, part, bitsSet, heightIn, rootIn, allZero, itemCount, polygonIn, entriesIn, childrenIn, nodeFits, othersZero}
 use Rattle.memory.specs.SoundTest.{soundTest}
 
 -- The branches of a node at part hi, by their part numbers: read lo k reads the one at part k, whose subtree has the parts from lo up to
@@ -56,4 +56,4 @@ module _ (fanout : ℕ) where
 
   -- none: 'memory reads as no sound tree'; some none: the empty index, all zeros; some (some t): the tree t
   unfoldable pub reading : List ℕ → Option (Option (Tree (planeSpace fanout)))
-  reading m = cond (rightLength m) (readHeight (heightIn m) m) none
+  reading m = cond (isIndexLength m) (readHeight (heightIn m) m) none

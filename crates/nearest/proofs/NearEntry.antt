@@ -2,7 +2,7 @@
 use Prim.Native.Nat.{ℕ, _<_, _≤_}
 use mathlib.Core.Path.{_≡_, refl, ap, _∙_}
 use mathlib.Core.Bool.{true, false}
-use mathlib.Core.List.{List, [], _∷_}
+use mathlib.Core.List.{[], _∷_}
 use mathlib.Core.Option.{Option, some}
 use lib.Dec.{leb}
 use native.Mathlib.Omega.{arith}
@@ -11,8 +11,7 @@ use Rattle.distance.specs.Distance.{squared}
 use Rattle.tree.specs.Order.{comesBefore}
 use Rattle.tree.specs.Nearest.{orNearer}
 use Rattle.tree.proofs.Order.{by-first, by-rest, not-first, not-rest, not-last}
-use Rattle.plane.specs.Lines.{CellEntry}
-use Rattle.index.specs.Changes.{entryOf}
+use Rattle.plane.specs.Lines.{CellEntry, entryOf}
 use Rattle.nearest.specs.declared.near.Near.{Near}
 use Rattle.nearest.specs.Near.{nearBy, bestOf, oneMore, GoodNear, entersNear}
 

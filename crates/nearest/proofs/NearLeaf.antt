@@ -12,12 +12,13 @@ use Rattle.tree.specs.Lists.{All}
 use Rattle.plane.specs.Lines.{CellEntry}
 use Rattle.memory.specs.Layout.{itemCount, entryIn, entriesIn}
 use Rattle.memory.proofs.ReadingLaws.{entries-length}
+use Rattle.layout.specs.declared.entry.Entry.{Entry}
 use Rattle.layout.specs.declared.node.Node.{Node}
+use Rattle.layout.specs.Entries.{treeEntry}
 use Rattle.layout.specs.Loaded.{nodeIn, nodeEntry}
 use Rattle.layout.specs.Nodes.{NodePart}
-use Rattle.layout.proofs.LoadedLaws.{loaded-count, loaded-cell, loaded-tag}
-use Rattle.index.specs.Changes.{entryOf}
-use Rattle.index.proofs.LeafLaws.{entries-next}
+use Rattle.layout.proofs.LoadedLaws.{loaded-count, loaded-is}
+use Rattle.layout.proofs.EntryRows.{entries-next}
 use Rattle.nearest.specs.declared.near.Near.{Near}
 use Rattle.nearest.specs.Near.{nearBy, bestOf, oneMore, nearestAmong, GoodNear}
 use Rattle.nearest.proofs.NearMet.{best-near, visits-near, good-near}
@@ -57,19 +58,17 @@ module _ (c : Cell) (p : List ℕ) (r₀ : Near) (n : ℕ) (leaf : Node) (l : le
       here : All (λ e. onGrid (e .cell) ≡ true) (entryIn p i ∷ drop (i + 1) (entriesIn p (itemCount p)))
       here = subst (λ (es : List CellEntry). All (λ e. onGrid (e .cell) ≡ true) es) next (x .grid)
 
-      module _ (e : Cell) (is : e ≡ nodeEntry leaf i .cell) where
-        cell-is : e ≡ entryIn p i .cell
-        cell-is = loaded-cell p leaf l i e (let s = x .small in omega arith) is
+      module _ (e : Entry) (is : treeEntry e ≡ nodeEntry leaf i) where
+        ent : treeEntry e ≡ entryIn p i
+        ent = loaded-is p leaf l i e (let s = x .small in omega arith) is
 
-        pub leaf-grid : onGrid e ≡ true
+        pub leaf-grid : onGrid (e .cell) ≡ true
         unfolding All
-        leaf-grid = ap onGrid cell-is ∙ here .0
+        leaf-grid = ap (λ (y : CellEntry). onGrid (y .cell)) ent ∙ here .0
 
-        pub leaf-again : (t : ℕ) → t ≡ nodeEntry leaf i .tag → (r′ : Near) → r′ ≡ nearBy c (oneMore c (bestOf r) (entryOf e t)) (r .visits) → LeafNear c p r₀ n (i + 1) r′
+        pub leaf-again : (r′ : Near) → r′ ≡ nearBy c (oneMore c (bestOf r) (treeEntry e)) (r .visits) → LeafNear c p r₀ n (i + 1) r′
         unfolding All
-        leaf-again t ti r′ q =
-            let tis : t ≡ entryIn p i .tag = loaded-tag p leaf l i t (let s = x .small in omega arith) ti in
-            let ent : entryOf e t ≡ entryIn p i = λ z. record { cell = cell-is z; tag = tis z } in
+        leaf-again r′ q =
             let b : bestOf r′ ≡ oneMore c (bestOf r) (entryIn p i) = ap bestOf q ∙ best-near c _ _ ∙ ap (oneMore c (bestOf r)) ent in
             record {
               count = x .count;

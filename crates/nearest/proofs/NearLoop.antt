@@ -14,17 +14,16 @@ use Rattle.tree.specs.Nearest.{enters}
 use Rattle.tree.specs.Walk.{nodeWalkVisits}
 use Rattle.tree.proofs.NearestWalk.{toBranch}
 use Rattle.plane.specs.Lines.{CellEntry}
-use Rattle.plane.specs.Plane.{planeSpace}
 use Rattle.memory.specs.Layout.{part, polygonIn, childrenIn, itemCount, entriesIn}
-use Rattle.memory.specs.Fanout.{fanout}
-use Rattle.layout.specs.Nodes.{childAt, countAt}
-use Rattle.index.specs.Walks.{anyPolygon, anyEntry, visitsBelow, visitsFrom, entriesBelow, Walkable}
-use Rattle.index.proofs.WalkRows.{RowWalkable}
-use Rattle.index.proofs.FoldRows.{fold-none}
-use Rattle.index.proofs.WalkLoop.{AtChild, nothing-left, child-start, child-hit, child-walkable, child-polygon, next-child}
+use Rattle.plane.specs.Fanout.{indexSpace}
+use Rattle.layout.specs.Nodes.{childAt, countAt, GoodPolygonPart}
+use Rattle.walks.specs.Walks.{anyPolygon, anyEntry, visitsBelow, visitsFrom, entriesBelow, Walkable}
+use Rattle.walks.proofs.WalkRows.{RowWalkable}
+use Rattle.walks.proofs.FoldRows.{fold-none}
+use Rattle.walks.proofs.WalkLoop.{AtChild, nothing-left, child-start, child-hit, child-walkable, child-polygon, next-child}
 use Rattle.nearest.specs.declared.near.Near.{Near}
 use Rattle.nearest.specs.Near.{MetBy, nearestAmong, nearBy, bestOf, GoodNear, nearOf, metOf, withNode, entersNear}
-use Rattle.nearest.specs.Below.{walkBelow, nearBelow, GoodPolygonPart, NearWalk}
+use Rattle.nearest.specs.Below.{walkBelow, nearBelow, NearWalk}
 use Rattle.nearest.proofs.NearMet.{good-near, met-near, good-entered, visits-entered, met-entered, enters-is}
 use Rattle.nearest.proofs.NearRows.{walkRow, childWalk, row-walk, child-passed, child-entered, leaf-walk, node-walk, walk-bound}
 use Rattle.nearest.proofs.NearSound.{SoundRow, row-sound, first-sound, rest-sound, polygon-sound}
@@ -34,7 +33,7 @@ some-visits : (n : ℕ) (m : List ℕ) (lo k : ℕ) → Walkable n m lo k → 1 
 unfolding visitsBelow visitsFrom
 some-visits n m lo k x = rw (x .reads) (one-more n (x .node .child))
   where
-    one-more : (n : ℕ) (items : List (Item (planeSpace fanout) n)) → 1 ≤ nodeWalkVisits (planeSpace fanout) anyPolygon n items
+    one-more : (n : ℕ) (items : List (Item indexSpace n)) → 1 ≤ nodeWalkVisits indexSpace anyPolygon n items
     one-more zero es = unfold nodeWalkVisits in omega arith
     one-more (suc n) bs = unfold nodeWalkVisits in omega arith
 
@@ -91,7 +90,7 @@ module _ (c : Cell) (level : ℕ) (m : List ℕ) (lo k n : ℕ) (r₀ : Near) wh
     near-end met ne g e h =
         let d = nothing-left anyPolygon anyEntry level m lo k n i low (x .vs) (x .es) (x .at) h in
         let w : metOf c r ≡ walkRow c (level - 1) m lo k (childrenIn (part m k)) (metOf c r₀)
-        = sym (fold-none (level - 1) (toBranch (planeSpace fanout) c (level - 1)) m low k (metOf c r))
+        = sym (fold-none (level - 1) (toBranch indexSpace c (level - 1)) m low k (metOf c r))
         ∙ ap (λ (ks : List ℕ). walkRow c (level - 1) m low k ks (metOf c r)) (sym d) ∙ x .whole in
         x .good ∙ ap (nearOf c) (w ∙ whole-node level ne (x .at .walkable) met g e)
       where
@@ -147,7 +146,7 @@ module _ (c : Cell) (level : ℕ) (m : List ℕ) (lo k n : ℕ) (r₀ : Near) wh
       near-good = x .good
 
       module _ (d : ℕ) (di : d ≡ leastDistance rectDistance c (polygonIn (part m j))) (b : Bool) (e : b ≡ entersNear r d) where
-        test : enters (planeSpace fanout) c (polygonIn (part m j)) (bestOf r) ≡ b
+        test : enters indexSpace c (polygonIn (part m j)) (bestOf r) ≡ b
         test = enters-is c (polygonIn (part m j)) r d b (x .good) di e
 
         -- the child is passed over

@@ -12,8 +12,7 @@ use Rattle.geometry.specs.declared.rect.Rect.{Rect}
 use Rattle.distance.specs.Distance.{squared, rectDistance}
 use Rattle.tree.specs.Nearest.{enters, enter}
 use Rattle.plane.specs.Lines.{CellEntry}
-use Rattle.plane.specs.Plane.{planeSpace}
-use Rattle.memory.specs.Fanout.{fanout}
+use Rattle.plane.specs.Fanout.{indexSpace}
 use Rattle.nearest.specs.declared.near.Near.{Near}
 use Rattle.nearest.specs.Near.{MetBy, nearBy, bestOf, GoodNear, nearOf, metOf, withNode, entersNear}
 
@@ -55,7 +54,7 @@ module _ (c : Cell) (met r : Near) (good : GoodNear c met) (e : r ≡ withNode m
   pub visits-entered : r .visits ≡ met .visits + 1
   visits-entered = ap (λ (x : Near). x .visits) entered-is ∙ visits-near c (bestOf met) (met .visits + 1)
 
-  pub met-entered : metOf c r ≡ enter (planeSpace fanout) c (metOf c met)
+  pub met-entered : metOf c r ≡ enter indexSpace c (metOf c met)
   met-entered =
       let b : bestOf r ≡ bestOf met = ap bestOf entered-is ∙ best-near c (bestOf met) (met .visits + 1) in
       let v : r .visits ≡ suc (met .visits) = visits-entered ∙ add-one (met .visits) in
@@ -63,11 +62,11 @@ module _ (c : Cell) (met r : Near) (good : GoodNear c met) (e : r ≡ withNode m
 
 -- the code's test is the walk's
 pub enters-is : (c : Cell) (p : List Rect) (r : Near) (d : ℕ) (b : Bool) → GoodNear c r → d ≡ leastDistance rectDistance c p
-    → b ≡ entersNear r d → enters (planeSpace fanout) c p (bestOf r) ≡ b
+    → b ≡ entersNear r d → enters indexSpace c p (bestOf r) ≡ b
 unfolding enters entersNear nearBy
 enters-is c p r d b good q e = go (bestOf r) refl ∙ sym e
   where
-    go : (o : Option CellEntry) → bestOf r ≡ o → enters (planeSpace fanout) c p o ≡ entersNear r d
+    go : (o : Option CellEntry) → bestOf r ≡ o → enters indexSpace c p o ≡ entersNear r d
     go none h =
         let g : r ≡ nearBy c none (r .visits) = good ∙ ap (λ (x : Option CellEntry). nearBy c x (r .visits)) h in
         sym (ap (λ (x : Near). entersNear x d) g)

@@ -9,20 +9,19 @@ use Rattle.geometry.specs.declared.rect.Cell.{Cell}
 use Rattle.distance.specs.Distance.{squared}
 use Rattle.tree.specs.Nearest.{orNearer, nearestOf, Met}
 use Rattle.plane.specs.Lines.{CellEntry}
-use Rattle.plane.specs.Plane.{planeSpace}
-use Rattle.memory.specs.Fanout.{fanout}
+use Rattle.plane.specs.Fanout.{indexSpace}
 use Rattle.nearest.specs.declared.near.Near.{Near}
 
 -- the nearest so far with one more entry, and with several
 abbrev pub oneMore : Cell → Option CellEntry → CellEntry → Option CellEntry
-oneMore c o e = orNearer (planeSpace fanout) c o e
+oneMore c o e = orNearer indexSpace c o e
 
 abbrev pub nearestAmong : Cell → Option CellEntry → List CellEntry → Option CellEntry
-nearestAmong c o es = nearestOf (planeSpace fanout) c o es
+nearestAmong c o es = nearestOf indexSpace c o es
 
 -- what the walk for a cell has met
 abbrev pub MetBy : Cell → Type 0
-MetBy c = Met (planeSpace fanout) c
+MetBy c = Met indexSpace c
 
 -- an entry, or none, and the nodes entered, as the code has them
 unfoldable pub nearBy : Cell → Option CellEntry → ℕ → Near

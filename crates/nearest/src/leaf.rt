@@ -9,8 +9,7 @@ ghost use Rattle.nearest.specs.Near.{nearBy, bestOf, nearestAmong, GoodN
 use crate::near::Near;
 use geometry::Cell;
 use layout::Node;
-use layout::cell;
-use layout::tag;
+use layout::nth_entry;
 
 // The nearest so far with the entries of a leaf's part.
 pub fn nearest_in_leaf(p: &[u32], c: Cell, met: Near) -> Near
@@ -25,7 +24,7 @@ pub fn nearest_in_leaf(p: &[u32], c: Cell, met: Near) -> Near
     let mut best = met;
     let mut i = 0;
     while i < n {
-        best = best.with_entry(c, cell(&leaf.items, i), tag(&leaf.items, i));
+        best = best.with_entry(c, nth_entry(&leaf.items, i));
         i += 1;
     }
     best

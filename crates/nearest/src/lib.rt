@@ -5,4 +5,4 @@ mod near;
 mod query;
 
 pub use query::nearest;
-pub use query::nearest_opened;
+pub use query::nearest_known;

@@ -4,10 +4,11 @@ ghost use mathlib.Core.Bool.{true};
 ghost use mathlib.Core.Option.{none};
 ghost use Prim.Native.Nat.{_≤_};
 ghost use Rattle.geometry.specs.Cells.{onGrid};
-ghost use Rattle.index.specs.Changes.{entryOf};
+ghost use Rattle.layout.specs.Entries.{treeEntry};
 ghost use Rattle.nearest.specs.Near.{nearBy, bestOf, oneMore, GoodNear, withNode, entersNear};
 use distance::squared_distance;
 use geometry::Cell;
+use layout::Entry;
 
 // The nearest entry met so far, if any, its squared distance, and the nodes entered. Where none was met, the
 // other numbers are 0.
@@ -36,19 +37,20 @@ impl Near {
     }
 
     // With one more entry: it is taken if it is nearer, or as near with a smaller x, then a smaller y.
-    pub fn with_entry(self, c: Cell, e: Cell, tag: u32) -> Near
+    pub fn with_entry(self, c: Cell, e: Entry) -> Near
         requires { ⌜ onGrid c ≡ true ⌝ }
-        requires { ⌜ onGrid e ≡ true ⌝ }
+        requires { ⌜ onGrid (e .cell) ≡ true ⌝ }
         requires { ⌜ GoodNear c self ⌝ }
-        ensures { λ r. ⌜ r ≡ nearBy c (oneMore c (bestOf self) (entryOf e tag)) (self .visits) ⌝ }
+        ensures { λ r. ⌜ r ≡ nearBy c (oneMore c (bestOf self) (treeEntry e)) (self .visits) ⌝ }
     {
-        let d = squared_distance(c, e);
+        let at = e.cell;
+        let d = squared_distance(c, at);
         let taken = Near {
             found: true,
             distance: d,
-            x: e.x,
-            y: e.y,
-            tag,
+            x: at.x,
+            y: at.y,
+            tag: e.tag,
             visits: self.visits,
         };
         if !self.found {
@@ -60,13 +62,13 @@ impl Near {
         if self.distance < d {
             return self;
         }
-        if e.x < self.x {
+        if at.x < self.x {
             return taken;
         }
-        if self.x < e.x {
+        if self.x < at.x {
             return self;
         }
-        if e.y < self.y {
+        if at.y < self.y {
             return taken;
         }
         self

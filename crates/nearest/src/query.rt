@@ -3,16 +3,17 @@ ghost use mathlib.Core.Path.{_≡_};
 ghost use mathlib.Core.Bool.{true};
 ghost use Rattle.geometry.specs.Cells.{onGrid};
 ghost use Rattle.memory.specs.Reading.{reading};
-ghost use Rattle.memory.specs.Fanout.{fanout};
-ghost use Rattle.index.specs.Answers.{nearestRead, nearestAnswer};
-ghost use Rattle.index.specs.Open.{TreeIn, OpenedAs};
+ghost use Rattle.plane.specs.Fanout.{fanout};
+ghost use Rattle.answers.specs.Answers.{nearestRead, nearestAnswer};
+ghost use Rattle.memory.specs.TreeIn.{TreeIn, Known};
+ghost use Rattle.soundness.specs.Open.{OpenedAs};
 use crate::below::nearest_below;
 use crate::near::Near;
+use answers::NearestFound;
 use geometry::Cell;
-use index::NearestFound;
-use index::Opened;
-use index::open;
-use layout::right_length;
+use layout::is_index_length;
+use soundness::Opened;
+use soundness::open_known;
 
 // The nearest entry of the tree in a memory.
 fn nearest_in_tree(m: &[u32], level: u32, root: u32, c: Cell) -> NearestFound
@@ -35,14 +36,14 @@ fn nearest_in_tree(m: &[u32], level: u32, root: u32, c: Cell) -> NearestFound
 }
 
 // The nearest entry of an opened memory, the cell tested.
-fn nearest_read(m: &[u32], opened: Opened, c: Cell) -> NearestFound
+fn nearest_opened(m: &[u32], opened: Opened, c: Cell) -> NearestFound
     requires { ⌜ OpenedAs (now m) opened ⌝ }
     requires { ⌜ onGrid c ≡ true ⌝ }
     ensures { λ r. ⌜ r ≡ nearestRead c (reading fanout (now (m .entry))) ⌝ }
 {
     match opened {
-        Opened::NoTree => {
-            return NearestFound::NoTree;
+        Opened::NoSoundTree => {
+            return NearestFound::NoSoundTree;
         }
         Opened::Empty => {
             return NearestFound::NothingHeld;
@@ -57,25 +58,19 @@ fn nearest_read(m: &[u32], opened: Opened, c: Cell) -> NearestFound
 pub fn nearest(m: &[u32], c: Cell) -> NearestFound
     ensures { λ r. ⌜ r ≡ nearestAnswer (now (m .entry)) c ⌝ }
 {
-    if !right_length(m) {
-        return NearestFound::WrongLength;
-    }
-    if !c.on_grid() {
-        return NearestFound::OffGrid;
-    }
-    nearest_read(m, open(m), c)
+    nearest_known(m, false, c)
 }
 
-// The same with a memory that was opened before, so that it is not tested again.
-pub fn nearest_opened(m: &[u32], opened: Opened, c: Cell) -> NearestFound
-    requires { ⌜ OpenedAs (now m) opened ⌝ }
+// The same; a memory that is known to read as an index is not tested.
+pub fn nearest_known(m: &[u32], known: bool, c: Cell) -> NearestFound
+    requires { ⌜ Known (now m) known ⌝ }
     ensures { λ r. ⌜ r ≡ nearestAnswer (now (m .entry)) c ⌝ }
 {
-    if !right_length(m) {
+    if !is_index_length(m) {
         return NearestFound::WrongLength;
     }
     if !c.on_grid() {
-        return NearestFound::OffGrid;
+        return NearestFound::Invalid;
     }
-    nearest_read(m, opened, c)
+    nearest_opened(m, open_known(m, known), c)
 }

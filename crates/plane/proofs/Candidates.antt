@@ -1,6 +1,6 @@
 -- The best of the candidate lines is the line of the definition.
 use Prim.Native.Nat.{ℕ, _<_, _≤_}
-use mathlib.Core.Bool.{true}
+use mathlib.Core.Bool.{true, false}
 use mathlib.Core.Path.{_≡_, sym, ap, _∙_, fun-ext}
 use mathlib.Core.List.{List}
 use mathlib.Core.Option.{some}
@@ -11,16 +11,18 @@ use Rattle.geometry.specs.declared.rect.Line.{Line}
 use Rattle.tree.specs.Lists.{All, keep}
 use Rattle.tree.proofs.Lists.{all-any, all-map}
 use Rattle.polygons.specs.Lists.{least}
+use Rattle.polygons.proofs.Booleans.{not-both}
+use Rattle.tree.proofs.Counted.{none-passes}
 use Rattle.plane.specs.Best.{best}
 use Rattle.plane.specs.Lines.{CellEntry, holdsOn, fits, onBoth, lines, lineOr, nodeLine}
-use Rattle.plane.specs.Candidates.{Extent, extents, extentOn, rank, key, candidates, bestCandidate}
+use Rattle.plane.specs.Candidates.{Extent, extents, extentOn, lineNumber, key, candidates, bestCandidate}
 use Rattle.plane.proofs.Best.{best-some, least-low, scan-best}
-use Rattle.plane.proofs.Kept.{keep-all, all-kept, keep-none, keep-pairs}
+use Rattle.plane.proofs.Kept.{keep-all, all-kept, keep-pairs}
 use Rattle.plane.proofs.Range.{InRange}
 use Rattle.plane.proofs.NodeLine.{Fits, fits-of, of-fits, GridGroups, in-lines, fits-range}
 use Rattle.plane.proofs.Extents.{SomeEach, extents-fit, extents-both}
-use Rattle.plane.proofs.Keys.{best-key, lines-rise, lines-range, rank-bound, rank-one}
-use Rattle.plane.proofs.Lower.{lowered, lowered-rank, lowered-fits, lowered-both, lowered-in}
+use Rattle.plane.proofs.Keys.{best-key, lines-rise, lines-range, number-bound, number-one}
+use Rattle.plane.proofs.Lower.{lowered, lowered-number, lowered-fits, lowered-both, lowered-in}
 
 module _ (fanout : ℕ) (es : List Extent) where
   -- a fitting line of the extents, lowered, is a fitting candidate
@@ -35,7 +37,9 @@ module _ (fanout : ℕ) (es : List Extent) where
     where
       go : Dec (1 ≤ length (keep (fits extentOn fanout es) (candidates es))) → 1 ≤ length (keep (fits extentOn fanout es) (candidates es))
       go (yes n) = n
-      go (no n) = absurd (fit-candidate (λ k. ⊥) l f (keep-none (fits extentOn fanout es) (candidates es) (omega arith)))
+      go (no n) = absurd (fit-candidate (λ k. ⊥) l f
+          (all-map (λ k. fits extentOn fanout es k ≡ false) _ (candidates es) (λ k d e. not-both (fits extentOn fanout es k) e d)
+          (none-passes (fits extentOn fanout es) (candidates es) (omega arith))))
 
   -- some fitting candidate is as good as a fitting line
   least-candidate : (l : Line) → fits extentOn fanout es l ≡ true → least (key es) (keep (fits extentOn fanout es) (candidates es)) ≤ key es l
@@ -43,7 +47,7 @@ module _ (fanout : ℕ) (es : List Extent) where
       let a = fit-candidate (λ k. least (key es) (keep (fits extentOn fanout es) (candidates es)) ≤ key es k) l f
       (all-kept (fits extentOn fanout es) (λ k. least (key es) (keep (fits extentOn fanout es) (candidates es)) ≤ key es k) (candidates es) (least-low (key es) (keep (fits extentOn fanout es) (candidates es)))) in
       let b = lowered-both es l in
-      let c = lowered-rank es l in
+      let c = lowered-number es l in
       omega arith
 
   -- where every line that fits is from 1 to 65535, and some line fits
@@ -56,7 +60,8 @@ module _ (fanout : ℕ) (es : List Extent) where
       where
         go : Dec (1 ≤ length (keep (fits extentOn fanout es) lines)) → 1 ≤ length (keep (fits extentOn fanout es) lines)
         go (yes n) = n
-        go (no n) = absurd (in-lines (λ k. fits extentOn fanout es k ≡ true → ⊥) l₀ (in-range l₀ fits₀) (keep-none (fits extentOn fanout es) lines (omega arith)) fits₀)
+        go (no n) = absurd (not-both (fits extentOn fanout es l₀) fits₀
+            (in-lines (λ k. fits extentOn fanout es k ≡ false) l₀ (in-range l₀ fits₀) (none-passes (fits extentOn fanout es) lines (omega arith))))
 
     -- the best line of the definition is at least as good as any fitting line
     least-line : (l : Line) → fits extentOn fanout es l ≡ true → least (key es) (keep (fits extentOn fanout es) lines) ≤ key es l
@@ -70,18 +75,18 @@ module _ (fanout : ℕ) (es : List Extent) where
         let b = best-some (key es) (λ l. (fits extentOn fanout es l ≡ true) × InRange l) (keep (fits extentOn fanout es) (candidates es)) (some-candidate l₀ fits₀) (all-good (candidates es)) in
         let i = least-line (b .it) (b .has .0) in let j = least-candidate (a .it) (a .has .0) in
         let u = a .least-one in let v = b .least-one in
-        let p = rank-bound (a .it) (a .has .1) in let q = rank-bound (b .it) (b .has .1) in
-        let e : rank (a .it) ≡ rank (b .it) = omega arith in
-        a .found ∙ ap some (rank-one (a .it) (b .it) (a .has .1) (b .has .1) e) ∙ sym (b .found)
+        let p = number-bound (a .it) (a .has .1) in let q = number-bound (b .it) (b .has .1) in
+        let e : lineNumber (a .it) ≡ lineNumber (b .it) = omega arith in
+        a .found ∙ ap some (number-one (a .it) (b .it) (a .has .1) (b .has .1) e) ∙ sym (b .found)
 
-    lines-bound : All (λ l. rank l < 131072) (keep (fits extentOn fanout es) lines)
-    lines-bound = keep-all (fits extentOn fanout es) (λ l. rank l < 131072) lines (all-map InRange (λ l. fits extentOn fanout es l ≡ true → rank l < 131072) lines (λ l r e. rank-bound l r) lines-range)
+    lines-bound : All (λ l. lineNumber l < 131072) (keep (fits extentOn fanout es) lines)
+    lines-bound = keep-all (fits extentOn fanout es) (λ l. lineNumber l < 131072) lines (all-map InRange (λ l. fits extentOn fanout es l ≡ true → lineNumber l < 131072) lines (λ l r e. number-bound l r) lines-range)
 
     -- the loop over the candidates finds the first line with fewest branches on both sides
     best-of-lines : bestCandidate fanout es ≡ lineOr (best (onBoth extentOn es) (keep (fits extentOn fanout es) lines))
     unfolding bestCandidate
     best-of-lines = ap lineOr (scan-best (key es) (fits extentOn fanout es) (candidates es) ∙ sym best-agree
-        ∙ sym (best-key (onBoth extentOn es) rank (keep (fits extentOn fanout es) lines) (keep-pairs (fits extentOn fanout es) (λ a b. rank a < rank b) lines lines-rise) lines-bound))
+        ∙ sym (best-key (onBoth extentOn es) lineNumber (keep (fits extentOn fanout es) lines) (keep-pairs (fits extentOn fanout es) (λ a b. lineNumber a < lineNumber b) lines lines-rise) lines-bound))
 
 -- the line of a routing node is the best candidate of its branches' extents
 pub candidate-line : (fanout : ℕ) (gs : List (List CellEntry)) → SomeEach gs → GridGroups gs → (l : Line) × Fits holdsOn fanout gs l → bestCandidate fanout (extents gs) ≡ nodeLine fanout gs

@@ -5,7 +5,7 @@ use mathlib.Core.Path.{_≡_, refl, sym, _∙_}
 use mathlib.Core.List.{List, [], _∷_, map}
 use lib.ListN.{length}
 use native.Mathlib.Omega.{arith}
-use Rattle.tree.specs.Lists.{keep, All, Pairs, notEmpty}
+use Rattle.tree.specs.Lists.{keep, All, Pairs}
 use Rattle.tree.proofs.Lists.{all-map}
 
 -- those that pass and those that do not are all
@@ -27,16 +27,6 @@ keep-one {A = A} t P (a ∷ l) h n = go (t a) refl n (keep-one t P l (h .1))
     go : (b : Bool) → t a ≡ b → 1 ≤ length (cond b (a ∷ keep t l) (keep t l)) → (1 ≤ length (keep t l) → (a : A) × (t a ≡ true) × P a) → (a : A) × (t a ≡ true) × P a
     go true e n f = (a, e, h .0)
     go false e n f = f n
-
--- where none passes, each fails
-pub keep-none : {A : Type 0} (t : A → Bool) (l : List A) → length (keep t l) ≡ 0 → All (λ a. t a ≡ true → ⊥) l
-unfolding keep All
-keep-none t [] n = tt
-keep-none t (a ∷ l) n = go (t a) refl n (keep-none t l)
-  where
-    go : (b : Bool) → t a ≡ b → length (cond b (a ∷ keep t l) (keep t l)) ≡ 0 → (length (keep t l) ≡ 0 → All (λ x. t x ≡ true → ⊥) l) → (t a ≡ true → ⊥) × All (λ x. t x ≡ true → ⊥) l
-    go true e n f = absurd (omega arith)
-    go false e n f = (λ k. false≢true (sym e ∙ k), f n)
 
 -- those that pass, pass, and have what all have that pass
 pub keep-all : {A : Type 0} (t : A → Bool) (P : A → Type 0) (l : List A) → All (λ a. t a ≡ true → P a) l → All P (keep t l)
@@ -87,23 +77,3 @@ keep-pairs t R (a ∷ l) h = go (t a) (keep-pairs t R l (h .1))
     go : (b : Bool) → Pairs R (keep t l) → Pairs R (cond b (a ∷ keep t l) (keep t l))
     go true f = (keep-all t (R a) l (all-map (R a) (λ x. t x ≡ true → R a x) l (λ x r e. r) (h .0)), f)
     go false f = f
-
--- a list that is not empty has an element
-pub some-one : {A : Type 0} (l : List A) → notEmpty l ≡ true → 1 ≤ length l
-some-one [] h = absurd (false≢true h)
-some-one (a ∷ l) h = omega arith
-
-pub all-head : {A : Type 0} (P : A → Type 0) (a : A) (l : List A) → All P (a ∷ l) → P a
-unfolding All
-all-head P a l h = h .0
-
--- what holds of the images holds of the elements
-pub map-all : {A C : Type 0} (P : C → Type 0) (f : A → C) (l : List A) → All P (map f l) → All (λ a. P (f a)) l
-unfolding All
-map-all P f [] h = tt
-map-all P f (a ∷ l) h = (h .0, map-all P f l (h .1))
-
-pub all-map-of : {A C : Type 0} (P : C → Type 0) (f : A → C) (l : List A) → All (λ a. P (f a)) l → All P (map f l)
-unfolding All
-all-map-of P f [] h = tt
-all-map-of P f (a ∷ l) h = (h .0, all-map-of P f l (h .1))

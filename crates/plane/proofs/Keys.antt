@@ -9,12 +9,11 @@ use borrow.Author.Tests.{le-leb, lt-leb}
 use Rattle.geometry.specs.declared.rect.Line.{Line}
 use Rattle.geometry.specs.declared.rect.Line.the-variants.{AtX, AtY}
 use Rattle.tree.specs.Lists.{All, Pairs}
-use Rattle.tree.proofs.Lists.{all-append, all-both, pairs-append, pairs-map}
+use Rattle.tree.proofs.Lists.{all-append, all-both, pairs-append, pairs-map, all-of-map}
 use Rattle.plane.specs.Best.{best, upFrom}
 use Rattle.plane.specs.Lines.{lines}
-use Rattle.plane.specs.Candidates.{rank}
+use Rattle.plane.specs.Candidates.{lineNumber}
 use Rattle.plane.proofs.Best.{combine, fold, fold-some, best-fold}
-use Rattle.plane.proofs.Kept.{all-map-of}
 use Rattle.plane.proofs.Range.{InRange}
 
 leb-key : (a b g h : ℕ) → g < h → h < 131072 → leb a b ≡ leb (a * 131072 + g) (b * 131072 + h)
@@ -52,39 +51,39 @@ up-pairs k (suc n) = (up-all (λ j. k < j) (suc k) n (λ i a b. omega arith), up
 map-pairs : {A B : Type 0} (R : B → B → Type 0) (f : A → B) (l : List A) → Pairs (λ a b. R (f a) (f b)) l → Pairs R (map f l)
 unfolding Pairs
 map-pairs R f [] h = tt
-map-pairs R f (a ∷ l) h = (all-map-of (R (f a)) f l (h .0), map-pairs R f l (h .1))
+map-pairs R f (a ∷ l) h = (all-of-map (R (f a)) f l (h .0), map-pairs R f l (h .1))
 
 y-pairs : (l : List ℕ) → Pairs (λ i j. i < j) l → Pairs (λ i j. 65536 + i < 65536 + j) l
 y-pairs l h = pairs-map (λ i j. i < j) (λ i j. 65536 + i < 65536 + j) l (λ i j r. omega arith) h
 
-lines-to : (n : ℕ) → n ≤ 65535 → Pairs (λ a b. rank a < rank b) (map AtX (upFrom 1 n) ++ map AtY (upFrom 1 n))
-lines-to n h = pairs-append (λ a b. rank a < rank b) (map AtX (upFrom 1 n)) (map AtY (upFrom 1 n))
-    (map-pairs (λ a b. rank a < rank b) AtX (upFrom 1 n) (up-pairs 1 n))
-    (map-pairs (λ a b. rank a < rank b) AtY (upFrom 1 n) (y-pairs (upFrom 1 n) (up-pairs 1 n)))
-    (all-map-of (λ a. All (λ b. rank a < rank b) (map AtY (upFrom 1 n))) AtX (upFrom 1 n) (up-all _ 1 n (λ i a b. all-map-of (λ c. i < rank c) AtY (upFrom 1 n) (up-all _ 1 n (λ j c d. omega arith)))))
+lines-to : (n : ℕ) → n ≤ 65535 → Pairs (λ a b. lineNumber a < lineNumber b) (map AtX (upFrom 1 n) ++ map AtY (upFrom 1 n))
+lines-to n h = pairs-append (λ a b. lineNumber a < lineNumber b) (map AtX (upFrom 1 n)) (map AtY (upFrom 1 n))
+    (map-pairs (λ a b. lineNumber a < lineNumber b) AtX (upFrom 1 n) (up-pairs 1 n))
+    (map-pairs (λ a b. lineNumber a < lineNumber b) AtY (upFrom 1 n) (y-pairs (upFrom 1 n) (up-pairs 1 n)))
+    (all-of-map (λ a. All (λ b. lineNumber a < lineNumber b) (map AtY (upFrom 1 n))) AtX (upFrom 1 n) (up-all _ 1 n (λ i a b. all-of-map (λ c. i < lineNumber c) AtY (upFrom 1 n) (up-all _ 1 n (λ j c d. omega arith)))))
 
--- the lines of the definition rise in rank
-pub lines-rise : Pairs (λ a b. rank a < rank b) lines
+-- the lines of the definition rise in lineNumber
+pub lines-rise : Pairs (λ a b. lineNumber a < lineNumber b) lines
 unfolding lines
 lines-rise = lines-to 65535 (omega arith)
 
 range-to : (n : ℕ) → n ≤ 65535 → All InRange (map AtX (upFrom 1 n) ++ map AtY (upFrom 1 n))
 range-to n h = all-append InRange (map AtX (upFrom 1 n)) (map AtY (upFrom 1 n))
-    (all-map-of InRange AtX (upFrom 1 n) (up-all _ 1 n (λ i a b. (a, omega arith))))
-    (all-map-of InRange AtY (upFrom 1 n) (up-all _ 1 n (λ i a b. (a, omega arith))))
+    (all-of-map InRange AtX (upFrom 1 n) (up-all _ 1 n (λ i a b. (a, omega arith))))
+    (all-of-map InRange AtY (upFrom 1 n) (up-all _ 1 n (λ i a b. (a, omega arith))))
 
 -- and are from 1 to 65535
 pub lines-range : All InRange lines
 unfolding lines
 lines-range = range-to 65535 (omega arith)
 
--- lines from 1 to 65535 have ranks below 131072, and lines of one rank are equal
-pub rank-bound : (l : Line) → InRange l → rank l < 131072
-rank-bound (AtX l) r = let a = r .1 in omega arith
-rank-bound (AtY l) r = let a = r .1 in omega arith
+-- lines from 1 to 65535 have ranks below 131072, and lines of one lineNumber are equal
+pub number-bound : (l : Line) → InRange l → lineNumber l < 131072
+number-bound (AtX l) r = let a = r .1 in omega arith
+number-bound (AtY l) r = let a = r .1 in omega arith
 
-pub rank-one : (l m : Line) → InRange l → InRange m → rank l ≡ rank m → l ≡ m
-rank-one (AtX l) (AtX m) r s e = ap AtX e
-rank-one (AtX l) (AtY m) r s e = let a = r .1 in absurd (omega arith)
-rank-one (AtY l) (AtX m) r s e = let a = s .1 in absurd (omega arith)
-rank-one (AtY l) (AtY m) r s e = let k : l ≡ m = omega arith in ap AtY k
+pub number-one : (l m : Line) → InRange l → InRange m → lineNumber l ≡ lineNumber m → l ≡ m
+number-one (AtX l) (AtX m) r s e = ap AtX e
+number-one (AtX l) (AtY m) r s e = let a = r .1 in absurd (omega arith)
+number-one (AtY l) (AtX m) r s e = let a = s .1 in absurd (omega arith)
+number-one (AtY l) (AtY m) r s e = let k : l ≡ m = omega arith in ap AtY k

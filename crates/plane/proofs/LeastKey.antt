@@ -2,7 +2,7 @@
 use Prim.Native.Nat.{ℕ, _+_, _*_, _-_, _%_, _<_, _≤_, min}
 use mathlib.Core.Bool.{Bool, true, false, cond, _&&_}
 use mathlib.Core.Path.{_≡_, refl, sym, ap, _∙_, subst}
-use mathlib.Core.List.{List, [], _∷_, flatMap}
+use mathlib.Core.List.{List, [], _∷_}
 use mathlib.Core.Option.{Option, none, some}
 use lib.ListN.{length, length-map}
 use lib.Dec.{ltb}
@@ -15,12 +15,12 @@ use Rattle.tree.specs.Space.{left, right}
 use Rattle.tree.proofs.Lists.{all-any}
 use Rattle.plane.specs.Best.{scan, better}
 use Rattle.plane.specs.Lines.{CellEntry, holdsOn, fits, onBoth, lineOr, nodeLine}
-use Rattle.plane.specs.Candidates.{Extent, extentOf, extents, extentOn, rank, key, candidates, bestCandidate, tried, leastKey, rankLine, keyLine}
+use Rattle.plane.specs.Candidates.{Extent, extentOf, extents, extentOn, lineNumber, key, candidates, bestCandidate, tried, leastKey, numberedLine, keyLine}
 use Rattle.plane.proofs.Kept.{keep-sides}
 use Rattle.plane.proofs.Range.{InRange}
 use Rattle.plane.proofs.NodeLine.{Fits, fits-of, GridGroups, fits-range, node-range}
 use Rattle.plane.proofs.Extents.{SomeEach, extents-fit}
-use Rattle.plane.proofs.Keys.{rank-bound}
+use Rattle.plane.proofs.Keys.{number-bound}
 use Rattle.plane.proofs.Candidates.{candidate-line}
 
 -- the key of what was found, k where nothing was
@@ -50,18 +50,13 @@ module _ (fanout : ℕ) (es : List Extent) (k : ℕ) where
   scan-key (l ∷ ls) o h = scan-key ls _ (h .1) ∙ ap (λ (m : ℕ). leastKey fanout es m ls) (key-tried o l (h .0))
 
 -- a line is read off its key
-pub key-line : (n : ℕ) (l : Line) → InRange l → keyLine (n * 131072 + rank l) ≡ l
-unfolding keyLine rankLine
+pub key-line : (n : ℕ) (l : Line) → InRange l → keyLine (n * 131072 + lineNumber l) ≡ l
+unfolding keyLine numberedLine
 key-line n (AtX l) r = let a = r .1 in let e : (n * 131072 + l) % 131072 ≡ l = omega arith in rw (e, lt-ltb l 65536 (omega arith))
 key-line n (AtY l) r =
     let a = r .1 in let e : (n * 131072 + (65536 + l)) % 131072 ≡ 65536 + l = omega arith in
     let m : 65536 + l - 65536 ≡ l = omega arith in
-    ap rankLine e ∙ rw (le-ltb (65536 + l) 65536 (omega arith)) (ap AtY m)
-
--- the candidates of one branch more
-pub candidates-step : (e : Extent) (es : List Extent) → candidates (e ∷ es) ≡ AtX (e .minX + 1) ∷ AtX (e .maxX + 1) ∷ AtY (e .minY + 1) ∷ AtY (e .maxY + 1) ∷ candidates es
-unfolding candidates flatMap
-candidates-step e es = refl
+    ap numberedLine e ∙ rw (le-ltb (65536 + l) 65536 (omega arith)) (ap AtY m)
 
 -- no more branches on both sides than branches
 both-most : (es : List Extent) (l : Line) → onBoth extentOn es l ≤ length es
@@ -71,7 +66,7 @@ module _ (fanout : ℕ) (gs : List (List CellEntry)) (some-each : SomeEach gs) (
   -- the key of a fitting line
   pub key-bound : (l : Line) → fits extentOn fanout (extents gs) l ≡ true → key (extents gs) l < (length gs + 1) * 131072
   key-bound l f =
-      let r = rank-bound l (fits-range fanout gs grid l (fits-of holdsOn fanout gs l (extents-fit gs some-each fanout l ∙ f))) in
+      let r = number-bound l (fits-range fanout gs grid l (fits-of holdsOn fanout gs l (extents-fit gs some-each fanout l ∙ f))) in
       let b = both-most (extents gs) l in
       let n = length-map gs extentOf in
       omega arith

@@ -14,7 +14,7 @@ use Rattle.tree.specs.Lists.{All, keep}
 use Rattle.tree.specs.Space.{left, right}
 use Rattle.tree.proofs.Lists.{all-map, all-any}
 use Rattle.plane.specs.Lines.{fits, onBoth}
-use Rattle.plane.specs.Candidates.{Extent, extentOn, rank, candidates}
+use Rattle.plane.specs.Candidates.{Extent, extentOn, lineNumber, candidates}
 use Rattle.plane.proofs.Kept.{keep-one, keep-agree}
 
 -- the greatest of the numbers that are at most l; 0 where none is
@@ -94,10 +94,10 @@ unfoldable pub lowered : List Extent → Line → Line
 lowered es (AtX l) = AtX (lower l (behind (λ e. e .minX) (λ e. e .maxX) es))
 lowered es (AtY l) = AtY (lower l (behind (λ e. e .minY) (λ e. e .maxY) es))
 
-pub lowered-rank : (es : List Extent) (l : Line) → rank (lowered es l) ≤ rank l
+pub lowered-number : (es : List Extent) (l : Line) → lineNumber (lowered es l) ≤ lineNumber l
 unfolding lowered
-lowered-rank es (AtX l) = lower-le l (behind (λ e. e .minX) (λ e. e .maxX) es)
-lowered-rank es (AtY l) = let k = lower-le l (behind (λ e. e .minY) (λ e. e .maxY) es) in omega arith
+lowered-number es (AtX l) = lower-le l (behind (λ e. e .minX) (λ e. e .maxX) es)
+lowered-number es (AtY l) = let k = lower-le l (behind (λ e. e .minY) (λ e. e .maxY) es) in omega arith
 
 abbrev Same : Line → Line → Extent → Type 0
 Same l m e = (extentOn (left l) e ≡ extentOn (left m) e) × (extentOn (right l) e ≡ extentOn (right m) e)

@@ -1,6 +1,6 @@
 -- Where some line fits a routing node, the chosen one does.
 use Prim.Native.Nat.{ℕ, zero, suc, _+_, _<_, _≤_}
-use mathlib.Core.Bool.{Bool, true, not}
+use mathlib.Core.Bool.{Bool, true, not, false}
 use mathlib.Core.Path.{_≡_, subst}
 use mathlib.Core.List.{List, map}
 use lib.ListN.{length}
@@ -8,18 +8,19 @@ use lib.Dec.{leb}
 use native.Mathlib.Omega.{arith}
 use native.Mathlib.Decide.{decLe, ℕ-discrete}
 use borrow.Author.Tests.{le-leb, leb-true}
+use Rattle.polygons.proofs.Booleans.{split-and, not-both}
 use Rattle.geometry.specs.declared.rect.Line.{Line}
 use Rattle.geometry.specs.declared.rect.Line.the-variants.{AtX, AtY}
 use Rattle.geometry.specs.Cells.{onGrid}
 use Rattle.geometry.specs.Clip.{below}
-use Rattle.geometry.proofs.Booleans.{split-and}
 use Rattle.tree.specs.Lists.{All, keep, notEmpty}
 use Rattle.tree.specs.Space.{Side, left, right}
-use Rattle.tree.proofs.Lists.{all-first, all-second, all-any}
+use Rattle.tree.proofs.Lists.{all-first, all-second, all-any, notEmpty-length, map-all}
+use Rattle.tree.proofs.Counted.{none-passes}
 use Rattle.plane.specs.Best.{upFrom}
 use Rattle.plane.specs.Lines.{CellEntry, holdsOn, fitsIn, fits, onBoth, lines, noLine, nodeLine}
 use Rattle.plane.proofs.Best.{best-some}
-use Rattle.plane.proofs.Kept.{keep-one, keep-none, keep-all, some-one, map-all}
+use Rattle.plane.proofs.Kept.{keep-one, keep-all}
 use Rattle.plane.proofs.Range.{InRange, between}
 
 -- The line fits: `fits` as facts that omega reads.
@@ -65,7 +66,7 @@ GridGroups gs = All (λ g. All (λ e. onGrid (e .cell) ≡ true) g) gs
 some-entry : (t : CellEntry → Bool) (gs : List (List CellEntry)) → GridGroups gs → 1 ≤ length (keep (λ g. notEmpty (keep t g)) gs) → (e : CellEntry) × (t e ≡ true) × (onGrid (e .cell) ≡ true)
 some-entry t gs re n =
     let g = keep-one (λ g. notEmpty (keep t g)) (λ g. All (λ e. onGrid (e .cell) ≡ true) g) gs re n in
-    keep-one t (λ e. onGrid (e .cell) ≡ true) (g .0) (g .2) (some-one (keep t (g .0)) (g .1))
+    keep-one t (λ e. onGrid (e .cell) ≡ true) (g .0) (g .2) (notEmpty-length (keep t (g .0)) (g .1))
 
 module _ (fanout : ℕ) (gs : List (List CellEntry)) (grid : GridGroups gs) where
   -- a line that fits is from 1 to 65535
@@ -84,7 +85,8 @@ module _ (fanout : ℕ) (gs : List (List CellEntry)) (grid : GridGroups gs) wher
         go (yes n) = n
         go (no n) =
             let l = some-fits .0 in let f = some-fits .1 in
-            absurd (in-lines (λ k. fits holdsOn fanout gs k ≡ true → ⊥) l (fits-range l f) (keep-none (fits holdsOn fanout gs) lines (omega arith)) (of-fits holdsOn fanout gs l f))
+            let none = in-lines (λ k. fits holdsOn fanout gs k ≡ false) l (fits-range l f) (none-passes (fits holdsOn fanout gs) lines (omega arith)) in
+            absurd (not-both (fits holdsOn fanout gs l) (of-fits holdsOn fanout gs l f) none)
 
     -- and so does the chosen one
     pub node-fits : Fits holdsOn fanout gs (nodeLine fanout gs)

@@ -8,6 +8,7 @@ use lib.ListN.{length, getD}
 use native.Mathlib.Omega.{arith}
 use borrow.Author.Tests.{eqb-true, eq-eqb}
 use Rattle.polygons.specs.Lists.{any}
+use Rattle.polygons.proofs.Booleans.{both, split-and}
 use Rattle.geometry.specs.declared.rect.Cell.{Cell}
 use Rattle.geometry.specs.declared.rect.Rect.{Rect}
 use Rattle.geometry.specs.declared.rect.Line.{Line}
@@ -16,7 +17,6 @@ use Rattle.geometry.specs.Common.{overlap, common}
 use Rattle.geometry.specs.Grow.{grown}
 use Rattle.geometry.specs.Refine.{refine}
 use Rattle.geometry.specs.Clip.{onSide, clipRect, sidePart, clip}
-use Rattle.geometry.proofs.Booleans.{both, split-and}
 use Rattle.geometry.proofs.CellLaws.{valid-of, valid-unless-empty, length-unless-empty, has-unless-empty, within-cells, valid-grid}
 use Rattle.geometry.proofs.CommonLaws.{common-cells}
 use Rattle.geometry.proofs.GrowLaws.{grow-has, grow-contains}
@@ -75,7 +75,8 @@ common-all-valid : (r s : Rect) → valid s ≡ true → All (λ q. valid q ≡ 
 unfolding common overlap
 common-all-valid r s e = let v = valid-of s e in all-valid _ (valid-unless-empty (overlap r s) (omega arith) (omega arith))
 
-same-cell : (c d : Cell) → eqb (c .x) (d .x) && eqb (c .y) (d .y) ≡ true → c ≡ d
+-- cells of equal coordinates are equal
+pub same-cell : (c d : Cell) → eqb (c .x) (d .x) && eqb (c .y) (d .y) ≡ true → c ≡ d
 same-cell c d h =
     let k = split-and (eqb (c .x) (d .x)) (eqb (c .y) (d .y)) h in
     let a = eqb-true (c .x) (d .x) (k .0) in let b = eqb-true (c .y) (d .y) (k .1) in

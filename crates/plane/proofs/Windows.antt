@@ -6,11 +6,11 @@ use mathlib.Core.List.{List, [], _∷_}
 use mathlib.Core.Logic.{⊎-elim}
 use native.Mathlib.Omega.{arith}
 use Rattle.polygons.specs.Lists.{any}
+use Rattle.polygons.proofs.Booleans.{either, or-left, or-right, both}
 use Rattle.geometry.specs.declared.rect.Cell.{Cell}
 use Rattle.geometry.specs.declared.rect.Rect.{Rect}
 use Rattle.geometry.specs.Cells.{hasCell, nonEmpty}
 use Rattle.geometry.specs.Common.{overlap, sharesWith, unlessEmpty, common}
-use Rattle.geometry.proofs.Booleans.{either, or-left, or-right, both}
 use Rattle.geometry.proofs.CellLaws.{in-of, of-some, corner}
 use Rattle.geometry.proofs.CommonLaws.{overlap-cells, common-some}
 use Rattle.tree.specs.Lists.{notEmpty}

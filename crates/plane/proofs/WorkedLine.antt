@@ -10,7 +10,7 @@ use Rattle.tree.specs.Lists.{keep, All}
 use Rattle.polygons.specs.Lists.{least}
 use Rattle.plane.specs.Best.{greatest, scan}
 use Rattle.plane.specs.Lines.{CellEntry, holdsOn, nodeLine}
-use Rattle.plane.specs.Candidates.{extentOf, extents, candidates, bestCandidate, tried, leastKey, rankLine, keyLine}
+use Rattle.plane.specs.Candidates.{extentOf, extents, candidates, bestCandidate, tried, leastKey, numberedLine, keyLine}
 use Rattle.plane.proofs.NodeLine.{GridGroups, Fits}
 use Rattle.plane.proofs.Extents.{SomeEach}
 use Rattle.plane.proofs.Candidates.{candidate-line}
@@ -45,5 +45,5 @@ rows-line = sym (candidate-line 8 rows rows-some rows-grid (AtY 1, rows-fit)) �
 
 -- and the least key gives it too
 pub rows-key : keyLine (leastKey 8 (extents rows) 4294967295 (candidates (extents rows))) ≡ AtY 1
-unfolding candidates flatMap leastKey tried keyLine rankLine keep extentOf least greatest
+unfolding candidates flatMap leastKey tried keyLine numberedLine keep extentOf least greatest
 rows-key = refl

@@ -43,13 +43,13 @@ extentOn (right (AtX l)) e = leb l (e .maxX)
 extentOn (right (AtY l)) e = leb l (e .maxY)
 
 -- 'ties to x, then smaller l': the place of a line in that order
-abbrev pub rank : Line → ℕ
-rank (AtX l) = l
-rank (AtY l) = 65536 + l
+abbrev pub lineNumber : Line → ℕ
+lineNumber (AtX l) = l
+lineNumber (AtY l) = 65536 + l
 
 -- the number by which lines compare: branches on both sides first, then the order of lines
 abbrev pub key : List Extent → Line → ℕ
-key es l = onBoth extentOn es l * 131072 + rank l
+key es l = onBoth extentOn es l * 131072 + lineNumber l
 
 -- the lines just behind the extremes of each branch
 unfoldable pub candidates : List Extent → List Line
@@ -69,10 +69,10 @@ unfoldable pub leastKey : ℕ → List Extent → ℕ → List Line → ℕ
 leastKey fanout es k [] = k
 leastKey fanout es k (l ∷ ls) = leastKey fanout es (tried fanout es k l) ls
 
--- the line of a rank
-unfoldable pub rankLine : ℕ → Line
-rankLine r = cond (ltb r 65536) (AtX r) (AtY (r - 65536))
+-- the line of a number
+unfoldable pub numberedLine : ℕ → Line
+numberedLine r = cond (ltb r 65536) (AtX r) (AtY (r - 65536))
 
 -- the line of a key
 unfoldable pub keyLine : ℕ → Line
-keyLine k = rankLine (k % 131072)
+keyLine k = numberedLine (k % 131072)

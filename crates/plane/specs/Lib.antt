@@ -3,3 +3,4 @@ pub mod Lines
 pub mod Candidates
 pub mod Plane
 pub mod Windows
+pub mod Fanout

@@ -1,22 +1,40 @@
 -- Document 01, 'Insertion', step 4: the line at which a node is split.
 -- docs/RULES.md 4.18 to 4.21
 use Prim.Native.Nat.{ℕ, _+_, _*_, _-_, _/_}
-use mathlib.Core.Bool.{Bool, _&&_, not, cond}
+use mathlib.Core.Bool.{Bool, _&&_, not, cond, true}
 use mathlib.Core.List.{List, _++_, map}
 use mathlib.Core.Option.{Option, none, some}
 use lib.ListN.{length}
 use lib.Dec.{leb}
+use mathlib.Core.Path.{_≡_}
 use Rattle.geometry.specs.declared.rect.Cell.{Cell}
 use Rattle.geometry.specs.declared.rect.Line.{Line}
 use Rattle.geometry.specs.declared.rect.Line.the-variants.{AtX, AtY}
 use Rattle.geometry.specs.Clip.{below}
-use Rattle.tree.specs.Lists.{keep, total, notEmpty}
+use Rattle.geometry.specs.Cells.{onGrid}
+use Rattle.tree.specs.Lists.{keep, total, notEmpty, All}
 use Rattle.tree.specs.Space.{Side, left, right, Entry}
 use Rattle.plane.specs.Best.{best, upFrom}
 
 -- 'an entry being a cell and a tag'
 abbrev pub CellEntry : Type 0
 CellEntry = Entry Cell
+
+-- what an entry carries besides its cell: its tag
+abbrev pub Payload : Type 0
+Payload = ℕ
+
+-- one of them, where it does not matter which
+abbrev pub somePayload : Payload
+somePayload = 0
+
+-- an entry by its cell and what it carries
+abbrev pub entryOf : Cell → Payload → CellEntry
+entryOf c t = record { cell = c; tag = t }
+
+-- every cell of some entries is on the grid
+abbrev pub OnGrid : List CellEntry → Type 0
+OnGrid es = All (λ e. onGrid (e .cell) ≡ true) es
 
 -- 'v: coordinate': an entry's x
 abbrev pub xOf : CellEntry → ℕ

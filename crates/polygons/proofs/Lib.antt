@@ -1,3 +1,5 @@
+pub mod Booleans
+pub mod ListLaws
 pub mod LimitLaws
 pub mod LeastLaws
 pub mod PlaceLaws

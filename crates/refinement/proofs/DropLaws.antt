@@ -1,6 +1,6 @@
 -- Contained rectangles can be dropped in any order: refine gives the same list.
 use mathlib.Core.Path.{_≡_, refl, sym, _∙_, ap}
-use mathlib.Core.Bool.{Bool, true, false, _||_, or-assoc}
+use mathlib.Core.Bool.{Bool, true, false, _||_}
 use mathlib.Core.List.{List, [], _∷_, _++_}
 use mathlib.Core.Logic.{_⊎_, inl, inr, ⊎-elim}
 use Prim.Native.Nat.{ℕ, zero, suc, _+_, _-_, _≤_, _<_}
@@ -12,18 +12,14 @@ use lib.Dec.{ltb}
 use lib.ListN.{length, take, drop, getD, length-drop, List·getD-append}
 use lib.Seq.{split-at, ext-getD, getD-take, getD-drop, getD-append-add, length-take-le, take-append-le, drop-append-le, take-take}
 use Rattle.polygons.specs.Lists.{any}
+use Rattle.polygons.proofs.Booleans.{is-false, not-both, either, neither, split-and, all4}
+use Rattle.polygons.proofs.ListLaws.{any-append}
 use Rattle.geometry.specs.declared.rect.Rect.{Rect}
 use Rattle.geometry.specs.Cells.{noRect}
 use Rattle.geometry.specs.Refine.{within, strictlyWithin, contained, firstContained, dropped, refineStep, refineSteps, refine}
-use Rattle.geometry.proofs.Booleans.{is-false, not-both, either, neither, split-and, all4}
 use Rattle.geometry.proofs.RefineLaws.{length-dropped, contained-found, shorter}
 use Rattle.refinement.specs.Search.{placeWithout}
 use Rattle.refinement.proofs.FirstLaws.{first-before, first-is, in-earlier, in-later}
-
-any-append : (p : Rect → Bool) (l m : List Rect) → any p (l ++ m) ≡ any p l || any p m
-unfolding any
-any-append p [] m = refl
-any-append p (r ∷ l) m = rw (any-append p l m, or-assoc)
 
 any-without : (p : Rect → Bool) (l m : List Rect) (r : Rect) → any p (l ++ (r ∷ m)) ≡ false → any p (l ++ m) ≡ false
 unfolding any

@@ -9,10 +9,10 @@ use borrow.Author.Tests.{ltb-true, ltb-false, lt-ltb}
 use lib.ListN.{length, take, drop, getD, length-drop}
 use lib.Seq.{getD-take, getD-drop, length-take-le}
 use Rattle.polygons.specs.Lists.{any}
+use Rattle.polygons.proofs.Booleans.{is-false, not-both, or-left, or-right}
 use Rattle.geometry.specs.declared.rect.Rect.{Rect}
 use Rattle.geometry.specs.Cells.{noRect}
 use Rattle.geometry.specs.Refine.{firstFrom, within, strictlyWithin, contained, firstContained, joins, partner, hasPartner, firstJoin}
-use Rattle.geometry.proofs.Booleans.{is-false, not-both, or-left, or-right}
 use Rattle.geometry.proofs.RefineLaws.{first-low, first-passes, pair}
 
 -- no number before the first that passes does

@@ -10,10 +10,10 @@ use borrow.Author.Tests.{ltb-true, lt-ltb}
 use lib.Dec.{ltb}
 use lib.ListN.{length, getD, set, length-set}
 use lib.Seq.{getD-set-other}
+use Rattle.polygons.proofs.Booleans.{is-false, not-both, neither}
 use Rattle.geometry.specs.declared.rect.Rect.{Rect}
 use Rattle.geometry.specs.Cells.{noRect}
 use Rattle.geometry.specs.Refine.{within, contained, firstContained, dropped, joinable, union, joins, partner, firstJoin, joined, refineStep, refine}
-use Rattle.geometry.proofs.Booleans.{is-false, not-both, neither}
 use Rattle.geometry.proofs.RefineLaws.{length-dropped, length-joined, join-found, contained-found, stays}
 use Rattle.refinement.specs.Pairs.{nested, near, Apart, Clear, OthersApart}
 use Rattle.refinement.proofs.FirstLaws.{contained-none, partner-is, first-join-is}

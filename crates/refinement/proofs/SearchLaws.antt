@@ -10,10 +10,10 @@ use borrow.Author.Tests.{leb-true, le-leb, eqb-true, eqb-false, eq-eqb, ne-eqb}
 use lib.Dec.{leb, eqb}
 use lib.ListN.{length, getD, set, length-set}
 use lib.Seq.{getD-set-same, getD-set-other}
+use Rattle.polygons.proofs.Booleans.{is-false, not-both, either, or-left, or-right, split-and, all4}
 use Rattle.geometry.specs.declared.rect.Rect.{Rect}
 use Rattle.geometry.specs.Cells.{noRect}
 use Rattle.geometry.specs.Refine.{firstFrom, within, contained, firstContained, dropped, stacked, abreast, joinable, union, joins, partner, hasPartner, firstJoin, joined}
-use Rattle.geometry.proofs.Booleans.{is-false, not-both, either, or-left, or-right, split-and, all4}
 use Rattle.geometry.proofs.RefineLaws.{first-passes, length-dropped, length-joined, Pair, join-found, contained-found}
 use Rattle.refinement.specs.Search.{inUnion, joinsUnion, unionPartner, placeWithout, OnlyContainer, AfterJoin, UnjoinedBefore, NextPair}
 use Rattle.refinement.proofs.FirstLaws.{first-before, first-same, in-earlier, in-later, contained-none, uncontained, unpaired, no-partner, partner-is, first-join-is}

@@ -11,34 +11,33 @@ use Rattle.tree.specs.Lists.{total}
 use Rattle.tree.specs.Nodes.{Item, nodes}
 use Rattle.tree.specs.Split.{branchIf}
 use Rattle.tree.specs.Remove.{prune, without}
-use Rattle.plane.specs.Plane.{planeSpace}
 use Rattle.memory.specs.Layout.{partsOf, part, inUse, bitsSet, othersZero, itemCount, nodeFits}
 use Rattle.memory.specs.Reading.{readNode}
 use Rattle.memory.proofs.ReadingLaws.{fits-as, of-fits}
-use Rattle.memory.specs.Fanout.{fanout}
+use Rattle.plane.specs.Fanout.{fanout, indexSpace}
 use Rattle.layout.specs.Beside.{Beside}
 use Rattle.layout.specs.Gap.{ItemDropped}
-use Rattle.removal.specs.Below.{nodeLeft, RemovedBelow}
+use Rattle.removal.specs.Below.{nodeRemaining, RemovedBelow}
 
-branch-if : (n : ℕ) (b : Item (planeSpace fanout) (suc n)) (l : List (Item (planeSpace fanout) n)) → 1 ≤ length l
-    → branchIf (planeSpace fanout) (b .poly) l ≡ record { poly = b .poly; child = l } ∷ []
+branch-if : (n : ℕ) (b : Item indexSpace (suc n)) (l : List (Item indexSpace n)) → 1 ≤ length l
+    → branchIf indexSpace (b .poly) l ≡ record { poly = b .poly; child = l } ∷ []
 branch-if n b [] h = absurd (omega arith)
 branch-if n b (x ∷ l) h = refl
 
-module _ (n : ℕ) (m : List ℕ) (lo k : ℕ) (c : Cell) (m′ : List ℕ) (b : Item (planeSpace fanout) (suc n)) (before : readNode fanout n m lo k ≡ some b)
+module _ (n : ℕ) (m : List ℕ) (lo k : ℕ) (c : Cell) (m′ : List ℕ) (b : Item indexSpace (suc n)) (before : readNode fanout n m lo k ≡ some b)
     (unused : othersZero m′ (partsOf m′) ≡ true) (beside : Beside m lo k m′) where
   -- the node is left with the items l
-  pub removed-left : (l : List (Item (planeSpace fanout) n)) → without (planeSpace fanout) n c (b .child) ≡ l → 1 ≤ length l
+  pub removed-remaining : (l : List (Item indexSpace n)) → without indexSpace n c (b .child) ≡ l → 1 ≤ length l
       → readNode fanout n m′ lo k ≡ some (record { poly = b .poly; child = l })
-      → bitsSet m′ + total (nodes (planeSpace fanout) n) (b .child) ≡ bitsSet m + total (nodes (planeSpace fanout) n) l
+      → bitsSet m′ + total (nodes indexSpace n) (b .child) ≡ bitsSet m + total (nodes indexSpace n) l
       → RemovedBelow n m lo k c m′ true
   unfolding prune nodes total
-  removed-left l w h r t =
-      let e : nodeLeft n c b ≡ record { poly = b .poly; child = l } ∷ [] = ap (branchIf (planeSpace fanout) (b .poly)) w ∙ branch-if n b l h in
+  removed-remaining l w h r t =
+      let e : nodeRemaining n c b ≡ record { poly = b .poly; child = l } ∷ [] = ap (branchIf indexSpace (b .poly)) w ∙ branch-if n b l h in
       record {
         node = b;
         before = before;
-        left-is = rw e;
+        remaining-is = rw e;
         after = λ d q. r ∙ ap head? (sym e ∙ q);
         bits = rw e (omega arith);
         unused = unused;
@@ -46,16 +45,16 @@ module _ (n : ℕ) (m : List ℕ) (lo k : ℕ) (c : Cell) (m′ : List ℕ) (b :
       }
 
   -- nothing is left of the node
-  pub removed-gone : without (planeSpace fanout) n c (b .child) ≡ [] → bitsSet m′ + (1 + total (nodes (planeSpace fanout) n) (b .child)) ≡ bitsSet m
+  pub removed-gone : without indexSpace n c (b .child) ≡ [] → bitsSet m′ + (1 + total (nodes indexSpace n) (b .child)) ≡ bitsSet m
       → RemovedBelow n m lo k c m′ false
   unfolding prune nodes total
   removed-gone w t =
-      let e : nodeLeft n c b ≡ [] = ap (branchIf (planeSpace fanout) (b .poly)) w in
+      let e : nodeRemaining n c b ≡ [] = ap (branchIf indexSpace (b .poly)) w in
       record {
         node = b;
         before = before;
-        left-is = rw e;
-        after = λ d q. let z : _≡_ {A = ℕ} 0 1 = (let u : _≡_ {A = List (Item (planeSpace fanout) (suc n))} [] (d ∷ []) = sym e ∙ q in cc) in absurd (omega arith);
+        remaining-is = rw e;
+        after = λ d q. let z : _≡_ {A = ℕ} 0 1 = (let u : _≡_ {A = List (Item indexSpace (suc n))} [] (d ∷ []) = sym e ∙ q in cc) in absurd (omega arith);
         bits = rw e (omega arith);
         unused = unused;
         beside = beside;

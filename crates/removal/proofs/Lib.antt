@@ -1,10 +1,11 @@
-pub mod TakeWays
+pub mod ClearReturns
+pub mod TakeReturns
 pub mod PlaceLoops
 pub mod TreeLaws
 pub mod BelowLaws
 pub mod LeafRemoved
 pub mod NodeRemoved
-pub mod BelowWays
+pub mod BelowReturns
 pub mod ZeroMemory
 pub mod TreeRemoved
-pub mod RemoveWays
+pub mod RemoveReturns

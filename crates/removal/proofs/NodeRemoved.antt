@@ -9,19 +9,19 @@ use native.Mathlib.Omega.{arith}
 use native.Mathlib.Numerals.{add-one}
 use lib.ListN.{length, getD, set, take, drop, length-set}
 use lib.Seq.{set-split}
+use Rattle.polygons.proofs.Booleans.{not-both}
 use Rattle.geometry.specs.declared.rect.Cell.{Cell}
 use Rattle.tree.specs.Lists.{total, notEmpty}
 use Rattle.tree.specs.Nodes.{Item, held, itemHas, nodes}
 use Rattle.tree.specs.Sound.{SoundItem}
 use Rattle.tree.specs.Remove.{other, without}
-use Rattle.tree.proofs.Booleans.{contrary}
 use Rattle.tree.proofs.Counts.{total-append}
 use Rattle.tree.proofs.Prune.{prune-one}
-use Rattle.plane.specs.Plane.{planeSpace}
+use Rattle.tree.proofs.Lists.{length-zero}
 use Rattle.plane.proofs.Rects.{plane-space-laws}
 use Rattle.memory.specs.Layout.{partsOf, part, inUse, bitsSet, itemCount, polygonIn, childrenIn}
-use Rattle.memory.proofs.ReadingLaws.{NodeParts, FitsAs, node-parts, fits-as, length-right, part-length, lowAt, change-node, remove-node}
-use Rattle.memory.specs.Fanout.{fanout}
+use Rattle.memory.proofs.ReadingLaws.{NodeParts, FitsAs, node-parts, fits-as, index-length, part-length, lowAt, change-node, remove-node}
+use Rattle.plane.specs.Fanout.{fanout, indexSpace}
 use Rattle.layout.specs.Beside.{Beside}
 use Rattle.layout.specs.Nodes.{countAt}
 use Rattle.layout.specs.Gap.{withoutAt}
@@ -29,12 +29,12 @@ use Rattle.layout.specs.PartSet.{setPart, freed, UsedPart}
 use Rattle.layout.proofs.GapLists.{length-without}
 use Rattle.layout.proofs.PartSetLaws.{set-part, set-in-use, set-bits}
 use Rattle.layout.proofs.BesideLaws.{beside-wider, beside-then, set-beside, set-unused, freed-beside, freed-unused, freed-bits}
-use Rattle.index.specs.Walks.{hasTest}
-use Rattle.index.specs.Children.{NoneBefore, ChildHas}
-use Rattle.index.proofs.ChildLaws.{blank, branch-count, in-row, in-branches, child-reads, child-from, child-below, child-polygon, child-sound, child-sound-walk, child-node}
-use Rattle.removal.specs.Below.{nodeLeft, TakesItem, NodeShorter, NodeFreed, BranchTaken, Removable, RemovedBelow}
-use Rattle.removal.proofs.TreeLaws.{no-items, total-at, without-at, holder, holder-has, has-holds}
-use Rattle.removal.proofs.BelowLaws.{removed-left, removed-gone, fits-dropped, fits-kept}
+use Rattle.walks.specs.Walks.{hasTest}
+use Rattle.walks.specs.Children.{NoneBefore, ChildHas}
+use Rattle.walks.proofs.ChildLaws.{blank, branch-count, in-row, in-branches, child-reads, child-from, child-below, child-polygon, child-sound, child-sound-walk, child-node}
+use Rattle.removal.specs.Below.{nodeRemaining, TakesItem, NodeShorter, NodeFreed, BranchTaken, Removable, RemovedBelow}
+use Rattle.removal.proofs.TreeLaws.{total-at, without-at, holder, holder-has, has-holds}
+use Rattle.removal.proofs.BelowLaws.{removed-remaining, removed-gone, fits-dropped, fits-kept}
 
 -- the one element of a list
 record Only {A : Type 0} (l : List A) : Type 0 where
@@ -46,9 +46,9 @@ only [] e h = let z : _≡_ {A = ℕ} 0 1 = cc in absurd (omega arith)
 only (a ∷ []) e h = record { item = a; is = refl }
 only (a ∷ b ∷ l) e h = absurd (omega arith)
 
-not-left : {A : Type 0} (l : List A) → false ≡ notEmpty l → l ≡ []
-not-left [] e = refl
-not-left (a ∷ l) e = let z : _≡_ {A = ℕ} 0 1 = cc in absurd (omega arith)
+not-remaining : {A : Type 0} (l : List A) → false ≡ notEmpty l → l ≡ []
+not-remaining [] e = refl
+not-remaining (a ∷ l) e = let z : _≡_ {A = ℕ} 0 1 = cc in absurd (omega arith)
 
 module _ (n : ℕ) (m : List ℕ) (lo k : ℕ) (c : Cell) (v : Removable (suc n) m lo k c) where
   parts : NodeParts fanout n m lo k (v .path .walk .node)
@@ -58,24 +58,24 @@ module _ (n : ℕ) (m : List ℕ) (lo k : ℕ) (c : Cell) (v : Removable (suc n)
   fits = fits-as fanout 1 m k (parts .fits)
 
   few-parts : partsOf m ≤ 256
-  few-parts = length-right m (v .path .walk .right) .few-parts
+  few-parts = index-length m (v .path .walk .right) .few-parts
 
   -- a child has the cell
   pub some-has : NoneBefore m k c (countAt m k) → ⊥
   unfolding held itemHas hasTest
   some-has q =
-      let r = holder (planeSpace fanout) (plane-space-laws fanout) (suc n) c (v .path .walk .node .child)
+      let r = holder indexSpace (plane-space-laws fanout) (suc n) c (v .path .walk .node .child)
       (blank n m lo k (v .path)) (v .holds) in
       let s : r .at < countAt m k = (let e = branch-count n m lo k (v .path) in let f = r .inside in omega arith) in
-      let t = holder-has (planeSpace fanout) (plane-space-laws fanout) (suc n) c (v .path .walk .node .poly) _
+      let t = holder-has indexSpace (plane-space-laws fanout) (suc n) c (v .path .walk .node .poly) _
       (child-sound n m lo k (v .path) (r .at) s) (r .holds) in
-      contrary _ t (rw (child-polygon n m lo k (v .path) (r .at) s) (q (r .at) s))
+      not-both _ t (rw (child-polygon n m lo k (v .path) (r .at) s) (q (r .at) s))
 
   module _ (i : ℕ) (q : ChildHas m k c i) where
     here : i < length (v .path .walk .node .child)
     here = in-branches n m lo k (v .path) i (q .inside)
 
-    child-has : itemHas (planeSpace fanout) (suc n) (getD (v .path .walk .node .child) i (blank n m lo k (v .path))) c
+    child-has : itemHas indexSpace (suc n) (getD (v .path .walk .node .child) i (blank n m lo k (v .path))) c
         ≡ true
     unfolding itemHas hasTest
     child-has = rw (child-polygon n m lo k (v .path) i (q .inside)) (q .has)
@@ -87,19 +87,19 @@ module _ (n : ℕ) (m : List ℕ) (lo k : ℕ) (c : Cell) (v : Removable (suc n)
       path = child-sound-walk n m lo k (v .path) i (q .inside);
       unused = v .unused;
       holds = rw (child-node n m lo k (v .path) i (q .inside))
-          (has-holds (planeSpace fanout) (plane-space-laws fanout) (suc n) c (v .path .walk .node .poly)
+          (has-holds indexSpace (plane-space-laws fanout) (suc n) c (v .path .walk .node .poly)
           (v .path .walk .node .child) i (blank n m lo k (v .path)) (v .path .sound .each) (v .path .sound .apart)
           here child-has (v .holds));
     }
 
     -- what is left of the branches
-    branches-left : without (planeSpace fanout) (suc n) c (v .path .walk .node .child)
+    branches-remaining : without indexSpace (suc n) c (v .path .walk .node .child)
         ≡ take i (v .path .walk .node .child) ++
-        (nodeLeft n c (getD (v .path .walk .node .child) i (blank n m lo k (v .path))) ++ drop (i + 1)
+        (nodeRemaining n c (getD (v .path .walk .node .child) i (blank n m lo k (v .path))) ++ drop (i + 1)
         (v .path .walk .node .child))
     unfolding SoundItem
-    branches-left =
-        without-at (planeSpace fanout) (plane-space-laws fanout) (suc n) c (v .path .walk .node .poly)
+    branches-remaining =
+        without-at indexSpace (plane-space-laws fanout) (suc n) c (v .path .walk .node .poly)
         (v .path .walk .node .child) i (blank n m lo k (v .path)) (v .path .sound .each) (v .path .sound .apart)
         here child-has
 
@@ -120,16 +120,16 @@ module _ (n : ℕ) (m : List ℕ) (lo k : ℕ) (c : Cell) (v : Removable (suc n)
           beside-wider m lo _ _ k m₁ (child-from n m lo k (v .path) i (q .inside)) (omega arith) (r .beside)
 
       -- the bits fall with the nodes
-      bits₁ : bitsSet m₁ + total (nodes (planeSpace fanout) (suc n)) (v .path .walk .node .child)
-          ≡ bitsSet m + total (nodes (planeSpace fanout) (suc n))
-          (without (planeSpace fanout) (suc n) c (v .path .walk .node .child))
+      bits₁ : bitsSet m₁ + total (nodes indexSpace (suc n)) (v .path .walk .node .child)
+          ≡ bitsSet m + total (nodes indexSpace (suc n))
+          (without indexSpace (suc n) c (v .path .walk .node .child))
       bits₁ =
-          let f = nodes (planeSpace fanout) (suc n) in
+          let f = nodes indexSpace (suc n) in
           let bs = v .path .walk .node .child in
-          let l = nodeLeft n c (getD bs i (blank n m lo k (v .path))) in
+          let l = nodeRemaining n c (getD bs i (blank n m lo k (v .path))) in
           let a = total-at f bs i (blank n m lo k (v .path)) here in
-          let b : total f (without (planeSpace fanout) (suc n) c bs) ≡ total f (take i bs) + (total f l + total f (drop (i + 1) bs)) =
-          ap (total f) branches-left ∙ total-append f (take i bs) (l ++ drop (i + 1) bs) ∙ ap (λ (x : ℕ). total f (take i bs) + x) (total-append f l (drop (i + 1) bs)) in
+          let b : total f (without indexSpace (suc n) c bs) ≡ total f (take i bs) + (total f l + total f (drop (i + 1) bs)) =
+          ap (total f) branches-remaining ∙ total-append f (take i bs) (l ++ drop (i + 1) bs) ∙ ap (λ (x : ℕ). total f (take i bs) + x) (total-append f l (drop (i + 1) bs)) in
           let e : bitsSet m₁ + f (getD bs i (blank n m lo k (v .path)))
           ≡ bitsSet m + total f l = rw child-was at (r .bits) in
           omega arith
@@ -144,18 +144,18 @@ module _ (n : ℕ) (m : List ℕ) (lo k : ℕ) (c : Cell) (v : Removable (suc n)
       parts-are = ap (λ (x : ℕ). (x - 64) / 128) (r .beside .same-length)
 
       -- the child is left as y
-      child-left : (y : Item (planeSpace fanout) (suc n))
-          → nodeLeft n c (getD (v .path .walk .node .child) i (blank n m lo k (v .path))) ≡ y ∷ []
+      child-remaining : (y : Item indexSpace (suc n))
+          → nodeRemaining n c (getD (v .path .walk .node .child) i (blank n m lo k (v .path))) ≡ y ∷ []
           → RemovedBelow (suc n) m lo k c m₁ true
-      child-left y e =
+      child-remaining y e =
           let bs = v .path .walk .node .child in
-          let w : without (planeSpace fanout) (suc n) c bs ≡ set bs i y = branches-left
+          let w : without indexSpace (suc n) c bs ≡ set bs i y = branches-remaining
           ∙ rw (e, add-one) (sym (set-split bs i y here)) in
           let s = length-set bs i y in
           let z = here in
           let b = bits₁ in
-          let u = ap (total (nodes (planeSpace fanout) (suc n))) w in
-          removed-left (suc n) m lo k c m₁ (v .path .walk .node) (v .path .walk .reads) (r .unused) beside₁
+          let u = ap (total (nodes indexSpace (suc n))) w in
+          removed-remaining (suc n) m lo k c m₁ (v .path .walk .node) (v .path .walk .reads) (r .unused) beside₁
           (set bs i y) w (omega arith)
           (change-node fanout m m₁ parts-are n lo k i (v .path .walk .node) (v .path .walk .reads)
           (in-row n m lo k (v .path) i (q .inside)) parts₁ uses₁
@@ -166,10 +166,10 @@ module _ (n : ℕ) (m : List ℕ) (lo k : ℕ) (c : Cell) (v : Removable (suc n)
       pub child-stays : t ≡ true → RemovedBelow (suc n) m lo k c m₁ true
       child-stays e =
           let bs = v .path .walk .node .child in
-          let x = only (nodeLeft n c (getD bs i (blank n m lo k (v .path)))) (rw (e, child-was) at (r .left-is))
-          (prune-one (planeSpace fanout) (other (planeSpace fanout) c) (λ p. p) (suc n)
+          let x = only (nodeRemaining n c (getD bs i (blank n m lo k (v .path)))) (rw (e, child-was) at (r .remaining-is))
+          (prune-one indexSpace (other indexSpace c) (λ p. p) (suc n)
           (getD bs i (blank n m lo k (v .path)))) in
-          child-left (x .item) (x .is)
+          child-remaining (x .item) (x .is)
 
       used₁ : UsedPart m₁ k
       used₁ = record {
@@ -193,22 +193,22 @@ module _ (n : ℕ) (m : List ℕ) (lo k : ℕ) (c : Cell) (v : Removable (suc n)
       few-parts₁ = rw parts-are few-parts
 
       module _ (e : t ≡ false) where
-        branches-without : without (planeSpace fanout) (suc n) c (v .path .walk .node .child)
+        branches-without : without indexSpace (suc n) c (v .path .walk .node .child)
             ≡ withoutAt i (v .path .walk .node .child)
-        branches-without = branches-left
-            ∙ rw (not-left (nodeLeft n c (getD (v .path .walk .node .child) i (blank n m lo k (v .path))))
-            (rw (e, child-was) at (r .left-is)))
+        branches-without = branches-remaining
+            ∙ rw (not-remaining (nodeRemaining n c (getD (v .path .walk .node .child) i (blank n m lo k (v .path))))
+            (rw (e, child-was) at (r .remaining-is)))
 
-        left-length : length (withoutAt i (v .path .walk .node .child)) ≡ countAt m k - 1
-        left-length = length-without i (v .path .walk .node .child) here
+        remaining-length : length (withoutAt i (v .path .walk .node .child)) ≡ countAt m k - 1
+        remaining-length = length-without i (v .path .walk .node .child) here
             ∙ ap (λ (x : ℕ). x - 1) (branch-count n m lo k (v .path))
 
         count₁ : itemCount (part m₁ k) ≡ countAt m k
         count₁ = ap itemCount part-kept
 
         -- the node lost one of several branches
-        node-left : (m₂ : List ℕ) → NodeShorter m₁ k i m₂ → RemovedBelow (suc n) m lo k c m₂ true
-        node-left m₂ z =
+        node-remaining : (m₂ : List ℕ) → NodeShorter m₁ k i m₂ → RemovedBelow (suc n) m lo k c m₂ true
+        node-remaining m₂ z =
             let p = z .dropped .new in
             let d = z .dropped .branch .item in
             let size : length p ≡ 128 = d .same-length ∙ ap length part-kept ∙ part-length m k (fits .below) in
@@ -217,14 +217,14 @@ module _ (n : ℕ) (m : List ℕ) (lo k : ℕ) (c : Cell) (v : Removable (suc n)
             let b₂ = set-beside m₁ k used₁ few-parts₁ (r .unused) p size in
             let long = b₂ .same-length ∙ r .beside .same-length in
             let f = z .several in
-            let g = left-length in
+            let g = remaining-length in
             let h = count₁ in
             let o = set-bits m₁ k p ends size in
             let b = bits₁ in
-            let u = ap (total (nodes (planeSpace fanout) (suc n))) branches-without in
+            let u = ap (total (nodes indexSpace (suc n))) branches-without in
             let kids : childrenIn (part (setPart m₁ k p) k) ≡ withoutAt i (childrenIn (part m k)) = ap childrenIn same ∙ z .dropped .branch .children ∙ ap (λ (l : List ℕ). withoutAt i (childrenIn l)) part-kept in
             rw (z .dropped .memory)
-            (removed-left (suc n) m lo k c (setPart m₁ k p) (v .path .walk .node) (v .path .walk .reads)
+            (removed-remaining (suc n) m lo k c (setPart m₁ k p) (v .path .walk .node) (v .path .walk .reads)
             (set-unused m₁ k used₁ few-parts₁ (r .unused) p size)
             (beside-then m lo k m₁ _ beside₁ (beside-wider m₁ lo k k k _ (v .path .walk .from) (omega arith) b₂))
             (withoutAt i (v .path .walk .node .child)) branches-without (omega arith)
@@ -244,15 +244,15 @@ module _ (n : ℕ) (m : List ℕ) (lo k : ℕ) (c : Cell) (v : Removable (suc n)
         node-gone m₂ z =
             let b₂ = freed-beside m₁ k used₁ few-parts₁ (r .unused) in
             let f = z .last in
-            let g = left-length in
+            let g = remaining-length in
             let h = count₁ in
             let o = freed-bits m₁ k used₁ few-parts₁ (r .unused) in
             let b = bits₁ in
-            let w : without (planeSpace fanout) (suc n) c (v .path .walk .node .child) ≡ [] = branches-without
-            ∙ no-items (withoutAt i (v .path .walk .node .child)) (omega arith) in
-            let u : total (nodes (planeSpace fanout) (suc n))
-            (without (planeSpace fanout) (suc n) c (v .path .walk .node .child))
-            ≡ 0 = ap (total (nodes (planeSpace fanout) (suc n))) w in
+            let w : without indexSpace (suc n) c (v .path .walk .node .child) ≡ [] = branches-without
+            ∙ length-zero (withoutAt i (v .path .walk .node .child)) (omega arith) in
+            let u : total (nodes indexSpace (suc n))
+            (without indexSpace (suc n) c (v .path .walk .node .child))
+            ≡ 0 = ap (total (nodes indexSpace (suc n))) w in
             rw (z .memory)
             (removed-gone (suc n) m lo k c (freed m₁ k) (v .path .walk .node) (v .path .walk .reads)
             (freed-unused m₁ k used₁ few-parts₁ (r .unused))
@@ -260,5 +260,5 @@ module _ (n : ℕ) (m : List ℕ) (lo k : ℕ) (c : Cell) (v : Removable (suc n)
             w (omega arith))
 
         pub node-removed : (m₂ : List ℕ) (s : Bool) → BranchTaken m₁ k i m₂ s → RemovedBelow (suc n) m lo k c m₂ s
-        node-removed m₂ true z = node-left m₂ z
+        node-removed m₂ true z = node-remaining m₂ z
         node-removed m₂ false z = node-gone m₂ z

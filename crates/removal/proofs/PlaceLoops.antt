@@ -7,13 +7,13 @@ use native.Mathlib.Omega.{arith}
 use native.Mathlib.Decide.{decLt}
 use borrow.Author.Tests.{not-true, not-false}
 use lib.ListN.{length}
+use Rattle.polygons.proofs.Booleans.{not-both}
 use Rattle.geometry.specs.declared.rect.Cell.{Cell}
-use Rattle.tree.proofs.Booleans.{contrary}
 use Rattle.memory.specs.Layout.{itemCount, entryIn}
 use Rattle.layout.specs.declared.node.Node.{Node}
 use Rattle.layout.specs.Loaded.{nodeIn, nodeEntry}
 use Rattle.layout.proofs.LoadedLaws.{loaded-test}
-use Rattle.index.specs.Walks.{cellTest}
+use Rattle.walks.specs.Walks.{cellTest}
 use Rattle.removal.specs.Place.{EntryPlace, HoldsCell}
 
 -- Before the i-th entry: the cell's entry is not an earlier one.
@@ -48,4 +48,4 @@ module _ (p : List ℕ) (c : Cell) where
         go (yes l) = omega arith
         go (no l) =
             let q : v .holds .at ≡ i = let k = v .i-le in omega arith in
-            absurd (contrary (cellTest c (entryIn p i)) (rw q at (v .holds .place .is)) (sym e ∙ not-true b f))
+            absurd (not-both (cellTest c (entryIn p i)) (rw q at (v .holds .place .is)) (sym e ∙ not-true b f))

@@ -8,30 +8,21 @@ use native.Mathlib.Decide.{decLt}
 use native.Mathlib.Numerals.{add-one}
 use lib.ListN.{length, getD, take, drop}
 use Rattle.polygons.specs.Lists.{any}
+use Rattle.polygons.proofs.Booleans.{is-false, not-both}
+use Rattle.polygons.proofs.ListLaws.{any-append}
 use Rattle.tree.specs.Lists.{All, Pairs, total}
 use Rattle.tree.specs.Space.{Space}
 use Rattle.tree.specs.Nodes.{Item, held, itemHas}
 use Rattle.tree.specs.Sound.{SoundItem, Apart}
 use Rattle.tree.specs.Query.{ofCell}
 use Rattle.tree.specs.Remove.{prune, other, without}
-use Rattle.tree.proofs.Lists.{all-map, all-both-map, all-at, pairs-map}
+use Rattle.tree.proofs.Lists.{all-map, all-both-map, all-at, pairs-map, flatMap-single}
 use Rattle.tree.proofs.Laws.{Laws}
-use Rattle.tree.proofs.Any.{any-append, any-from}
-use Rattle.tree.proofs.Booleans.{not-true, contrary}
+use Rattle.tree.proofs.Any.{any-from}
 use Rattle.tree.proofs.Once.{held-inside}
 use Rattle.tree.proofs.Remove.{prune-elsewhere}
 
 module _ {A : Type 0} where
-  -- a list of no length has no element
-  pub no-items : (l : List A) → length l ≡ 0 → l ≡ []
-  no-items [] h = refl
-  no-items (a ∷ l) h = absurd (omega arith)
-
-  all-stay : (f : A → List A) (l : List A) → All (λ a. f a ≡ a ∷ []) l → flatMap f l ≡ l
-  unfolding All flatMap
-  all-stay f [] h = refl
-  all-stay f (a ∷ l) h = rw (h .0, all-stay f l (h .1))
-
   one-changes′ : (f : A → List A) (t : A → Bool) (l : List A) (i : ℕ) (d : A) → i < length l → t (getD l i d) ≡ true
       → All (λ a. t a ≡ false → f a ≡ a ∷ []) l → Pairs (λ a b. t a ≡ true → t b ≡ true → ⊥) l
       → flatMap f l ≡ take i l ++ (f (getD l i d) ++ drop (suc i) l)
@@ -39,9 +30,9 @@ module _ {A : Type 0} where
   one-changes′ f t [] i d h e s p = absurd (omega arith)
   one-changes′ f t (a ∷ l) zero d h e s p =
       ap (λ r. f a ++ r)
-      (all-stay f l (all-both-map (λ b. t b ≡ false → f b ≡ b ∷ []) (λ b. t a ≡ true → t b ≡ true → ⊥) (λ b. f b ≡ b ∷ []) l (λ b u v. u (not-true (t b) (v e))) (s .1) (p .0)))
+      (flatMap-single f l (all-both-map (λ b. t b ≡ false → f b ≡ b ∷ []) (λ b. t a ≡ true → t b ≡ true → ⊥) (λ b. f b ≡ b ∷ []) l (λ b u v. u (is-false (t b) (v e))) (s .1) (p .0)))
   one-changes′ f t (a ∷ l) (suc i) d h e s p =
-      let g : f a ≡ a ∷ [] = s .0 (not-true (t a) (λ u. all-at (λ b. t a ≡ true → t b ≡ true → ⊥) l i d (omega arith) (p .0) u e)) in
+      let g : f a ≡ a ∷ [] = s .0 (is-false (t a) (λ u. all-at (λ b. t a ≡ true → t b ≡ true → ⊥) l i d (omega arith) (p .0) u e)) in
       rw g (ap (λ r. a ∷ r) (one-changes′ f t l i d (omega arith) e (s .1) (p .1)))
 
   -- where f keeps the elements that do not pass, and the i-th alone passes, only it changes
@@ -95,7 +86,7 @@ module _ (S : Space) (W : Laws S) where
   -- where a node holds the cell, one of its items does
   pub holder : (n : ℕ) (c : S .Cell) (l : List (Item S n)) (d : Item S n) → any (ofCell S c) (flatMap (held S n) l) ≡ true → Holder n c l d
   unfolding flatMap any
-  holder n c [] d h = absurd (contrary false h refl)
+  holder n c [] d h = absurd (not-both false h refl)
   holder n c (x ∷ l) d h = go (any (ofCell S c) (held S n x)) refl (sym (any-append (ofCell S c) (held S n x) (flatMap (held S n) l)) ∙ h) (holder n c l d)
     where
       go : (b : Bool) → any (ofCell S c) (held S n x) ≡ b → any (ofCell S c) (held S n x) || any (ofCell S c) (flatMap (held S n) l) ≡ true

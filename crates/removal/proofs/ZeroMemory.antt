@@ -10,8 +10,8 @@ use native.Mathlib.Decide.{decLt}
 use lib.Count.{ones, ones-step}
 use lib.ListN.{length, getD, set, take, drop, length-set}
 use lib.Seq.{getD-set-same, getD-set-other, getD-take, getD-drop}
-use Rattle.memory.specs.Layout.{partsOf, rightLength, part, inUse, onesOf, bitsSet, allZero, othersZero}
-use Rattle.memory.proofs.ReadingLaws.{length-right, zero-at, unused-zero}
+use Rattle.memory.specs.Layout.{partsOf, isIndexLength, part, inUse, onesOf, bitsSet, allZero, othersZero}
+use Rattle.memory.proofs.ReadingLaws.{index-length, zero-at, unused-zero}
 use Rattle.layout.specs.PartSet.{noTree}
 use Rattle.layout.proofs.GapLists.{zeros-of}
 use Rattle.layout.proofs.NodeLaws.{part-number}
@@ -30,7 +30,7 @@ no-bits [] i e = refl
 no-bits (w ∷ l) zero e = no-ones w w (omega arith) (omega arith)
 no-bits (w ∷ l) (suc i) e = no-bits l i (omega arith)
 
-module _ (m : List ℕ) (right : rightLength m ≡ true) (none-set : bitsSet m ≡ 0) (head : allZero (drop 10 (take 64 m)) ≡ true) (others : othersZero m (partsOf m) ≡ true) where
+module _ (m : List ℕ) (right : isIndexLength m ≡ true) (none-set : bitsSet m ≡ 0) (head : allZero (drop 10 (take 64 m)) ≡ true) (others : othersZero m (partsOf m) ≡ true) where
   word-zero : (i : ℕ) → i < 8 → getD m i 0 ≡ 0
   word-zero i h = sym (getD-take 8 m i 0 h) ∙ no-bits (take 8 m) i none-set
 
@@ -45,7 +45,7 @@ module _ (m : List ℕ) (right : rightLength m ≡ true) (none-set : bitsSet m �
 
   part-zero : (x : ℕ) → 64 ≤ x → x < length m → getD m x 0 ≡ 0
   part-zero x a b =
-      let r = length-right m right in
+      let r = index-length m right in
       let l = r .length-is in
       let f = r .few-parts in
       let j = (x - 64) / 128 in

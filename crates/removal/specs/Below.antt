@@ -10,14 +10,13 @@ use Rattle.tree.specs.Lists.{total, notEmpty}
 use Rattle.tree.specs.Nodes.{Item, held, nodes}
 use Rattle.tree.specs.Query.{ofCell}
 use Rattle.tree.specs.Remove.{prune, other}
-use Rattle.plane.specs.Plane.{planeSpace}
 use Rattle.memory.specs.Layout.{partsOf, part, bitsSet, itemCount, othersZero}
 use Rattle.memory.specs.Reading.{readNode}
-use Rattle.memory.specs.Fanout.{fanout}
+use Rattle.plane.specs.Fanout.{fanout, indexSpace}
 use Rattle.layout.specs.Beside.{Beside}
 use Rattle.layout.specs.Gap.{ItemIn}
 use Rattle.layout.specs.PartSet.{freed, UsedPart, EntryDroppedAt, BranchDroppedAt}
-use Rattle.index.specs.Walks.{SoundWalk}
+use Rattle.walks.specs.Walks.{SoundWalk}
 
 -- The node at part k has an i-th item.
 pub record TakesItem (m : List ℕ) (k i : ℕ) : Type 0 where
@@ -50,23 +49,23 @@ BranchTaken m k i m′ true = NodeShorter m k i m′
 BranchTaken m k i m′ false = NodeFreed m k m′
 
 -- what is left of a node and all below it without the entry of the cell: the node with its polygon, or nothing
-abbrev pub nodeLeft : (n : ℕ) → Cell → Item (planeSpace fanout) (suc n) → List (Item (planeSpace fanout) (suc n))
-nodeLeft n c b = prune (planeSpace fanout) (suc n) (other (planeSpace fanout) c) (λ p. p) b
+abbrev pub nodeRemaining : (n : ℕ) → Cell → Item indexSpace (suc n) → List (Item indexSpace (suc n))
+nodeRemaining n c b = prune indexSpace (suc n) (other indexSpace c) (λ p. p) b
 
 -- The node at part k reads and is sound, with its subtree in the parts from lo on, and it holds the cell. Parts not
 -- in use are zero.
 pub record Removable (n : ℕ) (m : List ℕ) (lo k : ℕ) (c : Cell) : Type 0 where
   pub path : SoundWalk n m lo k
   pub unused : othersZero m (partsOf m) ≡ true
-  pub holds : any (ofCell (planeSpace fanout) c) (held (planeSpace fanout) (suc n) (path .walk .node)) ≡ true
+  pub holds : any (ofCell indexSpace c) (held indexSpace (suc n) (path .walk .node)) ≡ true
 
 -- The cell's entry was removed below the node at part k, which gave m′; left says whether the node is left. It reads as what the
 -- definition leaves of it. The bits set fall with the nodes, parts not in use are zero, and all else is as it was.
 pub record RemovedBelow (n : ℕ) (m : List ℕ) (lo k : ℕ) (c : Cell) (m′ : List ℕ) (left : Bool) : Type 0 where
-  pub node : Item (planeSpace fanout) (suc n)
+  pub node : Item indexSpace (suc n)
   pub before : readNode fanout n m lo k ≡ some node
-  pub left-is : left ≡ notEmpty (nodeLeft n c node)
-  pub after : (b : Item (planeSpace fanout) (suc n)) → nodeLeft n c node ≡ b ∷ [] → readNode fanout n m′ lo k ≡ some b
-  pub bits : bitsSet m′ + nodes (planeSpace fanout) (suc n) node ≡ bitsSet m + total (nodes (planeSpace fanout) (suc n)) (nodeLeft n c node)
+  pub remaining-is : left ≡ notEmpty (nodeRemaining n c node)
+  pub after : (b : Item indexSpace (suc n)) → nodeRemaining n c node ≡ b ∷ [] → readNode fanout n m′ lo k ≡ some b
+  pub bits : bitsSet m′ + nodes indexSpace (suc n) node ≡ bitsSet m + total (nodes indexSpace (suc n)) (nodeRemaining n c node)
   pub unused : othersZero m′ (partsOf m′) ≡ true
   pub beside : Beside m lo k m′

@@ -6,7 +6,7 @@ use mathlib.Core.Path.{_≡_}
 use Rattle.geometry.specs.declared.rect.Cell.{Cell}
 use Rattle.memory.specs.Layout.{itemCount, entryIn}
 use Rattle.layout.specs.Nodes.{NodePart}
-use Rattle.index.specs.Walks.{cellTest}
+use Rattle.walks.specs.Walks.{cellTest}
 
 -- The i-th entry of a leaf's part is of the cell.
 pub record EntryPlace (p : List ℕ) (c : Cell) (i : ℕ) : Type 0 where

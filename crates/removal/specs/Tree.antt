@@ -5,10 +5,10 @@ use mathlib.Core.Path.{_≡_}
 use lib.ListN.{length}
 use Rattle.geometry.specs.declared.rect.Cell.{Cell}
 use Rattle.memory.specs.Reading.{reading}
-use Rattle.memory.specs.Fanout.{fanout}
-use Rattle.index.specs.declared.answer.Removed.{Removed}
-use Rattle.index.specs.Answers.{removeRead}
-use Rattle.index.specs.Changes.{RemoveMemory}
+use Rattle.plane.specs.Fanout.{fanout}
+use Rattle.answers.specs.declared.answer.Removed.{Removed}
+use Rattle.answers.specs.Answers.{removeRead}
+use Rattle.answers.specs.Changes.{RemoveMemory}
 
 -- A removal from the index that the memory reads as ended with the answer r, and left m′.
 pub record RemoveDone (m : List ℕ) (c : Cell) (m′ : List ℕ) (r : Removed) : Type 0 where

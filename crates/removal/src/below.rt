@@ -2,13 +2,12 @@
 ghost use Rattle.removal.specs.Below.{TakesItem, EntryTaken, BranchTaken, Removable, RemovedBelow};
 use crate::place::entry_place;
 use geometry::Cell;
-use index::ChildFound;
-use index::child_with;
-use layout::Node;
 use layout::node_at;
 use layout::part_at;
 use layout::set_free;
 use layout::set_node;
+use walks::ChildFound;
+use walks::child_with;
 
 // Takes the i-th entry out of the leaf at part k, which is set free if it was the last. Answers whether
 // the leaf is left.

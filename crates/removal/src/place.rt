@@ -1,8 +1,8 @@
 // The place of a cell's entry in a leaf.
 ghost use Rattle.removal.specs.Place.{HoldsCell, EntryPlace};
 use geometry::Cell;
-use index::is_of_cell;
 use layout::Node;
+use walks::is_of_cell;
 
 // The place of the cell's entry in a leaf's part that holds one.
 pub fn entry_place(p: &[u32], c: Cell) -> usize

@@ -1,16 +1,17 @@
 // The removal of an entry.
-ghost use Rattle.index.specs.Open.{TreeIn, OpenedAs};
-ghost use Rattle.index.specs.Changes.{RemoveCall};
+ghost use Rattle.memory.specs.TreeIn.{TreeIn, Known};
+ghost use Rattle.soundness.specs.Open.{OpenedAs};
+ghost use Rattle.answers.specs.Changes.{RemoveCall};
 ghost use Rattle.removal.specs.Tree.{RemoveDone};
 use crate::below::remove_below;
+use answers::Removed;
 use geometry::Cell;
-use index::Opened;
-use index::Removed;
-use index::entries_below;
-use index::is_held;
-use index::open;
+use layout::is_index_length;
 use layout::no_tree;
-use layout::right_length;
+use queries::is_held;
+use soundness::Opened;
+use soundness::open_known;
+use walks::entries_below;
 
 // Removal from the tree in a memory. 'The last removal leaves all zeros.'
 fn remove_in_tree(m: &mut [u32], level: u32, root: u32, c: Cell) -> Removed
@@ -18,7 +19,7 @@ fn remove_in_tree(m: &mut [u32], level: u32, root: u32, c: Cell) -> Removed
     ensures { λ r. ⌜ RemoveDone (now (m .entry)) c (now (m .exit)) r ⌝ }
 {
     if !is_held(m, level, root, c) {
-        return Removed::CellNotHeld;
+        return Removed::NotHeld;
     }
     let entries = entries_below(m, level, 0, root) - 1;
     if remove_below(m, level, 0, root, c) {
@@ -29,16 +30,16 @@ fn remove_in_tree(m: &mut [u32], level: u32, root: u32, c: Cell) -> Removed
 }
 
 // The removal from an opened memory.
-fn remove_read(m: &mut [u32], opened: Opened, c: Cell) -> Removed
+fn remove_opened(m: &mut [u32], opened: Opened, c: Cell) -> Removed
     requires { ⌜ OpenedAs (now m) opened ⌝ }
     ensures { λ r. ⌜ RemoveDone (now (m .entry)) c (now (m .exit)) r ⌝ }
 {
     match opened {
-        Opened::NoTree => {
-            return Removed::NoTree;
+        Opened::NoSoundTree => {
+            return Removed::NoSoundTree;
         }
         Opened::Empty => {
-            return Removed::CellNotHeld;
+            return Removed::NotHeld;
         }
         Opened::Tree { level, root } => {
             return remove_in_tree(m, level, root, c);
@@ -51,26 +52,20 @@ fn remove_read(m: &mut [u32], opened: Opened, c: Cell) -> Removed
 pub fn remove(m: &mut [u32], c: Cell) -> Removed
     ensures { λ r. ⌜ RemoveCall (now (m .entry)) c (now (m .exit)) r ⌝ }
 {
-    if !right_length(m) {
-        return Removed::WrongLength;
-    }
-    if !c.on_grid() {
-        return Removed::OffGrid;
-    }
-    let opened = open(m);
-    remove_read(m, opened, c)
+    remove_known(m, false, c)
 }
 
-// The same with a memory that was opened before, so that it is not tested again.
-pub fn remove_opened(m: &mut [u32], opened: Opened, c: Cell) -> Removed
-    requires { ⌜ OpenedAs (now m) opened ⌝ }
+// The same; a memory that is known to read as an index is not tested.
+pub fn remove_known(m: &mut [u32], known: bool, c: Cell) -> Removed
+    requires { ⌜ Known (now m) known ⌝ }
     ensures { λ r. ⌜ RemoveCall (now (m .entry)) c (now (m .exit)) r ⌝ }
 {
-    if !right_length(m) {
+    if !is_index_length(m) {
         return Removed::WrongLength;
     }
     if !c.on_grid() {
-        return Removed::OffGrid;
+        return Removed::Invalid;
     }
-    remove_read(m, opened, c)
+    let opened = open_known(m, known);
+    remove_opened(m, opened, c)
 }

@@ -1,4 +1,4 @@
-pub mod ReplyWays
-pub mod CodedWays
-pub mod CallWays
+pub mod ReplyReturns
+pub mod CodedReturns
+pub mod CallReturns
 pub mod ReplayLoop

@@ -6,7 +6,7 @@ use lib.Dec.{leb, ltb, eqb}
 use lib.ListN.{getD, take, drop, length}
 use Rattle.geometry.specs.Cells.{cellOf, rectOf}
 use Rattle.tree.specs.Calls.{insertCall, removeCall, clearCall, pointCall, windowCall, nearestCall, emptyCall}
-use Rattle.index.specs.Changes.{entryOf}
+use Rattle.plane.specs.Lines.{entryOf}
 use Rattle.replay.specs.declared.coded.CodedCall.{CodedCall}
 use Rattle.history.specs.Calls.{IndexCall}
 

@@ -2,22 +2,23 @@
 ghost use Rattle.replay.specs.Coded.{callOf};
 ghost use Rattle.replay.specs.Replies.{Replied};
 use crate::coded::CodedCall;
-use crate::replies::Reply;
-use crate::replies::clear_reply;
-use crate::replies::empty_reply;
-use crate::replies::insert_reply;
-use crate::replies::nearest_reply;
-use crate::replies::point_reply;
-use crate::replies::remove_reply;
-use crate::replies::window_reply;
+use answers::Reply;
+use answers::clear_reply;
+use answers::empty_reply;
+use answers::insert_reply;
+use answers::nearest_reply;
+use answers::point_reply;
+use answers::remove_reply;
+use answers::window_reply;
 use emptiness::is_empty;
 use geometry::Cell;
 use geometry::Rect;
-use index::clear;
-use index::point;
-use index::window;
 use insertion::insert;
+use layout::Entry;
 use nearest::nearest;
+use queries::point;
+use queries::window;
+use removal::clear;
 use removal::remove;
 
 // Makes the call on the index m. An insertion is lent the list as its work area, a window query as its result list.
@@ -29,7 +30,8 @@ pub fn make_call(call: CodedCall, m: &mut [u32], lent: &mut [u32]) -> Reply
         y: call.b,
     };
     if call.kind == 0 {
-        let answer = insert(m, lent, cell, call.c);
+        let entry = Entry { cell, tag: call.c };
+        let answer = insert(m, lent, entry);
         return insert_reply(answer);
     }
     if call.kind == 1 {

@@ -8,6 +8,7 @@ use native.Mathlib.Decide.{decLt}
 use mir.Syntax.{w32}
 use mir.Val.{Fits}
 use lib.ListN.{length, length-map}
+use Rattle.polygons.proofs.ListLaws.{flatMap-append}
 use Rattle.geometry.specs.declared.rect.Line.{Line}
 use Rattle.geometry.specs.declared.rect.Line.the-variants.{AtX, AtY}
 use Rattle.geometry.specs.declared.rect.Rect.{Rect}
@@ -17,13 +18,13 @@ use Rattle.geometry.proofs.CellLaws.{valid-of}
 use Rattle.geometry.proofs.NumberLaws.{length-rects, rects-suc}
 use Rattle.tree.specs.Lists.{All, keep}
 use Rattle.tree.specs.Space.{left, right}
-use Rattle.tree.proofs.Lists.{flatMap-append, all-first, all-second, all-head}
+use Rattle.tree.proofs.Lists.{all-first, all-second, all-head}
 use Rattle.tree.proofs.Counts.{countOf-append, countOf-cons, length-keep}
 use Rattle.plane.specs.Lines.{fits, onBoth}
-use Rattle.plane.specs.Candidates.{Extent, extentOn, rank, key, candidates, tried, leastKey}
-use Rattle.memory.specs.Fanout.{fanout}
+use Rattle.plane.specs.Candidates.{Extent, extentOn, lineNumber, key, candidates, tried, leastKey}
+use Rattle.plane.specs.Fanout.{fanout}
 use Rattle.split_line.specs.declared.candidates.Counts.{Counts}
-use Rattle.split_line.specs.Bounds.{rectExtent, extentsIn, BoundsList, countsOf, addedCounts, countsFit, TriedLine, linesBehind, triedAt, noKey, bestRank}
+use Rattle.split_line.specs.Extents.{rectExtent, extentsIn, ExtentList, countsOf, addedCounts, countsFit, TriedLine, linesBehind, triedAt, noKey, bestNumber}
 
 -- what holds of all rectangles holds of the i-th
 rect-all : (P : Rect → Type 0) (l : List ℕ) (n i : ℕ) → i < n → All P (rectsIn l n) → P (rectAt l i)
@@ -43,7 +44,7 @@ extents-length : (l : List ℕ) (n : ℕ) → length (extentsIn l n) ≡ n
 unfolding extentsIn
 extents-length l n = length-map (rectsIn l n) rectExtent ∙ length-rects l n
 
-module _ (l : List ℕ) (n i : ℕ) (v : BoundsList l n) (h : i < n) (r : Rect) (e : r ≡ rectAt l i) where
+module _ (l : List ℕ) (n i : ℕ) (v : ExtentList l n) (h : i < n) (r : Rect) (e : r ≡ rectAt l i) where
   pub rect-valid : valid r ≡ true
   rect-valid = rw e (rect-all (λ r. valid r ≡ true) l n i h (v .each))
 
@@ -82,10 +83,10 @@ few-counts l n line =
 -- Before the i-th branch: the counts of those before it.
 pub record AtCount (l : List ℕ) (n : ℕ) (line : Line) (i : ℕ) (k : Counts) : Type 0 where
   pub i-le : i ≤ n
-  pub list : BoundsList l n
+  pub list : ExtentList l n
   pub so-far : k ≡ countsOf (extentsIn l i) line
 
-pub counting-start : (l : List ℕ) (n : ℕ) (line : Line) → BoundsList l n → AtCount l n line 0 (record { lefts = 0; rights = 0; both = 0 })
+pub counting-start : (l : List ℕ) (n : ℕ) (line : Line) → ExtentList l n → AtCount l n line 0 (record { lefts = 0; rights = 0; both = 0 })
 unfolding countsOf extentsIn rectsIn keep
 counting-start l n line v = record { i-le = omega arith; list = v; so-far = refl }
 
@@ -122,7 +123,7 @@ module _ (l : List ℕ) (n : ℕ) (line : Line) (v : TriedLine l n line) (k : Co
   pub both-fits : Fits w32 (k .both * 131072)
   both-fits = let b = both-few in omega arith
 
-  module _ (s : ℕ) (f : s ≡ rank line) where
+  module _ (s : ℕ) (f : s ≡ lineNumber line) where
     pub key-fits : Fits w32 (k .both * 131072 + s)
     key-fits = let b = both-few in let g = v .small in omega arith
 
@@ -139,7 +140,7 @@ module _ (l : List ℕ) (n : ℕ) (line : Line) (v : TriedLine l n line) (k : Co
     unfolding tried
     no-fit h = rw (← fits-is, h)
 
-    module _ (h : b ≡ true) (s : ℕ) (f : s ≡ rank line) where
+    module _ (h : b ≡ true) (s : ℕ) (f : s ≡ lineNumber line) where
       less : tried fanout (extentsIn l n) x line ≡ min x (k .both * 131072 + s)
       unfolding tried
       less = rw (← fits-is, h, key-is s f)
@@ -151,7 +152,7 @@ module _ (l : List ℕ) (n : ℕ) (line : Line) (v : TriedLine l n line) (k : Co
       try-more j = let t = less in omega arith
 
 -- the four lines behind one branch
-module _ (l : List ℕ) (n i : ℕ) (v : BoundsList l n) (h : i < n) (r : Rect) (e : r ≡ rectAt l i) where
+module _ (l : List ℕ) (n i : ℕ) (v : ExtentList l n) (h : i < n) (r : Rect) (e : r ≡ rectAt l i) where
   pub behind-fits-x : Fits w32 (r .llx + 1)
   behind-fits-x = let w = valid-of r (rect-valid l n i v h r e) in omega arith
 
@@ -194,10 +195,10 @@ least-append es k (x ∷ a) b = least-append es (tried fanout es k x) a b
 -- Before the i-th branch: the least key of the lines behind those before it.
 pub record AtBest (l : List ℕ) (n i k : ℕ) : Type 0 where
   pub i-le : i ≤ n
-  pub list : BoundsList l n
+  pub list : ExtentList l n
   pub so-far : k ≡ leastKey fanout (extentsIn l n) noKey (candidates (extentsIn l i))
 
-pub best-start : (l : List ℕ) (n : ℕ) → BoundsList l n → AtBest l n 0 4294967295
+pub best-start : (l : List ℕ) (n : ℕ) → ExtentList l n → AtBest l n 0 4294967295
 unfolding leastKey extentsIn rectsIn candidates flatMap
 best-start l n v = record { i-le = omega arith; list = v; so-far = refl }
 
@@ -215,8 +216,8 @@ module _ (l : List ℕ) (n i k : ℕ) (a : AtBest l n i k) where
         ∙ least-append (extentsIn l n) noKey (candidates (extentsIn l i)) (linesBehind (rectAt l i)));
   }
 
-  pub best-end : n ≤ i → k % 131072 ≡ bestRank (extentsIn l n)
-  unfolding bestRank
+  pub best-end : n ≤ i → k % 131072 ≡ bestNumber (extentsIn l n)
+  unfolding bestNumber
   best-end h =
       let e : i ≡ n = let j = a .i-le in omega arith in
       ap (λ q. q % 131072) (a .so-far ∙ ap (λ j. leastKey fanout (extentsIn l n) noKey (candidates (extentsIn l j))) e)

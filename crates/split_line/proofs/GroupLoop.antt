@@ -1,4 +1,4 @@
--- The loop over a node's branches that writes the bounds of their groups.
+-- The loop over a node's branches that writes the extents of their groups.
 use Prim.Native.Nat.{ℕ, zero, suc, _+_, _-_, _≤_, _<_}
 use mathlib.Core.Path.{_≡_, refl, sym, ap, _∙_, subst}
 use mathlib.Core.Bool.{Bool, true, false, cond}
@@ -19,38 +19,35 @@ use Rattle.geometry.proofs.AppendLaws.{append-count}
 use Rattle.tree.specs.Lists.{All}
 use Rattle.tree.specs.Nodes.{Item, held}
 use Rattle.tree.proofs.Lists.{all-append, all-head, all-tail, flatMap-all}
-use Rattle.plane.specs.Lines.{CellEntry}
-use Rattle.plane.specs.Plane.{planeSpace}
-use Rattle.plane.specs.Candidates.{rankLine}
+use Rattle.plane.specs.Lines.{CellEntry, somePayload, entryOf, OnGrid}
+use Rattle.plane.specs.Candidates.{numberedLine}
 use Rattle.memory.specs.Layout.{part, childrenIn}
 use Rattle.memory.specs.Reading.{readNode}
 use Rattle.memory.proofs.ReadingLaws.{RowParts, row-parts, row-none, row-length, node-parts}
-use Rattle.memory.specs.Fanout.{fanout}
+use Rattle.plane.specs.Fanout.{fanout, indexSpace}
 use Rattle.layout.specs.Nodes.{countAt, childAt}
-use Rattle.index.specs.Changes.{entryOf}
-use Rattle.index.specs.Count.{entriesAt, entriesOf}
-use Rattle.index.proofs.WalkRows.{RowWalkable, walkable}
-use Rattle.index.proofs.WalkLoop.{children-count, next-child}
-use Rattle.split_line.specs.FullLeaf.{OnGrid}
-use Rattle.split_line.specs.Reached.{boundsOf}
+use Rattle.walks.specs.Count.{entriesAt, entriesOf}
+use Rattle.walks.proofs.WalkRows.{RowWalkable, walkable}
+use Rattle.walks.proofs.WalkLoop.{children-count, next-child}
+use Rattle.split_line.specs.GroupExtent.{extentRectOf}
 use Rattle.split_line.specs.Groups.{halvesOf, groupsIn, groupsAt, NodeHere}
-use Rattle.split_line.specs.GroupBounds.{sideBounds, branchBounds, BranchHere, GroupBounds}
-use Rattle.split_line.proofs.BoundsLaws.{bounds-valid, grid-kept}
+use Rattle.split_line.specs.GroupExtents.{sideExtent, branchExtents, BranchHere, GroupExtents}
+use Rattle.split_line.proofs.ExtentsLaws.{extent-valid, grid-kept}
 
 module _ (n place : ℕ) (l : Line) (e : CellEntry) where
   -- the groups of the branches from the i-th on
-  unfoldable pub groupsFrom : ℕ → List (Item (planeSpace fanout) (suc n)) → List (List CellEntry)
+  unfoldable pub groupsFrom : ℕ → List (Item indexSpace (suc n)) → List (List CellEntry)
   groupsFrom i [] = []
-  groupsFrom i (b ∷ bs) = cond (eqb i place) (halvesOf l (held (planeSpace fanout) (suc n) b ++ (e ∷ []))) (held (planeSpace fanout) (suc n) b ∷ []) ++ groupsFrom (i + 1) bs
+  groupsFrom i (b ∷ bs) = cond (eqb i place) (halvesOf l (held indexSpace (suc n) b ++ (e ∷ []))) (held indexSpace (suc n) b ∷ []) ++ groupsFrom (i + 1) bs
 
   -- behind the place no branch is split
-  from-behind : (i : ℕ) (bs : List (Item (planeSpace fanout) (suc n))) → place < i → groupsFrom i bs ≡ map (held (planeSpace fanout) (suc n)) bs
+  from-behind : (i : ℕ) (bs : List (Item indexSpace (suc n))) → place < i → groupsFrom i bs ≡ map (held indexSpace (suc n)) bs
   unfolding groupsFrom
   from-behind i [] h = refl
   from-behind i (b ∷ bs) h = rw (ne-eqb i place (λ q. omega arith), from-behind (i + 1) bs (omega arith))
 
   -- they are the groups of the definition
-  from-start : (i p : ℕ) (bs : List (Item (planeSpace fanout) (suc n))) → i + p ≡ place → p < length bs → groupsFrom i bs ≡ groupsIn n bs p l e
+  from-start : (i p : ℕ) (bs : List (Item indexSpace (suc n))) → i + p ≡ place → p < length bs → groupsFrom i bs ≡ groupsIn n bs p l e
   unfolding groupsFrom flatMap
   from-start i p [] q h = absurd (omega arith)
   from-start i zero (b ∷ bs) q h =
@@ -60,21 +57,21 @@ module _ (n place : ℕ) (l : Line) (e : CellEntry) where
       let s : suc p + 1 ≡ suc (p + 1) = omega arith in
       rw (ne-eqb i place (λ q. omega arith), from-start (i + 1) p bs r (omega arith), s)
 
--- Before the i-th of the t branches of the node at part k, which lead to nodes of level n: the bounds of the groups before it are the
+-- Before the i-th of the t branches of the node at part k, which lead to nodes of level n: the extents of the groups before it are the
 -- first `next` rectangles of the list l.
 pub record AtBranch (n : ℕ) (m : List ℕ) (level lo k place below : ℕ) (c : Cell) (t i low : ℕ) (l : List ℕ) (next : ℕ) : Type 0 where
   pub count : t ≡ countAt m k
   pub i-le : i ≤ t
   pub here : NodeHere m level lo k place below c
   pub row : RowWalkable n m low k (drop i (childrenIn (part m k)))
-  pub grid : All (λ b. OnGrid (held (planeSpace fanout) (suc n) b)) (row .row)
+  pub grid : All (λ b. OnGrid (held indexSpace (suc n) b)) (row .row)
   pub long : length l ≡ 36
   pub before : i ≤ place → next ≡ i
   pub after : place < i → next ≡ i + 1
   pub each : All (λ r. valid r ≡ true) (rectsIn l next)
-  pub list : rectsIn l next ++ map boundsOf (groupsFrom n place (rankLine below) (entryOf c 0) i (row .row)) ≡ map boundsOf (groupsAt level m lo k place below (entryOf c 0))
+  pub list : rectsIn l next ++ map extentRectOf (groupsFrom n place (numberedLine below) (entryOf c somePayload) i (row .row)) ≡ map extentRectOf (groupsAt level m lo k place below (entryOf c somePayload))
 
-held-read : (n : ℕ) (m : List ℕ) (lo k : ℕ) (b : Item (planeSpace fanout) (suc n)) → readNode fanout n m lo k ≡ some b → entriesAt n m lo k ≡ held (planeSpace fanout) (suc n) b
+held-read : (n : ℕ) (m : List ℕ) (lo k : ℕ) (b : Item indexSpace (suc n)) → readNode fanout n m lo k ≡ some b → entriesAt n m lo k ≡ held indexSpace (suc n) b
 unfolding entriesAt entriesOf held
 held-read n m lo k b e = rw e
 
@@ -91,12 +88,12 @@ start-at n m lo k place below c t l v t-is h =
       i-le = omega arith;
       here = v;
       row = record { right = w .right; row = w .node .child; reads = p .row };
-      grid = flatMap-all _ (held (planeSpace fanout) (suc n)) (w .node .child) (subst OnGrid (held-read (suc n) m lo k (w .node) (w .reads)) (v .grid));
+      grid = flatMap-all _ (held indexSpace (suc n)) (w .node .child) (subst OnGrid (held-read (suc n) m lo k (w .node) (w .reads)) (v .grid));
       long = h;
       before = λ g. refl;
       after = λ g. absurd (omega arith);
       each = tt;
-      list = rw (w .reads) (ap (map boundsOf) (from-start n place (rankLine below) (entryOf c 0) 0 place (w .node .child) (omega arith) (omega arith)));
+      list = rw (w .reads) (ap (map extentRectOf) (from-start n place (numberedLine below) (entryOf c somePayload) 0 place (w .node .child) (omega arith) (omega arith)));
     }
 
 pub branch-start : (m : List ℕ) (level lo k place below : ℕ) (c : Cell) (t : ℕ) (l : List ℕ) → NodeHere m level lo k place below c → t ≡ countAt m k → length l ≡ 36 → AtBranch (level - 1) m level lo k place below c t 0 lo l 0
@@ -111,20 +108,20 @@ all-cond : {A : Type 0} (P : A → Type 0) (b : Bool) (x y : List A) → All P x
 all-cond P true x y p q = p
 all-cond P false x y p q = q
 
--- the bounds of a branch by the entries it holds
+-- the extents of a branch by the entries it holds
 module _ (n : ℕ) (m : List ℕ) (lo k : ℕ) (halved : Bool) (below : ℕ) (c : Cell) where
-  branch-groups : branchBounds n m lo k halved below c ≡ map boundsOf (cond halved (halvesOf (rankLine below) (entriesAt n m lo k ++ (entryOf c 0 ∷ []))) (entriesAt n m lo k ∷ []))
-  unfolding branchBounds sideBounds
-  branch-groups = map-cond boundsOf halved (halvesOf (rankLine below) (entriesAt n m lo k ++ (entryOf c 0 ∷ []))) (entriesAt n m lo k ∷ [])
+  branch-groups : branchExtents n m lo k halved below c ≡ map extentRectOf (cond halved (halvesOf (numberedLine below) (entriesAt n m lo k ++ (entryOf c somePayload ∷ []))) (entriesAt n m lo k ∷ []))
+  unfolding branchExtents sideExtent
+  branch-groups = map-cond extentRectOf halved (halvesOf (numberedLine below) (entriesAt n m lo k ++ (entryOf c somePayload ∷ []))) (entriesAt n m lo k ∷ [])
 
-  branch-valid : OnGrid (entriesAt n m lo k) → onGrid c ≡ true → All (λ r. valid r ≡ true) (branchBounds n m lo k halved below c)
-  unfolding branchBounds sideBounds All
+  branch-valid : OnGrid (entriesAt n m lo k) → onGrid c ≡ true → All (λ r. valid r ≡ true) (branchExtents n m lo k halved below c)
+  unfolding branchExtents sideExtent All
   branch-valid g h =
-      let more = all-append (λ e. onGrid (e .cell) ≡ true) (entriesAt n m lo k) (entryOf c 0 ∷ []) g (h, tt) in
-      all-cond (λ r. valid r ≡ true) halved _ _ (bounds-valid _ (grid-kept _ _ more), (bounds-valid _ (grid-kept _ _ more), tt)) (bounds-valid _ g, tt)
+      let more = all-append (λ e. onGrid (e .cell) ≡ true) (entriesAt n m lo k) (entryOf c somePayload ∷ []) g (h, tt) in
+      all-cond (λ r. valid r ≡ true) halved _ _ (extent-valid _ (grid-kept _ _ more), (extent-valid _ (grid-kept _ _ more), tt)) (extent-valid _ g, tt)
 
 module _ (n : ℕ) (m : List ℕ) (level lo k place below : ℕ) (c : Cell) (t i low : ℕ) (l : List ℕ) (next : ℕ) (a : AtBranch n m level lo k place below c t i low l next) where
-  pub branch-end : t ≤ i → GroupBounds m level lo k place below c l next
+  pub branch-end : t ≤ i → GroupExtents m level lo k place below c l next
   unfolding groupsFrom
   branch-end h =
       let w = a .here .walk in
@@ -149,10 +146,10 @@ module _ (n : ℕ) (m : List ℕ) (level lo k place below : ℕ) (c : Cell) (t i
         let e = next-child level m lo k (a .here .walk) i (omega arith) in
         row-parts (readNode fanout n m) low k j _ (a .row .row) (rw (e, ← j-is) at (a .row .reads))
 
-    held-is : entriesAt n m low j ≡ held (planeSpace fanout) (suc n) (parts .first)
+    held-is : entriesAt n m low j ≡ held indexSpace (suc n) (parts .first)
     held-is = held-read n m low j (parts .first) (parts .head)
 
-    grids : All (λ b. OnGrid (held (planeSpace fanout) (suc n) b)) (parts .first ∷ parts .others)
+    grids : All (λ b. OnGrid (held indexSpace (suc n) b)) (parts .first ∷ parts .others)
     grids = rw (parts .whole) (a .grid)
 
     branch-grid : OnGrid (entriesAt n m low j)
@@ -196,16 +193,16 @@ module _ (n : ℕ) (m : List ℕ) (level lo k place below : ℕ) (c : Cell) (t i
         some-few true r = omega arith
         some-few false r = omega arith
 
-    module _ (l′ : List ℕ) (next′ : ℕ) (x : Appended l next (branchBounds n m low j (eqb i place) below c) 2 l′ next′) where
+    module _ (l′ : List ℕ) (next′ : ℕ) (x : Appended l next (branchExtents n m low j (eqb i place) below c) 2 l′ next′) where
       groups : List (List CellEntry)
-      groups = cond (eqb i place) (halvesOf (rankLine below) (held (planeSpace fanout) (suc n) (parts .first) ++ (entryOf c 0 ∷ []))) (held (planeSpace fanout) (suc n) (parts .first) ∷ [])
+      groups = cond (eqb i place) (halvesOf (numberedLine below) (held indexSpace (suc n) (parts .first) ++ (entryOf c somePayload ∷ []))) (held indexSpace (suc n) (parts .first) ∷ [])
 
-      bounds-are : branchBounds n m low j (eqb i place) below c ≡ map boundsOf groups
+      extents-are : branchExtents n m low j (eqb i place) below c ≡ map extentRectOf groups
       unfolding groups
-      bounds-are = branch-groups n m low j (eqb i place) below c ∙ rw held-is
+      extents-are = branch-groups n m low j (eqb i place) below c ∙ rw held-is
 
       count : (b : Bool) → eqb i place ≡ b → next′ ≡ next + cond b 2 1
-      unfolding branchBounds
+      unfolding branchExtents
       count true e = append-count l next _ 2 l′ next′ (rw e at x)
       count false e = append-count l next _ 2 l′ next′ (rw e at x)
 
@@ -222,9 +219,9 @@ module _ (n : ℕ) (m : List ℕ) (level lo k place below : ℕ) (c : Cell) (t i
         after = λ g. later (ℕ-discrete i place) g;
         each = rw (x .list) (all-append _ (rectsIn l next) _ (a .each) (branch-valid n m low j (eqb i place) below c branch-grid (a .here .cell)));
         list =
-            ap (λ q. q ++ map boundsOf (groupsFrom n place (rankLine below) (entryOf c 0) (i + 1) (parts .others))) (x .list ∙ ap (λ q. rectsIn l next ++ q) bounds-are)
+            ap (λ q. q ++ map extentRectOf (groupsFrom n place (numberedLine below) (entryOf c somePayload) (i + 1) (parts .others))) (x .list ∙ ap (λ q. rectsIn l next ++ q) extents-are)
             ∙ append-assoc (rectsIn l next) _ _
-            ∙ ap (λ q. rectsIn l next ++ q) (sym (map-append boundsOf groups (groupsFrom n place (rankLine below) (entryOf c 0) (i + 1) (parts .others))))
+            ∙ ap (λ q. rectsIn l next ++ q) (sym (map-append extentRectOf groups (groupsFrom n place (numberedLine below) (entryOf c somePayload) (i + 1) (parts .others))))
             ∙ (rw (← (parts .whole)) at (a .list));
       }
         where

@@ -1,9 +1,10 @@
-pub mod ReachLaws
-pub mod ReachWalk
+pub mod SideLaws
+pub mod GroupExtentLaws
+pub mod ExtentWalk
 pub mod SumLaws
 pub mod LineTests
 pub mod CandidateLoops
-pub mod BoundsLaws
+pub mod ExtentsLaws
 pub mod BranchPuts
 pub mod GroupLoop
 pub mod NodeLaws

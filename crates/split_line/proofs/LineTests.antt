@@ -13,9 +13,9 @@ use Rattle.geometry.specs.declared.rect.Rect.{Rect}
 use Rattle.geometry.specs.Cells.{valid}
 use Rattle.geometry.proofs.CellLaws.{valid-of}
 use Rattle.tree.specs.Space.{left, right}
-use Rattle.plane.specs.Candidates.{extentOn, rank}
+use Rattle.plane.specs.Candidates.{extentOn, lineNumber}
 use Rattle.split_line.specs.declared.candidates.Counts.{Counts}
-use Rattle.split_line.specs.Bounds.{rectExtent, addedCounts, countsFit}
+use Rattle.split_line.specs.Extents.{rectExtent, addedCounts, countsFit}
 
 module _ (k : Counts) where
   no-more : (n : ℕ) → n + 0 ≡ n
@@ -85,11 +85,11 @@ module _ (r : Rect) (line : Line) (l : ℕ) where
   right-y v e = rw e (upto (r .ury) (let w = valid-of r v in omega arith))
 
 -- the number of a line
-pub rank-y : (line : Line) (l : ℕ) → line ≡ AtY l → 65536 + l ≡ rank line
-rank-y line l e = rw e
+pub number-y : (line : Line) (l : ℕ) → line ≡ AtY l → 65536 + l ≡ lineNumber line
+number-y line l e = rw e
 
-pub rank-x : (line : Line) (l : ℕ) → line ≡ AtX l → l ≡ rank line
-rank-x line l e = rw e
+pub number-x : (line : Line) (l : ℕ) → line ≡ AtX l → l ≡ lineNumber line
+number-x line l e = rw e
 
-pub rank-fits : (line : Line) (l : ℕ) → line ≡ AtY l → rank line ≤ 131072 → Fits w32 (65536 + l)
-rank-fits line l e h = let k = rank-y line l e in omega arith
+pub number-fits : (line : Line) (l : ℕ) → line ≡ AtY l → lineNumber line ≤ 131072 → Fits w32 (65536 + l)
+number-fits line l e h = let k = number-y line l e in omega arith

@@ -17,18 +17,17 @@ use Rattle.geometry.proofs.CellLaws.{grid-of}
 use Rattle.tree.specs.Lists.{All, total}
 use Rattle.tree.proofs.Lists.{all-append, all-first, all-second, all-head}
 use Rattle.tree.proofs.Counts.{total-append}
-use Rattle.plane.specs.Lines.{CellEntry, xOf, yOf, spread, meanLine, leafLine}
+use Rattle.plane.specs.Lines.{CellEntry, xOf, yOf, spread, meanLine, leafLine, Payload, somePayload, entryOf, OnGrid}
 use Rattle.plane.proofs.Bounds.{x-bounds, y-bounds}
 use Rattle.plane.proofs.LeafLine.{leaf-range}
 use Rattle.plane.proofs.Range.{InRange}
 use Rattle.memory.specs.Layout.{itemCount, entryIn, entriesIn}
 use Rattle.memory.proofs.ReadingLaws.{entries-length}
-use Rattle.memory.specs.Fanout.{fanout}
-use Rattle.index.specs.Changes.{entryOf}
-use Rattle.sides.proofs.SideLaws.{line-x, line-y}
+use Rattle.plane.specs.Fanout.{fanout}
+use Rattle.split_line.proofs.SideLaws.{line-x, line-y}
 use Rattle.split_line.specs.declared.leaf.Sums.{Sums}
 use Rattle.split_line.specs.LineNumber.{LineIs}
-use Rattle.split_line.specs.FullLeaf.{OnGrid, entriesOf, LeafHere, FullLeaf, LeafLineIs, SmallSums, sumsOf, addedSums}
+use Rattle.split_line.specs.FullLeaf.{entriesOf, LeafHere, FullLeaf, LeafLineIs, SmallSums, sumsOf, addedSums}
 
 pub sums-with : (s : Sums) (c : Cell) → record { x = s .x + c .x; xx = s .xx + c .x * c .x; y = s .y + c .y; yy = s .yy + c .y * c .y } ≡ addedSums s c
 unfolding addedSums
@@ -178,22 +177,22 @@ module _ (es : List CellEntry) (f : FullLeaf es) where
       record { is = sym (line-y (65536 + total yOf es / length es + 1) (omega arith)) ∙ ap AtY d ∙ sym e; some = omega arith; small = omega arith }
 
 -- the entries of a leaf with the new one
-abbrev withNew : List ℕ → Cell → ℕ → List CellEntry
+abbrev withNew : List ℕ → Cell → Payload → List CellEntry
 withNew p c t = entriesOf p ++ (entryOf c t ∷ [])
 
 module _ (p : List ℕ) (c : Cell) (n : ℕ) (s : Sums) (h : LeafHere p c) (k : n ≡ itemCount p) (e : s ≡ addedSums (sumsOf (entriesOf p)) c) where
-  count-is : (t : ℕ) → n + 1 ≡ length (withNew p c t)
+  count-is : (t : Payload) → n + 1 ≡ length (withNew p c t)
   count-is t = rw length-append (let l = entries-length p (itemCount p) in omega arith)
 
-  sums-are : (t : ℕ) → s ≡ sumsOf (withNew p c t)
+  sums-are : (t : Payload) → s ≡ sumsOf (withNew p c t)
   sums-are t = e ∙ sums-more (entriesOf p) (entryOf c t)
 
   numbers : Numbers (n + 1) s
   unfolding All
   numbers =
       let f = h .leaf .few-items in
-      let l = count-is 0 in
-      rw (l, sums-are 0) (numbers-of (withNew p c 0) (omega arith) (all-append _ (entriesOf p) (entryOf c 0 ∷ []) (h .grid) (h .cell, tt)))
+      let l = count-is somePayload in
+      rw (l, sums-are somePayload) (numbers-of (withNew p c somePayload) (omega arith) (all-append _ (entriesOf p) (entryOf c somePayload ∷ []) (h .grid) (h .cell, tt)))
 
   pub product-x-fits : Fits w64 ((n + 1) * s .xx)
   product-x-fits = let a = numbers .product-x in omega arith

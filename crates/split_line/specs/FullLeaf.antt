@@ -6,20 +6,14 @@ use mathlib.Core.Path.{_≡_}
 use lib.ListN.{length}
 use Rattle.geometry.specs.declared.rect.Cell.{Cell}
 use Rattle.geometry.specs.Cells.{onGrid}
-use Rattle.tree.specs.Lists.{All, Pairs, total}
+use Rattle.tree.specs.Lists.{Pairs, total}
 use Rattle.tree.specs.Sound.{Apart}
-use Rattle.plane.specs.Lines.{CellEntry, xOf, yOf, leafLine}
-use Rattle.plane.specs.Plane.{planeSpace}
+use Rattle.plane.specs.Lines.{CellEntry, xOf, yOf, leafLine, Payload, entryOf, OnGrid}
 use Rattle.memory.specs.Layout.{itemCount, entriesIn}
-use Rattle.memory.specs.Fanout.{fanout}
+use Rattle.plane.specs.Fanout.{fanout, indexSpace}
 use Rattle.layout.specs.Nodes.{NodePart}
-use Rattle.index.specs.Changes.{entryOf}
 use Rattle.split_line.specs.LineNumber.{LineIs}
 use Rattle.split_line.specs.declared.leaf.Sums.{Sums}
-
--- every cell of some entries is on the grid
-abbrev pub OnGrid : List CellEntry → Type 0
-OnGrid es = All (λ e. onGrid (e .cell) ≡ true) es
 
 -- the entries of a leaf's part
 abbrev pub entriesOf : List ℕ → List CellEntry
@@ -35,11 +29,11 @@ pub record LeafHere (p : List ℕ) (c : Cell) : Type 0 where
 pub record FullLeaf (es : List CellEntry) : Type 0 where
   pub count : length es ≡ suc fanout
   pub grid : OnGrid es
-  pub apart : Pairs (Apart (planeSpace fanout) 0) es
+  pub apart : Pairs (Apart indexSpace 0) es
 
 -- r is the number of the leaf's line, whatever the tag of the new entry
 abbrev pub LeafLineIs : List ℕ → Cell → ℕ → Type 0
-LeafLineIs p c r = (t : ℕ) → FullLeaf (entriesOf p ++ (entryOf c t ∷ [])) → LineIs r (leafLine (entriesOf p ++ (entryOf c t ∷ [])))
+LeafLineIs p c r = (t : Payload) → FullLeaf (entriesOf p ++ (entryOf c t ∷ [])) → LineIs r (leafLine (entriesOf p ++ (entryOf c t ∷ [])))
 
 -- The sums s with one more cell c fit 64 bits.
 pub record SmallSums (s : Sums) (c : Cell) : Type 0 where

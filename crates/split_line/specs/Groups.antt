@@ -12,40 +12,37 @@ use Rattle.geometry.specs.Cells.{onGrid}
 use Rattle.tree.specs.Lists.{keep}
 use Rattle.tree.specs.Space.{left, right}
 use Rattle.tree.specs.Nodes.{Item, held, entryOn}
-use Rattle.plane.specs.Lines.{CellEntry, holdsOn, nodeLine}
-use Rattle.plane.specs.Plane.{planeSpace}
-use Rattle.plane.specs.Candidates.{rankLine}
+use Rattle.plane.specs.Lines.{CellEntry, holdsOn, nodeLine, Payload, entryOf, OnGrid}
+use Rattle.plane.specs.Candidates.{numberedLine}
 use Rattle.plane.proofs.NodeLine.{Fits, GridGroups}
 use Rattle.plane.proofs.Extents.{SomeEach}
 use Rattle.memory.specs.Reading.{readNode}
-use Rattle.memory.specs.Fanout.{fanout}
+use Rattle.plane.specs.Fanout.{fanout, indexSpace}
 use Rattle.layout.specs.Nodes.{countAt}
-use Rattle.index.specs.Walks.{Walkable}
-use Rattle.index.specs.Changes.{entryOf}
-use Rattle.index.specs.Count.{entriesAt}
+use Rattle.walks.specs.Walks.{Walkable}
+use Rattle.walks.specs.Count.{entriesAt}
 use Rattle.split_line.specs.LineNumber.{LineIs}
-use Rattle.split_line.specs.FullLeaf.{OnGrid}
 
 -- the entries left and right of a line, each side a group
 abbrev pub halvesOf : Line → List CellEntry → List (List CellEntry)
-halvesOf l es = keep (entryOn (planeSpace fanout) (left l)) es ∷ keep (entryOn (planeSpace fanout) (right l)) es ∷ []
+halvesOf l es = keep (entryOn indexSpace (left l)) es ∷ keep (entryOn indexSpace (right l)) es ∷ []
 
 -- the groups of some branches: the one at the place is split at the line, with the new entry last
-abbrev pub groupsIn : (n : ℕ) → List (Item (planeSpace fanout) (suc n)) → ℕ → Line → CellEntry → List (List CellEntry)
+abbrev pub groupsIn : (n : ℕ) → List (Item indexSpace (suc n)) → ℕ → Line → CellEntry → List (List CellEntry)
 groupsIn n bs place l e =
-    map (held (planeSpace fanout) (suc n)) (take place bs)
-    ++ (halvesOf l (flatMap (held (planeSpace fanout) (suc n)) (take 1 (drop place bs)) ++ (e ∷ []))
-    ++ map (held (planeSpace fanout) (suc n)) (drop (place + 1) bs))
+    map (held indexSpace (suc n)) (take place bs)
+    ++ (halvesOf l (flatMap (held indexSpace (suc n)) (take 1 (drop place bs)) ++ (e ∷ []))
+    ++ map (held indexSpace (suc n)) (drop (place + 1) bs))
 
 -- the groups of a node that was read; none of a leaf
-abbrev pub groupsOf : (n : ℕ) → Option (Item (planeSpace fanout) (suc n)) → ℕ → Line → CellEntry → List (List CellEntry)
+abbrev pub groupsOf : (n : ℕ) → Option (Item indexSpace (suc n)) → ℕ → Line → CellEntry → List (List CellEntry)
 groupsOf n none place l e = []
 groupsOf zero (some b) place l e = []
 groupsOf (suc n) (some b) place l e = groupsIn n (b .child) place l e
 
 -- the groups of the node at part k; `below` is the number of the line
 unfoldable pub groupsAt : ℕ → List ℕ → ℕ → ℕ → ℕ → ℕ → CellEntry → List (List CellEntry)
-groupsAt n m lo k place below e = groupsOf n (readNode fanout n m lo k) place (rankLine below) e
+groupsAt n m lo k place below e = groupsOf n (readNode fanout n m lo k) place (numberedLine below) e
 
 -- A routing node at part k, the place of the branch that was split, the number of its line, and the new entry's cell.
 pub record NodeHere (m : List ℕ) (level lo k place below : ℕ) (c : Cell) : Type 0 where
@@ -66,4 +63,4 @@ pub record LineFits (gs : List (List CellEntry)) : Type 0 where
 -- r is the number of the node's line, whatever the tag of the new entry
 abbrev pub NodeLineIs : List ℕ → ℕ → ℕ → ℕ → ℕ → ℕ → Cell → ℕ → Type 0
 NodeLineIs m level lo k place below c r =
-    (t : ℕ) → LineFits (groupsAt level m lo k place below (entryOf c t)) → LineIs r (nodeLine fanout (groupsAt level m lo k place below (entryOf c t)))
+    (t : Payload) → LineFits (groupsAt level m lo k place below (entryOf c t)) → LineIs r (nodeLine fanout (groupsAt level m lo k place below (entryOf c t)))

@@ -1,6 +1,7 @@
+pub mod Sides
 pub mod LineNumber
 pub mod FullLeaf
-pub mod Reached
-pub mod Bounds
+pub mod GroupExtent
+pub mod Extents
 pub mod Groups
-pub mod GroupBounds
+pub mod GroupExtents

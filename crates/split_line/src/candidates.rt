@@ -5,14 +5,14 @@ ghost use mathlib.Core.Bool.{true};
 ghost use Prim.Native.Nat.{_<_, _≤_};
 ghost use Rattle.geometry.specs.Cells.{valid};
 ghost use Rattle.tree.specs.Space.{left, right};
-ghost use Rattle.plane.specs.Candidates.{extentOn, rank, tried};
-ghost use Rattle.memory.specs.Fanout.{fanout};
-ghost use Rattle.split_line.specs.Bounds.{rectExtent, extentsIn, BoundsList, TriedLine, countsOf, addedCounts, countsFit, triedAt, bestRank};
+ghost use Rattle.plane.specs.Candidates.{extentOn, lineNumber, tried};
+ghost use Rattle.plane.specs.Fanout.{fanout};
+ghost use Rattle.split_line.specs.Extents.{rectExtent, extentsIn, ExtentList, TriedLine, countsOf, addedCounts, countsFit, triedAt, bestNumber};
+use crate::sides::Y_LINES;
 use geometry::Line;
 use geometry::Rect;
 use geometry::rect_at;
 use layout::FANOUT;
-use sides::Y_LINES;
 
 // The numbers of lines are below this.
 const LINES: u32 = 131072;
@@ -71,7 +71,7 @@ impl Counts {
     }
 }
 
-// Whether a branch with these bounds holds entries left of the line.
+// Whether a branch with this extent holds entries left of the line.
 fn is_left(r: Rect, line: Line) -> bool
     ensures { λ b. ⌜ b ≡ extentOn (left line) (rectExtent r) ⌝ }
 {
@@ -81,7 +81,7 @@ fn is_left(r: Rect, line: Line) -> bool
     }
 }
 
-// Whether a branch with these bounds holds entries right of the line.
+// Whether a branch with this extent holds entries right of the line.
 fn is_right(r: Rect, line: Line) -> bool
     requires { ⌜ valid r ≡ true ⌝ }
     ensures { λ b. ⌜ b ≡ extentOn (right line) (rectExtent r) ⌝ }
@@ -93,9 +93,9 @@ fn is_right(r: Rect, line: Line) -> bool
 }
 
 // The place of the line in document 01's order of lines.
-fn rank_of(line: Line) -> u32
-    requires { ⌜ rank line ≤ 131072 ⌝ }
-    ensures { λ r. ⌜ r ≡ rank line ⌝ }
+fn number_of(line: Line) -> u32
+    requires { ⌜ lineNumber line ≤ 131072 ⌝ }
+    ensures { λ r. ⌜ r ≡ lineNumber line ⌝ }
 {
     match line {
         Line::AtX(l) => l,
@@ -104,9 +104,9 @@ fn rank_of(line: Line) -> u32
 }
 
 // Counts the branches on the sides of the line.
-fn count_sides(bounds: &[u32], n: usize, line: Line) -> Counts
-    requires { ⌜ BoundsList (now bounds) n ⌝ }
-    ensures { λ r. ⌜ r ≡ countsOf (extentsIn (now (bounds .entry)) n) line ⌝ }
+fn count_sides(extents: &[u32], n: usize, line: Line) -> Counts
+    requires { ⌜ ExtentList (now extents) n ⌝ }
+    ensures { λ r. ⌜ r ≡ countsOf (extentsIn (now (extents .entry)) n) line ⌝ }
 {
     let mut counts = Counts {
         lefts: 0,
@@ -115,7 +115,7 @@ fn count_sides(bounds: &[u32], n: usize, line: Line) -> Counts
     };
     let mut i = 0;
     while i < n {
-        let r = rect_at(bounds, i);
+        let r = rect_at(extents, i);
         counts = counts.add(is_left(r, line), is_right(r, line));
         i += 1;
     }
@@ -123,15 +123,15 @@ fn count_sides(bounds: &[u32], n: usize, line: Line) -> Counts
 }
 
 // The least key so far after the line was tried: the key counts the branches on both sides first, then the place of the line.
-fn try_line(bounds: &[u32], n: usize, line: Line, key: u32) -> u32
-    requires { ⌜ TriedLine (now bounds) n line ⌝ }
-    ensures { λ r. ⌜ r ≡ tried fanout (extentsIn (now (bounds .entry)) n) key line ⌝ }
+fn try_line(extents: &[u32], n: usize, line: Line, key: u32) -> u32
+    requires { ⌜ TriedLine (now extents) n line ⌝ }
+    ensures { λ r. ⌜ r ≡ tried fanout (extentsIn (now (extents .entry)) n) key line ⌝ }
 {
-    let counts = count_sides(bounds, n, line);
+    let counts = count_sides(extents, n, line);
     if !counts.fit() {
         return key;
     }
-    let next = counts.both * LINES + rank_of(line);
+    let next = counts.both * LINES + number_of(line);
     if next < key {
         return next;
     }
@@ -139,26 +139,26 @@ fn try_line(bounds: &[u32], n: usize, line: Line, key: u32) -> u32
 }
 
 // The least key so far after the four lines behind the extremes of the i-th branch were tried.
-fn try_branch(bounds: &[u32], n: usize, i: usize, key: u32) -> u32
-    requires { ⌜ BoundsList (now bounds) n × (i < n) ⌝ }
-    ensures { λ r. ⌜ r ≡ triedAt (now (bounds .entry)) n i key ⌝ }
+fn try_branch(extents: &[u32], n: usize, i: usize, key: u32) -> u32
+    requires { ⌜ ExtentList (now extents) n × (i < n) ⌝ }
+    ensures { λ r. ⌜ r ≡ triedAt (now (extents .entry)) n i key ⌝ }
 {
-    let r = rect_at(bounds, i);
-    let first = try_line(bounds, n, Line::AtX(r.llx + 1), key);
-    let second = try_line(bounds, n, Line::AtX(r.urx), first);
-    let third = try_line(bounds, n, Line::AtY(r.lly + 1), second);
-    try_line(bounds, n, Line::AtY(r.ury), third)
+    let r = rect_at(extents, i);
+    let first = try_line(extents, n, Line::AtX(r.llx + 1), key);
+    let second = try_line(extents, n, Line::AtX(r.urx), first);
+    let third = try_line(extents, n, Line::AtY(r.lly + 1), second);
+    try_line(extents, n, Line::AtY(r.ury), third)
 }
 
 // The number of the fitting line with fewest branches on both sides, ties to x, then to the smaller line.
-pub fn best_line(bounds: &[u32], n: usize) -> u32
-    requires { ⌜ BoundsList (now bounds) n ⌝ }
-    ensures { λ r. ⌜ r ≡ bestRank (extentsIn (now (bounds .entry)) n) ⌝ }
+pub fn best_line(extents: &[u32], n: usize) -> u32
+    requires { ⌜ ExtentList (now extents) n ⌝ }
+    ensures { λ r. ⌜ r ≡ bestNumber (extentsIn (now (extents .entry)) n) ⌝ }
 {
     let mut key: u32 = 4294967295;
     let mut i = 0;
     while i < n {
-        key = try_branch(bounds, n, i, key);
+        key = try_branch(extents, n, i, key);
         i += 1;
     }
     key % LINES

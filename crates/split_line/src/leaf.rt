@@ -1,11 +1,11 @@
 // The line of a leaf.
 ghost use mathlib.Core.Path.{_≡_};
 ghost use Rattle.split_line.specs.FullLeaf.{entriesOf, LeafHere, LeafLineIs, sumsOf, addedSums, SmallSums};
+use crate::sides::Y_LINES;
 use geometry::Cell;
 use layout::Node;
 use layout::cell;
 use layout::item_count;
-use sides::Y_LINES;
 
 // The sums of coordinates and of their squares.
 struct Sums {

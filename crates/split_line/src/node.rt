@@ -4,46 +4,46 @@ ghost use mathlib.Core.Bool.{true};
 ghost use lib.ListN.{length};
 ghost use Rattle.geometry.specs.Cells.{onGrid};
 ghost use Rattle.geometry.specs.Numbers.{Appended};
-ghost use Rattle.index.specs.Count.{entriesAt};
-ghost use Rattle.sides.specs.Sides.{sideOf};
-ghost use Rattle.split_line.specs.Reached.{boundsOf};
+ghost use Rattle.walks.specs.Count.{entriesAt};
+ghost use Rattle.split_line.specs.Sides.{sideOf};
+ghost use Rattle.split_line.specs.GroupExtent.{extentRectOf};
 ghost use Rattle.split_line.specs.Groups.{NodeHere, NodeLineIs};
-ghost use Rattle.split_line.specs.GroupBounds.{GridNode, sideBounds, branchBounds, BranchHere, GroupBounds};
+ghost use Rattle.split_line.specs.GroupExtents.{GridNode, sideExtent, branchExtents, BranchHere, GroupExtents};
 use crate::candidates::best_line;
-use crate::reach::reach_under;
+use crate::extent::extent_under;
+use crate::sides::is_on;
+use crate::sides::left_side;
+use crate::sides::right_side;
 use geometry::Cell;
 use geometry::Rect;
 use geometry::put_rect;
 use layout::child;
 use layout::node_at;
-use sides::is_on;
-use sides::left_side;
-use sides::right_side;
 
-// The bounds of the entries below the node at part k.
-fn whole_bounds(m: &[u32], level: u32, lo: u32, k: u32) -> Rect
+// The extents of the entries below the node at part k.
+fn whole_extent(m: &[u32], level: u32, lo: u32, k: u32) -> Rect
     requires { ⌜ GridNode level (now m) lo k ⌝ }
-    ensures { λ r. ⌜ r ≡ boundsOf (entriesAt level (now (m .entry)) lo k) ⌝ }
+    ensures { λ r. ⌜ r ≡ extentRectOf (entriesAt level (now (m .entry)) lo k) ⌝ }
 {
     let no_sides: [u32; 0] = [];
-    let reach = reach_under(m, level, lo, k, &no_sides);
-    reach.bounds
+    let extent = extent_under(m, level, lo, k, &no_sides);
+    extent.rect
 }
 
-// The bounds of those of them, with one at the cell c, that are on the side.
-fn side_bounds(m: &[u32], level: u32, lo: u32, k: u32, side: u32, c: Cell) -> Rect
+// The extents of those of them, with one at the cell c, that are on the side.
+fn side_extent(m: &[u32], level: u32, lo: u32, k: u32, side: u32, c: Cell) -> Rect
     requires { ⌜ GridNode level (now m) lo k × (onGrid c ≡ true) ⌝ }
-    ensures { λ r. ⌜ r ≡ sideBounds level (now (m .entry)) lo k (sideOf side) c ⌝ }
+    ensures { λ r. ⌜ r ≡ sideExtent level (now (m .entry)) lo k (sideOf side) c ⌝ }
 {
     let sides = [side];
-    let mut reach = reach_under(m, level, lo, k, &sides);
+    let mut extent = extent_under(m, level, lo, k, &sides);
     if is_on(side, c) {
-        reach = reach.add(c);
+        extent = extent.add(c);
     }
-    reach.bounds
+    extent.rect
 }
 
-// Writes the bounds of the branch at part k from the at-th place of the list on: of both its halves where it was split at the line `below`;
+// Writes the extents of the branch at part k from the at-th place of the list on: of both its halves where it was split at the line `below`;
 // answers the next place.
 fn put_branch(
     m: &[u32],
@@ -57,22 +57,22 @@ fn put_branch(
     at: usize,
 ) -> usize
     requires { ⌜ BranchHere level (now m) lo k halved below c (now list) at ⌝ }
-    ensures { λ r. ⌜ Appended (now (list .entry)) at (branchBounds level (now (m .entry)) lo k halved below c) 2 (now (list .exit)) r ⌝ }
+    ensures { λ r. ⌜ Appended (now (list .entry)) at (branchExtents level (now (m .entry)) lo k halved below c) 2 (now (list .exit)) r ⌝ }
 {
     if halved {
-        let left = side_bounds(m, level, lo, k, left_side(below), c);
-        let right = side_bounds(m, level, lo, k, right_side(below), c);
+        let left = side_extent(m, level, lo, k, left_side(below), c);
+        let right = side_extent(m, level, lo, k, right_side(below), c);
         put_rect(list, at, left);
         put_rect(list, at + 1, right);
         return at + 2;
     }
-    let whole = whole_bounds(m, level, lo, k);
+    let whole = whole_extent(m, level, lo, k);
     put_rect(list, at, whole);
     at + 1
 }
 
-// Writes the bounds of the groups of the node at part k to the list; answers how many there are.
-fn put_bounds(
+// Writes the extents of the groups of the node at part k to the list; answers how many there are.
+fn put_extents(
     m: &[u32],
     level: u32,
     lo: u32,
@@ -83,7 +83,7 @@ fn put_bounds(
     list: &mut [u32],
 ) -> usize
     requires { ⌜ NodeHere (now m) level lo k place below c × (length (now list) ≡ 36) ⌝ }
-    ensures { λ r. ⌜ GroupBounds (now (m .entry)) level lo k place below c (now (list .exit)) r ⌝ }
+    ensures { λ r. ⌜ GroupExtents (now (m .entry)) level lo k place below c (now (list .exit)) r ⌝ }
 {
     let node = node_at(m, k);
     let n = node.count;
@@ -105,7 +105,7 @@ pub fn node_line(m: &[u32], level: u32, lo: u32, k: u32, place: u32, below: u32,
     ensures { λ r. ⌜ NodeLineIs (now (m .entry)) level lo k place below c r ⌝ }
 {
     // of nine groups, four numbers each
-    let mut bounds = [0u32; 36];
-    let n = put_bounds(m, level, lo, k, place, below, c, &mut bounds);
-    best_line(&bounds, n)
+    let mut extents = [0u32; 36];
+    let n = put_extents(m, level, lo, k, place, below, c, &mut extents);
+    best_line(&extents, n)
 }

@@ -1,18 +1,14 @@
 -- Lemmas on any, first and bind.
 use Prim.Native.Nat.{ℕ}
-use mathlib.Core.Bool.{Bool, true, false, _&&_, _||_, or-assoc, or-true, false≢true, cond}
+use mathlib.Core.Bool.{Bool, true, false, _&&_, _||_, or-true, false≢true, cond, and-or-distrib-right}
 use mathlib.Core.Path.{_≡_, refl, sym, ap, _∙_}
 use mathlib.Core.List.{List, [], _∷_, _++_, flatMap}
 use mathlib.Core.Option.{bind, Option, none, some}
 use native.Mathlib.Omega.{arith}
 use Rattle.polygons.specs.Lists.{any}
+use Rattle.polygons.proofs.ListLaws.{any-append}
 use Rattle.tree.specs.Lists.{All, keep, notEmpty}
 use Rattle.tree.specs.Search.{Focus, pushed, first}
-
-pub any-append : {A : Type 0} (t : A → Bool) (l m : List A) → any t (l ++ m) ≡ any t l || any t m
-unfolding any
-any-append t [] m = refl
-any-append t (a ∷ l) m = rw (any-append t l m, or-assoc)
 
 pub any-flatMap : {A C : Type 0} (t : C → Bool) (f : A → List C) (l : List A) → any t (flatMap f l) ≡ any (λ a. any t (f a)) l
 unfolding any flatMap
@@ -24,17 +20,10 @@ unfolding any
 any-same t u [] h = refl
 any-same t u (a ∷ l) h = rw (h a, any-same t u l h)
 
-or-and : (a b c : Bool) → (a || b) && c ≡ (a && c) || (b && c)
-or-and true true true = refl
-or-and true true false = refl
-or-and true false true = refl
-or-and true false false = refl
-or-and false b c = refl
-
 pub any-and : {A : Type 0} (t : A → Bool) (b : Bool) (l : List A) → any (λ a. t a && b) l ≡ any t l && b
 unfolding any
 any-and t b [] = refl
-any-and t b (a ∷ l) = ap (λ x. (t a && b) || x) (any-and t b l) ∙ sym (or-and (t a) (any t l) b)
+any-and t b (a ∷ l) = ap (λ x. (t a && b) || x) (any-and t b l) ∙ sym (and-or-distrib-right (t a) (any t l) b)
 
 pub any-left : {A : Type 0} (t : A → Bool) (b : Bool) (l : List A) → any (λ a. b && t a) l ≡ b && any t l
 unfolding any

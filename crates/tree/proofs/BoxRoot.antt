@@ -5,12 +5,12 @@ use mathlib.Core.List.{List, [], _∷_, map}
 use lib.ListN.{length, length-map}
 use native.Mathlib.Omega.{arith}
 use Rattle.polygons.specs.Lists.{any}
+use Rattle.polygons.proofs.Booleans.{split-and}
 use Rattle.tree.specs.Lists.{All, notEmpty}
 use Rattle.tree.specs.Boxes.{Boxes, Poly, anyHas}
 use Rattle.tree.specs.BoxSpace.{spaceOf, rootOf, windowOf}
 use Rattle.tree.proofs.Laws.{RootLaws, WindowLaws}
 use Rattle.tree.proofs.BoxLaws.{BoxLaws, RootBoxLaws}
-use Rattle.tree.proofs.Booleans.{split-and}
 
 module _ (B : Boxes) (W : BoxLaws B) (cellBox : B .Cell → B .Box) (X : RootBoxLaws B cellBox) where
   one-has : (r : B .Box) (c : B .Cell) → B .has r c ≡ true → anyHas B (r ∷ []) c ≡ true

@@ -5,18 +5,19 @@ use mathlib.Core.Path.{_≡_, sym, _∙_}
 use mathlib.Core.List.{List, flatMap}
 use lib.ListN.{length}
 use native.Mathlib.Omega.{arith}
+use Rattle.polygons.proofs.Booleans.{split-and}
+use Rattle.polygons.proofs.ListLaws.{length-flatMap}
 use Rattle.tree.specs.Lists.{All, Pairs}
 use Rattle.tree.specs.Nodes.{on, entryOn, EntryOf}
 use Rattle.tree.specs.Boxes.{Boxes, anyHas, clipPoly}
 use Rattle.tree.specs.BoxSpace.{spaceOf}
 use Rattle.tree.specs.Sound.{Apart}
-use Rattle.tree.proofs.Lists.{all-map, all-flatMap, length-flatMap}
+use Rattle.tree.proofs.Lists.{all-map, all-flatMap}
 use Rattle.tree.proofs.Laws.{Laws, Steps, Fit, onSide}
 use Rattle.tree.proofs.Step2.{chose, chose-row}
 use Rattle.tree.proofs.Any.{any-from}
 use Rattle.tree.proofs.BoxLaws.{BoxLaws}
 use Rattle.tree.proofs.GrownPolygon.{clip-poly, has-some}
-use Rattle.tree.proofs.Booleans.{split-and}
 use Rattle.tree.proofs.PolyDistance.{poly-low, poly-met}
 
 -- The laws of the plane.

@@ -16,7 +16,7 @@ use Rattle.tree.specs.Removed.{removedTotal}
 use Rattle.tree.specs.Remove.{other, remove}
 use Rattle.tree.specs.Query.{ofCell, Window, holds}
 use Rattle.tree.specs.Nearest.{nearest, walk}
-use Rattle.tree.specs.Calls.{Call, insertCall, removeCall, clearCall, pointCall, windowCall, nearestCall, emptyCall, Answer, refusal, inserted, isAccepted, outcomeAnswer, insertedAnswer, outcomeIndex, insertion, nearestEnd, answer, after, afterAll, answers}
+use Rattle.tree.specs.Calls.{Call, insertCall, removeCall, clearCall, pointCall, windowCall, nearestCall, emptyCall, Answer, refusal, inserted, reports, isAccepted, outcomeAnswer, outcomeIndex, insertion, nearestEnd, answer, after, afterAll, answers}
 use Rattle.tree.specs.Record.{recorded, recordOf}
 use Rattle.tree.specs.Claim.{Reported, ReportedAll, IndexClaim, OnGrid, Claim}
 use Rattle.tree.proofs.Counts.{countOf-both, countOf-append, countOf-keep, countOf-every}
@@ -72,7 +72,7 @@ module _ (S : Space) (W : Laws S) (T : Steps S) (R : Root S) (X : RootLaws S R) 
     same = λ q. ap (countOf q) (remove-entries S c i) ∙ countOf-keep q (other S c) (entries S i) ∙ s .same (λ e. other S c e && q e) ∙ sym (countOf-keep q (other S c) r);
   }
 
-  insert-step : (i : Index S) (r : List (EntryOf S)) (e : EntryOf S) → S .Real (e .cell) → State i r → (o : Outcome S) → insertion S R N i e ≡ o → Stepped i r (insertCall e) (outcomeIndex S i o) (insertedAnswer S (removedTotal S R i (e .cell)) o)
+  insert-step : (i : Index S) (r : List (EntryOf S)) (e : EntryOf S) → S .Real (e .cell) → State i r → (o : Outcome S) → insertion S R N i e ≡ o → Stepped i r (insertCall e) (outcomeIndex S i o) (outcomeAnswer S (λ n. inserted n (removedTotal S R i (e .cell))) o)
   insert-step i r e on s (refused n) h = refused-step i r (insertCall e) n s
   insert-step i r e on s (accepted j) h = go (holds S (e .cell) i) refl h
     where
@@ -82,7 +82,7 @@ module _ (S : Space) (W : Laws S) (T : Steps S) (R : Root S) (X : RootLaws S R) 
           let t = inserted-state i j r e s (insert-accepted S W T R X wide N i e j h (s .sound) on f) in
           unfold recorded in record { state = t; report = long j (r ++ (e ∷ [])) t }
 
-  remove-step : (i : Index S) (r : List (EntryOf S)) (c : S .Cell) → State i r → (b : Bool) → Stepped i r (removeCall c) (outcomeIndex S i (cond b (accepted (remove S c i)) (refused 6))) (outcomeAnswer S (cond b (accepted (remove S c i)) (refused 6)))
+  remove-step : (i : Index S) (r : List (EntryOf S)) (c : S .Cell) → State i r → (b : Bool) → Stepped i r (removeCall c) (outcomeIndex S i (cond b (accepted (remove S c i)) (refused 6))) (outcomeAnswer S reports (cond b (accepted (remove S c i)) (refused 6)))
   unfolding recorded
   remove-step i r c s true = let t = removed-state i r c s in record { state = t; report = long (remove S c i) (keep (other S c) r) t }
   remove-step i r c s false = refused-step i r (removeCall c) 6 s

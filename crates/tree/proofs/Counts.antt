@@ -6,9 +6,9 @@ use mathlib.Core.List.{List, [], _∷_, _++_, append-nil, flatMap}
 use lib.ListN.{length, getD, length-append}
 use native.Mathlib.Omega.{arith}
 use Rattle.polygons.specs.Lists.{any}
+use Rattle.polygons.proofs.Booleans.{is-false, not-both}
 use Rattle.tree.specs.Lists.{keep, total, All, Pairs, countOf}
 use Rattle.tree.proofs.Lists.{keep-append, all-map, all-both-map, all-at}
-use Rattle.tree.proofs.Booleans.{not-true, contrary}
 
 pub flatMap-none : {A B : Type 0} (f : A → List B) (l : List A) → All (λ a. f a ≡ []) l → flatMap f l ≡ []
 unfolding flatMap All
@@ -132,8 +132,8 @@ module _ {A : Type 0} (t : A → Bool) where
       (all-map (λ b. t a ≡ true → t b ≡ false) (λ b. cond (t b) (f b) 0 ≡ 0) l (λ b g. rw (g e)) (p .0)) in
       rw e (omega arith)
   total-only f (a ∷ l) (suc i) d p h e =
-      let k : t a ≡ false = not-true (t a)
-      (λ g. contrary (t (getD l i d)) e (all-at (λ b. t a ≡ true → t b ≡ false) l i d (omega arith) (p .0) g)) in
+      let k : t a ≡ false = is-false (t a)
+      (λ g. not-both (t (getD l i d)) e (all-at (λ b. t a ≡ true → t b ≡ false) l i d (omega arith) (p .0) g)) in
       let z = total-only f l i d (p .1) (omega arith) e in
       rw k (omega arith)
 
@@ -147,6 +147,6 @@ module _ {A : Type 0} (t : A → Bool) where
       (all-map (λ b. t a ≡ true → t b ≡ false) (λ b. cond (t b) (f b) [] ≡ []) l (λ b g. rw (g e)) (p .0)) in
       rw (e, z) (append-nil (f a))
   flatMap-only f (a ∷ l) (suc i) d p h e =
-      let k : t a ≡ false = not-true (t a)
-      (λ g. contrary (t (getD l i d)) e (all-at (λ b. t a ≡ true → t b ≡ false) l i d (omega arith) (p .0) g)) in
+      let k : t a ≡ false = is-false (t a)
+      (λ g. not-both (t (getD l i d)) e (all-at (λ b. t a ≡ true → t b ≡ false) l i d (omega arith) (p .0) g)) in
       rw k (flatMap-only f l i d (p .1) (omega arith) e)

@@ -13,27 +13,20 @@ use Rattle.tree.specs.Sound.{Apart, SoundItem}
 use Rattle.tree.specs.Root.{Root}
 use Rattle.tree.specs.Tree.{Tree, SoundTree, Sound, Index, height, nodeCount, top}
 use Rattle.tree.specs.Depth.{itemEdges, edges, itemPolygons, itemPolygonsAt, itemDepths, polygons, leafDepths, polygonsAt}
-use Rattle.tree.proofs.Lists.{all-append, all-of-map, all-map, all-any, all-flatMap, Across, pairs-flatMap-all, pairs-with}
-
--- of two elements at different places
-all-at : {A : Type 0} (P : A → Type 0) (l : List A) (i : ℕ) (a : A) → All P l → nth l i ≡ some a → P a
-unfolding All nth
-all-at P [] i a h e = let z : _≡_ {A = ℕ} 0 1 = cc in absurd (omega arith)
-all-at P (x ∷ l) zero a h e = let q : a ≡ x = cc in rw q (h .0)
-all-at P (x ∷ l) (suc i) a h e = all-at P l i a (h .1) e
+use Rattle.tree.proofs.Lists.{all-append, all-of-map, all-map, all-any, all-flatMap, Across, pairs-flatMap-all, pairs-with, all-nth}
 
 pairs-at : {A : Type 0} (R : A → A → Type 0) (l : List A) (i j : ℕ) (a b : A) → ((x y : A) → R x y → R y x) → Pairs R l → nth l i ≡ some a → nth l j ≡ some b → (R a b → ⊥) → i ≡ j
 unfolding Pairs nth
 pairs-at R [] i j a b s h e f n = let z : _≡_ {A = ℕ} 0 1 = cc in absurd (omega arith)
 pairs-at R (x ∷ l) zero zero a b s h e f n = refl
-pairs-at R (x ∷ l) zero (suc j) a b s h e f n = let q : a ≡ x = cc in absurd (n (rw q (all-at (R x) l j b (h .0) f)))
-pairs-at R (x ∷ l) (suc i) zero a b s h e f n = let q : b ≡ x = cc in absurd (n (rw q (s x a (all-at (R x) l i a (h .0) e))))
+pairs-at R (x ∷ l) zero (suc j) a b s h e f n = let q : a ≡ x = cc in absurd (n (rw q (all-nth (R x) l j b f (h .0))))
+pairs-at R (x ∷ l) (suc i) zero a b s h e f n = let q : b ≡ x = cc in absurd (n (rw q (s x a (all-nth (R x) l i a e (h .0)))))
 pairs-at R (x ∷ l) (suc i) (suc j) a b s h e f n = ap suc (pairs-at R l i j a b s (h .1) e f n)
 
-length-flatMap : {A B : Type 0} (f : A → List B) (g : A → ℕ) (l : List A) → ((a : A) → length (f a) ≡ g a) → length (flatMap f l) ≡ total g l
+flatMap-total : {A B : Type 0} (f : A → List B) (g : A → ℕ) (l : List A) → ((a : A) → length (f a) ≡ g a) → length (flatMap f l) ≡ total g l
 unfolding flatMap total
-length-flatMap f g [] h = refl
-length-flatMap f g (a ∷ l) h = length-append (f a) (flatMap f l) ∙ rw (h a, length-flatMap f g l h)
+flatMap-total f g [] h = refl
+flatMap-total f g (a ∷ l) h = length-append (f a) (flatMap f l) ∙ rw (h a, flatMap-total f g l h)
 
 module _ (S : Space) where
   -- The two polygons share no cell.
@@ -85,7 +78,7 @@ module _ (S : Space) where
   polygons-count : (n : ℕ) (x : Item S n) → length (itemPolygons S n x) ≡ nodes S n x
   unfolding itemPolygons nodes
   polygons-count zero e = refl
-  polygons-count (suc n) b = let i = length-flatMap (itemPolygons S n) (nodes S n) (b .child) (polygons-count n) in omega arith
+  polygons-count (suc n) b = let i = flatMap-total (itemPolygons S n) (nodes S n) (b .child) (polygons-count n) in omega arith
 
   -- Each child below a branch is within its parent.
   edges-below : (n : ℕ) (p : S .Poly) (b : Item S (suc n)) → SoundItem S (suc n) p b → All (λ e. (c : S .Cell) → S .has (e .below) c ≡ true → S .has (e .parent) c ≡ true) (itemEdges S n b)

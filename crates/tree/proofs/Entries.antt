@@ -3,9 +3,9 @@ use mathlib.Core.Bool.{Bool, true, _&&_}
 use mathlib.Core.Path.{_≡_, refl}
 use lib.Dec.{eqb}
 use borrow.Author.Tests.{eqb-true, eq-eqb}
+use Rattle.polygons.proofs.Booleans.{split-and, both}
 use Rattle.tree.specs.Space.{Space}
 use Rattle.tree.specs.Nodes.{EntryOf}
-use Rattle.tree.proofs.Booleans.{split-and, both}
 use Rattle.tree.proofs.Laws.{Laws}
 
 module _ (S : Space) where

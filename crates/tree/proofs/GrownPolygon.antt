@@ -1,6 +1,6 @@
 -- The polygon that step 2 gives: its cells are the old ones and those of the grown rectangle within the parent and outside the siblings.
 use Prim.Native.Nat.{_≤_}
-use mathlib.Core.Bool.{Bool, true, false, _&&_, _||_, not, or-false, or-true, false≢true}
+use mathlib.Core.Bool.{Bool, true, false, _&&_, _||_, not, or-false, false≢true}
 use mathlib.Core.Path.{_≡_, refl, sym, ap, _∙_, subst}
 use mathlib.Core.List.{[], _∷_, _++_, flatMap}
 use mathlib.Core.Option.{some}
@@ -15,17 +15,13 @@ use Rattle.tree.specs.Nodes.{on}
 use Rattle.tree.specs.Boxes.{Boxes, anyHas, GoodPolygon, clipPoly, Poly}
 use Rattle.tree.specs.Search.{Focus}
 use Rattle.polygons.specs.Rules.{cutEach, commons}
+use Rattle.polygons.proofs.Booleans.{is-false, neither-of, or-left, or-right}
+use Rattle.polygons.proofs.ListLaws.{any-append}
 use Rattle.tree.specs.Step2.{grownPoly}
 use Rattle.tree.specs.BoxSpace.{spaceOf}
 use Rattle.tree.proofs.BoxLaws.{BoxLaws}
 use Rattle.tree.proofs.Lists.{all-append, all-first, all-second, all-map, all-any, all-flatMap, all-tail}
-use Rattle.tree.proofs.Any.{bind-some, any-append, any-flatMap, any-same, any-and, any-left}
-use Rattle.tree.proofs.Booleans.{not-true}
-
-cut-more : (a b c : Bool) → (a && not b) && not c ≡ a && not (b || c)
-cut-more true true c = refl
-cut-more true false c = refl
-cut-more false b c = refl
+use Rattle.tree.proofs.Any.{bind-some, any-flatMap, any-same, any-and, any-left}
 
 and-true : (a : Bool) → a ≡ a && true
 and-true true = refl
@@ -50,7 +46,7 @@ module _ (B : Boxes) (W : BoxLaws B) where
       cut-each (f .0) ss m c (f .2)
       ∙ ap (λ (x : Poly B). any (λ r. B .has r c) x && not (any (λ r. B .has r c) ss)) g
       ∙ ap (λ (x : Bool). x && not (any (λ r. B .has r c) ss)) (any-flatMap (λ q. B .has q c) (λ r. B .cut r s) l ∙ any-same (λ r. any (λ q. B .has q c) (B .cut r s)) (λ r. B .has r c && not (B .has s c)) l (λ r. W .cut-cells r s c) ∙ any-and (λ r. B .has r c) (not (B .has s c)) l)
-      ∙ cut-more (any (λ r. B .has r c) l) (B .has s c) (any (λ r. B .has r c) ss)
+      ∙ neither-of (any (λ r. B .has r c) l) (B .has s c) (any (λ r. B .has r c) ss)
 
   -- the cells of the common parts
   pub commons-cells : (l p : Poly B) (c : B .Cell) → anyHas B (commons (B .common) l p) c ≡ anyHas B l c && anyHas B p c
@@ -138,12 +134,6 @@ module _ (B : Boxes) (W : BoxLaws B) where
   unfolding anyHas any
   cells-of k d = any-append (λ r. B .has r d) (k .before) (k .at ∷ k .after)
 
-  or-first : (a b : Bool) → a ≡ true → a || b ≡ true
-  or-first a b h = rw h
-
-  or-second : (a b : Bool) → b ≡ true → a || b ≡ true
-  or-second a b h = rw (h, or-true)
-
   -- the grown polygon, with the siblings' boxes ss
   pub record GrownGood (p ss old q : Poly B) (c : B .Cell) : Type 0 where
     pub cell : anyHas B q c ≡ true
@@ -157,13 +147,13 @@ module _ (B : Boxes) (W : BoxLaws B) where
   grown-good p ss old k c q h e fp fo pc sc w x = record {
     cell = here;
     keeps = λ d t. rw (cells d) (three (anyHas B (k .before) d) (B .has (k .at) d) (anyHas B (k .after) d) (out d ≡ true) (rw (old-cells d) at t)
-        (λ u. or-first _ _ u)
-        (λ u. middle (anyHas B (k .before) d) (B .has (B .grow (k .at) c) d) (anyHas B ss d) (anyHas B p d) (anyHas B (k .after) d) (W .grow-old (k .at) c d u) (not-true (anyHas B ss d) (λ v. x d v t)) (w d t))
-        (λ u. or-second (anyHas B (k .before) d) _ (or-second ((B .has (B .grow (k .at) c) d && not (anyHas B ss d)) && anyHas B p d) _ u)));
+        (λ u. or-left _ _ u)
+        (λ u. middle (anyHas B (k .before) d) (B .has (B .grow (k .at) c) d) (anyHas B ss d) (anyHas B p d) (anyHas B (k .after) d) (W .grow-old (k .at) c d u) (is-false (anyHas B ss d) (λ v. x d v t)) (w d t))
+        (λ u. or-right (anyHas B (k .before) d) _ (or-right ((B .has (B .grow (k .at) c) d && not (anyHas B ss d)) && anyHas B p d) _ u)));
     inside = λ d t. from-middle (anyHas B p d ≡ true) (anyHas B (k .before) d) (B .has (B .grow (k .at) c) d) (anyHas B ss d) (anyHas B p d) (anyHas B (k .after) d) (rw (cells d) at t)
-        (λ u. w d (was d (or-first _ _ u))) (λ n u. u) (λ u. w d (was d (or-second (anyHas B (k .before) d) _ (or-second (B .has (k .at) d) _ u))));
+        (λ u. w d (was d (or-left _ _ u))) (λ n u. u) (λ u. w d (was d (or-right (anyHas B (k .before) d) _ (or-right (B .has (k .at) d) _ u))));
     clear = λ d s t. from-middle ⊥ (anyHas B (k .before) d) (B .has (B .grow (k .at) c) d) (anyHas B ss d) (anyHas B p d) (anyHas B (k .after) d) (rw (cells d) at t)
-        (λ u. x d s (was d (or-first _ _ u))) (λ n u. false≢true (sym n ∙ s)) (λ u. x d s (was d (or-second (anyHas B (k .before) d) _ (or-second (B .has (k .at) d) _ u))));
+        (λ u. x d s (was d (or-left _ _ u))) (λ n u. false≢true (sym n ∙ s)) (λ u. x d s (was d (or-right (anyHas B (k .before) d) _ (or-right (B .has (k .at) d) _ u))));
     fine = record { lower = has-some q c here; upper = all .1; valid = all .0 };
   }
     where

@@ -14,7 +14,7 @@ use Rattle.tree.specs.Nodes.{EntryOf, Item, itemHas, held, nodes}
 use Rattle.tree.specs.Sound.{SoundItem, SoundItems}
 use Rattle.tree.specs.Root.{Root}
 use Rattle.tree.specs.Tree.{Tree, Index, entries, nodeCount, SoundTree, Sound, height}
-use Rattle.tree.specs.Insert.{insertAt, rooted, refused, accepted, limited, insertTree, insert}
+use Rattle.tree.specs.Insert.{Outcome, insertAt, rooted, refused, accepted, limited, insertTree, insert}
 use Rattle.tree.specs.Plan.{Way, descend, build}
 use Rattle.tree.specs.Query.{ofCell, holds}
 use Rattle.tree.proofs.Lists.{all-map}
@@ -23,7 +23,7 @@ use Rattle.tree.proofs.Keeps.{Good, Shape, one, two, sound-wider}
 use Rattle.tree.proofs.InsertAt.{Fresh, insert-good}
 use Rattle.tree.proofs.Any.{bind-some, any-false}
 use Rattle.tree.proofs.InsertEntries.{insert-adds}
-use Rattle.tree.proofs.Emission.{insert-is}
+use Rattle.tree.proofs.OnePass.{insert-is}
 use Rattle.tree.proofs.NodesGrow.{splits, way-nodes}
 
 module _ (S : Space) where
@@ -152,7 +152,7 @@ module _ (S : Space) where
     pub insert-accepted : (N : ℕ) (i : Index S) (e : EntryOf S) (j : Index S) → insert S R N i e ≡ accepted j → Sound S R i → S .Real (e .cell) → holds S (e .cell) i ≡ false → Inserted N i e j
     insert-accepted N i e j h s on f = go (insertTree S R i e) refl h
       where
-        kept : (t′ : Tree S) → insertTree S R i e ≡ some t′ → (b : Bool) → leb (nodeCount S (some t′)) N ≡ b → cond b (accepted (some t′)) (refused 8) ≡ accepted j → Inserted N i e j
+        kept : (t′ : Tree S) → insertTree S R i e ≡ some t′ → (b : Bool) → leb (nodeCount S (some t′)) N ≡ b → cond {A = Outcome S} b (accepted (some t′)) (refused 8) ≡ accepted j → Inserted N i e j
         kept t′ k true m h =
             let q : j ≡ some t′ = cc in
             rw q (record { sound = insert-sound i e t′ k s on f; room = leb-true (nodeCount S (some t′)) N m; adds = insert-entries i e t′ k; grows = nodes-grow i e t′ k s on f })

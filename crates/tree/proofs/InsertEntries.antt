@@ -7,12 +7,13 @@ use mathlib.Core.Option.{some}
 use lib.ListN.{length}
 use lib.Dec.{leb}
 use native.Mathlib.Omega.{arith}
+use Rattle.polygons.proofs.ListLaws.{flatMap-append}
 use Rattle.tree.specs.Lists.{keep, countOf}
 use Rattle.tree.specs.Space.{Space, left, right, Chosen}
 use Rattle.tree.specs.Nodes.{EntryOf, Item, entryOn, held}
 use Rattle.tree.specs.Split.{half, lineOf, halves, split}
 use Rattle.tree.specs.Insert.{insertAt}
-use Rattle.tree.proofs.Lists.{flatMap-append, flatMap-single}
+use Rattle.tree.proofs.Lists.{flatMap-single, all-any}
 use Rattle.tree.proofs.Laws.{Steps}
 use Rattle.tree.proofs.Halves.{held-half}
 use Rattle.tree.proofs.Counts.{countOf-append}
@@ -21,7 +22,7 @@ use Rattle.tree.proofs.Any.{bind-some}
 module _ (S : Space) where
   pub held-zero : (es : List (EntryOf S)) → flatMap (held S zero) es ≡ es
   unfolding held
-  held-zero es = flatMap-single (held S zero) es (λ a. refl)
+  held-zero es = flatMap-single (held S zero) es (all-any _ es (λ a. refl))
 
   -- the entries: those before and the new one
   pub countOf-sides : (q : EntryOf S → Bool) (l : S .Line) (es : List (EntryOf S)) → countOf q (keep (entryOn S (left l)) es) + countOf q (keep (entryOn S (right l)) es) ≡ countOf q es

@@ -7,16 +7,17 @@ use lib.ListN.{length, length-append}
 use lib.Dec.{leb}
 use native.Mathlib.Omega.{arith}
 use borrow.Author.Tests.{leb-true, leb-false}
+use Rattle.polygons.proofs.ListLaws.{flatMap-append, length-flatMap}
 use Rattle.tree.specs.Lists.{All, Pairs}
 use Rattle.tree.specs.Space.{Space, Side, left, right, Chosen}
 use Rattle.tree.specs.Nodes.{Item, itemHas}
 use Rattle.tree.specs.Sound.{Apart, Count, SoundItem, SoundItems}
 use Rattle.tree.specs.Split.{branchIf, half, halfItems, lineOf, halves, split}
-use Rattle.tree.proofs.Lists.{flatMap-append, length-flatMap, all-append, all-first, all-second, all-map, Across, pairs-append, pairs-parts, pairs-one, all-tail, pairs-tail}
+use Rattle.tree.proofs.Lists.{all-append, all-first, all-second, all-map, Across, pairs-append, pairs-parts, pairs-one, all-tail, pairs-tail}
 use Rattle.tree.proofs.Laws.{Laws, Chose, Steps}
 use Rattle.tree.proofs.Halves.{half-one, row-half, apart-sides}
 use Rattle.tree.proofs.Prune.{sound-cell}
-use Rattle.tree.proofs.Sides.{none-left, none-right, again}
+use Rattle.tree.proofs.Sides.{none-left, none-right, again, length-branchIf}
 use Rattle.tree.proofs.Fits.{FitAt}
 
 module _ (S : Space) where
@@ -50,10 +51,6 @@ module _ (S : Space) where
     two-shape n l x (a ∷ []) (b ∷ b′ ∷ bs) h k p q r s = absurd (omega arith)
     two-shape n l x (a ∷ []) (b ∷ []) h k p q r s = two l a b (p .0) (q .0) (r .0) (s .0)
 
-    one-if : {A : Type 0} (p : S .Poly) (l : List A) → 1 ≤ length l → length (branchIf S p l) ≡ 1
-    one-if p [] h = absurd (omega arith)
-    one-if p (x ∷ l) h = omega arith
-
     sound-if : (n : ℕ) (p q : S .Poly) (l : List (Item S n)) → Sub q p → ((c : S .Cell) → S .has q c ≡ true → S .Fine q) → Count S l → SoundItems S n q l → All (SoundItem S (suc n) p) (branchIf S q l)
     unfolding All SoundItem itemHas
     sound-if n p q [] w f m r = tt
@@ -81,7 +78,7 @@ module _ (S : Space) where
         half-good s m = unfold half in sound-if n p (S .clip s p) (halfItems S n s items) (W .clip-old s p) (λ c. W .clip-fine s p c fine) m (row-half S W n s p items r)
 
         single : (s : Side (S .Line)) → Count S (halfItems S n s items) → length (half S (suc n) s (record { poly = p; child = items })) ≡ 1
-        single s m = unfold half in one-if (S .clip s p) (halfItems S n s items) (m .0)
+        single s m = unfold half in length-branchIf S (S .clip s p) (halfItems S n s items) (m .0)
 
     -- a split node is sound, if its line fits where it has one too many
     pub split-good : (n : ℕ) (p : S .Poly) (items : List (Item S n)) → S .Fine p → SoundItems S n p items → 1 ≤ length items → (S .most < length items → FitAt S n (lineOf S n items) items) → Good n p (split S n p items)

@@ -5,6 +5,7 @@ use mathlib.Core.Path.{_≡_, refl, sym, ap, _∙_}
 use mathlib.Core.List.{List, [], _∷_, flatMap}
 use mathlib.Core.Option.{none, some}
 use Rattle.polygons.specs.Lists.{any}
+use Rattle.polygons.proofs.Booleans.{is-false}
 use Rattle.tree.specs.Lists.{keep, total, All, countOf}
 use Rattle.tree.specs.Space.{Space}
 use Rattle.tree.specs.Nodes.{EntryOf, Item, itemHas, held}
@@ -22,7 +23,6 @@ use Rattle.tree.proofs.InsertEntries.{held-zero}
 use Rattle.tree.proofs.Once.{once}
 use Rattle.tree.proofs.Depth.{top-sound}
 use Rattle.tree.proofs.Visits.{held-has}
-use Rattle.tree.proofs.Booleans.{not-true}
 
 countOf-total : {A : Type 0} (q : A → Bool) (l : List A) → countOf q l ≡ total (λ a. cond (q a) 1 0) l
 unfolding total keep
@@ -64,7 +64,7 @@ module _ (S : Space) where
         (all-map (SoundItem S (suc n) (b .poly)) (λ x. countOf (leafHolds S c) (itemLeaves S n x) ≡ cond (any (ofCell S c) (held S (suc n) x)) 1 0) (b .child) (one-below c n (b .poly)) (h .each))
         ∙ total-exact (λ x. any (ofCell S c) (held S (suc n) x)) (b .child)
         (pairs-with (SoundItem S (suc n) (b .poly)) (Apart S (suc n)) (λ x y. any (ofCell S c) (held S (suc n) x) ≡ true → any (ofCell S c) (held S (suc n) y) ≡ false) (b .child)
-        (λ x y i j r e. not-true (any (ofCell S c) (held S (suc n) y)) (λ f. r c (held-here c n (b .poly) x i e) (held-here c n (b .poly) y j f))) (h .each) (h .apart))
+        (λ x y i j r e. is-false (any (ofCell S c) (held S (suc n) y)) (λ f. r c (held-here c n (b .poly) x i e) (held-here c n (b .poly) y j f))) (h .each) (h .apart))
         ∙ ap (λ (v : Bool). cond v 1 0) (sym (any-flatMap (ofCell S c) (held S (suc n)) (b .child)))
       where
         held-here : (c : S .Cell) (n : ℕ) (p : S .Poly) (x : Item S (suc n)) → SoundItem S (suc n) p x → any (ofCell S c) (held S (suc n) x) ≡ true → itemHas S (suc n) x c ≡ true
@@ -87,5 +87,5 @@ module _ (S : Space) where
       cell-once (some t) s c =
           countOf-total (ofCell S c) (entries S (some t))
           ∙ total-exact (ofCell S c) (entries S (some t))
-          (pairs-map (Apart S zero) (λ x y. ofCell S c x ≡ true → ofCell S c y ≡ false) (entries S (some t)) (λ x y r e. not-true (ofCell S c y) (λ f. r c (unfold itemHas in e) (unfold itemHas in f)))
+          (pairs-map (Apart S zero) (λ x y. ofCell S c x ≡ true → ofCell S c y ≡ false) (entries S (some t)) (λ x y r e. is-false (ofCell S c y) (λ f. r c (unfold itemHas in e) (unfold itemHas in f)))
           (once S W (t .level) (t .root) (t .items) (s .items .each) (s .items .apart)))

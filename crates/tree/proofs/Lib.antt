@@ -1,4 +1,3 @@
-pub mod Booleans
 pub mod Lists
 pub mod Counts
 pub mod Any
@@ -40,7 +39,7 @@ pub mod BoxSpace
 pub mod BoxRoot
 pub mod BoxClaim
 pub mod Refused
-pub mod Emission
+pub mod OnePass
 pub mod PlanIndex
 pub mod Pass
 pub mod GoodWays

@@ -1,19 +1,16 @@
 -- Lemmas on flatMap, keep, All, Pairs and notEmpty.
 use Prim.Native.Nat.{ℕ, zero, suc, _≤_, _<_}
-use mathlib.Core.Bool.{Bool, true, false, not, cond, _||_}
-use mathlib.Core.Path.{_≡_, refl, sym, ap, _∙_}
-use mathlib.Core.List.{map, List, [], _∷_, _++_, append-assoc, append-nil, flatMap}
+use mathlib.Core.Bool.{Bool, true, false, not, cond, _||_, false≢true}
+use mathlib.Core.Path.{_≡_, refl, sym, subst, ap, _∙_}
+use mathlib.Core.List.{map, List, [], _∷_, _++_, append-nil, flatMap}
 use lib.Dec.{eqb, eqb·suc-zero}
-use lib.ListN.{length, getD, length-append}
+use lib.ListN.{length, getD}
 use native.Mathlib.Omega.{arith}
-use Rattle.tree.specs.Lists.{keep, All, Pairs, notEmpty}
+use mathlib.Core.Option.{some}
+use Rattle.polygons.proofs.ListLaws.{flatMap-append}
+use Rattle.tree.specs.Lists.{keep, All, Pairs, notEmpty, nth}
 
 module _ {A B : Type 0} where
-  pub flatMap-append : (f : A → List B) (l m : List A) → flatMap f (l ++ m) ≡ flatMap f l ++ flatMap f m
-  unfolding flatMap
-  flatMap-append f [] m = refl
-  flatMap-append f (a ∷ l) m = rw (flatMap-append f l m, append-assoc)
-
   pub flatMap-one : (f : A → List B) (a : A) → flatMap f (a ∷ []) ≡ f a
   unfolding flatMap
   flatMap-one f a = append-nil _
@@ -22,13 +19,6 @@ module _ {A B : Type 0} where
   unfolding flatMap
   flatMap-same f g [] h = refl
   flatMap-same f g (a ∷ l) h = rw (h a, flatMap-same f g l h)
-
-  pub length-flatMap : (f : A → List B) (l : List A) → ((a : A) → length (f a) ≤ 1) → length (flatMap f l) ≤ length l
-  unfolding flatMap
-  length-flatMap f [] h = omega arith
-  length-flatMap f (a ∷ l) h =
-      let i = length-flatMap f l h in let k = h a in
-      simp length-append (omega arith)
 
 pub keep-append : {A : Type 0} (p : A → Bool) (l m : List A) → keep p (l ++ m) ≡ keep p l ++ keep p m
 unfolding keep
@@ -107,11 +97,6 @@ unfolding All flatMap
 all-flatMap P f [] h = tt
 all-flatMap P f (a ∷ l) h = all-append P (f a) (flatMap f l) (h .0) (all-flatMap P f l (h .1))
 
-pub swap-across : {A B : Type 0} (R : A → B → Type 0) (l : List A) (m : List B) → All (λ b. All (λ a. R a b) l) m → Across R l m
-unfolding All
-swap-across R [] m h = tt
-swap-across R (a ∷ l) m h = (all-map (λ b. All (λ x. R x b) (a ∷ l)) (R a) m (λ b k. k .0) h, swap-across R l m (all-map (λ b. All (λ x. R x b) (a ∷ l)) (λ b. All (λ x. R x b) l) m (λ b k. k .1) h))
-
 pub across-flatMap : {A B : Type 0} (R : B → B → Type 0) (f : A → List B) (m : List B) (l : List A) → All (λ a. Across R m (f a)) l → Across R m (flatMap f l)
 unfolding All flatMap
 across-flatMap R f m [] h = all-any (λ b. All (R b) []) m (λ b. tt)
@@ -155,6 +140,12 @@ unfolding All
 all-of-map P f [] h = tt
 all-of-map P f (a ∷ l) h = (h .0, all-of-map P f l (h .1))
 
+-- what holds of the images holds of the elements
+pub map-all : {A C : Type 0} (P : C → Type 0) (f : A → C) (l : List A) → All P (map f l) → All (λ a. P (f a)) l
+unfolding All
+map-all P f [] h = tt
+map-all P f (a ∷ l) h = (h .0, map-all P f l (h .1))
+
 pub flatMap-all : {A B : Type 0} (P : B → Type 0) (f : A → List B) (l : List A) → All P (flatMap f l) → All (λ a. All P (f a)) l
 unfolding All flatMap
 flatMap-all P f [] h = tt
@@ -165,10 +156,10 @@ unfolding flatMap All
 flatMap-same-all f g [] h = refl
 flatMap-same-all f g (a ∷ l) h = rw (h .0, flatMap-same-all f g l (h .1))
 
-pub flatMap-single : {A : Type 0} (f : A → List A) (l : List A) → ((a : A) → f a ≡ a ∷ []) → flatMap f l ≡ l
-unfolding flatMap
+pub flatMap-single : {A : Type 0} (f : A → List A) (l : List A) → All (λ a. f a ≡ a ∷ []) l → flatMap f l ≡ l
+unfolding flatMap All
 flatMap-single f [] h = refl
-flatMap-single f (a ∷ l) h = rw (h a, flatMap-single f l h)
+flatMap-single f (a ∷ l) h = rw (h .0, flatMap-single f l (h .1))
 
 pub pairs-head : {A : Type 0} (R : A → A → Type 0) (a : A) (l : List A) → Pairs R (a ∷ l) → All (R a) l
 unfolding Pairs
@@ -191,6 +182,13 @@ all-at P [] i d h k = absurd (omega arith)
 all-at P (a ∷ l) zero d h k = k .0
 all-at P (a ∷ l) (suc i) d h k = all-at P l i d (omega arith) (k .1)
 
+-- what holds of all elements holds of the one at a place
+pub all-nth : {A : Type 0} (P : A → Type 0) (l : List A) (i : ℕ) (a : A) → nth l i ≡ some a → All P l → P a
+unfolding nth All
+all-nth P [] i a e h = let z : _≡_ {A = ℕ} 0 1 = cc in absurd (omega arith)
+all-nth P (x ∷ l) zero a e h = let q : x ≡ a = cc in subst P q (h .0)
+all-nth P (x ∷ l) (suc i) a e h = all-nth P l i a e (h .1)
+
 -- what holds of each place holds of all elements
 pub all-of : {A : Type 0} (P : A → Type 0) (l : List A) (d : A) → ((i : ℕ) → i < length l → P (getD l i d)) → All P l
 unfolding All
@@ -201,6 +199,16 @@ all-of P (a ∷ l) d f = (f zero (omega arith), all-of P l d (λ i h. f (suc i) 
 pub notEmpty-append : {A : Type 0} (l m : List A) → notEmpty (l ++ m) ≡ notEmpty l || notEmpty m
 notEmpty-append [] m = refl
 notEmpty-append (a ∷ l) m = refl
+
+-- a list that has an element is not of length 0
+pub notEmpty-length : {A : Type 0} (l : List A) → notEmpty l ≡ true → 1 ≤ length l
+notEmpty-length [] h = absurd (false≢true h)
+notEmpty-length (a ∷ l) h = omega arith
+
+-- a list of length 0 has no element
+pub length-zero : {A : Type 0} (l : List A) → length l ≡ 0 → l ≡ []
+length-zero [] h = refl
+length-zero (a ∷ l) h = absurd (omega arith)
 
 -- a list without elements has length 0
 pub not-notEmpty : {A : Type 0} (l : List A) → not (notEmpty l) ≡ eqb (length l) 0

@@ -5,34 +5,28 @@ use mathlib.Core.Path.{_≡_, refl, sym, ap, _∙_, subst}
 use mathlib.Core.List.{List, [], _∷_}
 use mathlib.Core.Option.{none, some}
 use native.Mathlib.Omega.{arith}
+use Rattle.polygons.proofs.Booleans.{is-false, not-both}
 use Rattle.tree.specs.Lists.{All, nth}
 use Rattle.tree.specs.Space.{Space}
 use Rattle.tree.specs.Nodes.{EntryOf}
 use Rattle.tree.specs.Order.{comesBefore}
 use Rattle.tree.specs.Nearest.{rank, nearer, IsNearest, orNearer, nearestOf}
-use Rattle.tree.proofs.Booleans.{not-true, contrary}
 use Rattle.tree.proofs.Order.{irreflexive, transitive, total-order}
-
--- what all elements have, the one at a place has
-at-place : {A : Type 0} (P : A → Type 0) (l : List A) (i : ℕ) (a : A) → nth l i ≡ some a → All P l → P a
-unfolding nth All
-at-place P [] i a q h = let z : _≡_ {A = ℕ} 0 1 = cc in absurd (omega arith)
-at-place P (b ∷ l) zero a q h = let i : b ≡ a = cc in subst P i (h .0)
-at-place P (b ∷ l) (suc i) a q h = at-place P l i a q (h .1)
+use Rattle.tree.proofs.Lists.{all-nth}
 
 module _ (S : Space) (c : S .Cell) where
   -- not nearer, twice
   not-nearer : (e f g : EntryOf S) → nearer S c f e ≡ false → nearer S c g f ≡ false → nearer S c g e ≡ false
-  not-nearer e f g h k = not-true (nearer S c g e) (λ i. go (nearer S c e f) refl i)
+  not-nearer e f g h k = is-false (nearer S c g e) (λ i. go (nearer S c e f) refl i)
     where
       go : (t : Bool) → nearer S c e f ≡ t → nearer S c g e ≡ true → ⊥
-      go true j i = contrary (nearer S c g f) (transitive (rank S c g) (rank S c e) (rank S c f) i j) k
-      go false j i = contrary (nearer S c g f) (ap (comesBefore (rank S c g)) (total-order (rank S c f) (rank S c e) h j) ∙ i) k
+      go true j i = not-both (nearer S c g f) (transitive (rank S c g) (rank S c e) (rank S c f) i j) k
+      go false j i = not-both (nearer S c g f) (ap (comesBefore (rank S c g)) (total-order (rank S c f) (rank S c e) h j) ∙ i) k
 
   -- of two entries one is not nearer
   one-way : (e f : EntryOf S) → nearer S c f e ≡ true → nearer S c e f ≡ false
-  one-way e f h = not-true (nearer S c e f)
-      (λ i. contrary (nearer S c f f) (transitive (rank S c f) (rank S c e) (rank S c f) h i) (irreflexive (rank S c f)))
+  one-way e f h = is-false (nearer S c e f)
+      (λ i. not-both (nearer S c f f) (transitive (rank S c f) (rank S c e) (rank S c f) h i) (irreflexive (rank S c f)))
 
   -- what the nearest so far and the rest of a list give
   record Looked (b : EntryOf S) (es : List (EntryOf S)) : Type 0 where
@@ -83,5 +77,5 @@ module _ (S : Space) (c : S .Cell) where
   -- Two nearest entries of one list have one rank: so the distance, and what decides ties, are fixed.
   pub nearest-rank : (es : List (EntryOf S)) (e f : EntryOf S) → IsNearest S c es e → IsNearest S c es f → rank S c e ≡ rank S c f
   nearest-rank es e f h k = total-order (rank S c e) (rank S c f)
-      (at-place (λ g. nearer S c g f ≡ false) es (h .place) e (h .one) (k .none-nearer))
-      (at-place (λ g. nearer S c g e ≡ false) es (k .place) f (k .one) (h .none-nearer))
+      (all-nth (λ g. nearer S c g f ≡ false) es (h .place) e (h .one) (k .none-nearer))
+      (all-nth (λ g. nearer S c g e ≡ false) es (k .place) f (k .one) (h .none-nearer))

@@ -6,6 +6,7 @@ use mathlib.Core.List.{List, [], _∷_, flatMap, foldl, foldl-append}
 use mathlib.Core.Option.{Option, none, some}
 use native.Mathlib.Omega.{arith}
 use borrow.Author.Tests.{leb-false}
+use Rattle.polygons.proofs.Booleans.{is-false, not-both}
 use Rattle.tree.specs.Lists.{All, total}
 use Rattle.tree.specs.Space.{Space}
 use Rattle.tree.specs.Nodes.{EntryOf, Item, itemHas, held, nodes}
@@ -14,7 +15,6 @@ use Rattle.tree.specs.Root.{Root}
 use Rattle.tree.specs.Tree.{Index, nodeCount, Sound}
 use Rattle.tree.specs.Nearest.{nearer, orNearer, nearestOf, nearest, Met, start, enters, enter, walkNode, walk}
 use Rattle.tree.proofs.Lists.{all-map}
-use Rattle.tree.proofs.Booleans.{not-true, contrary}
 use Rattle.tree.proofs.Laws.{Laws}
 use Rattle.tree.proofs.Once.{held-inside}
 use Rattle.tree.proofs.InsertEntries.{held-zero}
@@ -56,13 +56,13 @@ module _ (S : Space) (W : Laws S) (c : S .Cell) where
   unfolding orNearer All
   farther b [] h = refl
   farther b (e ∷ es) h =
-      let f : nearer S c e b ≡ false = not-true (nearer S c e b) (λ k. let l = head-le (S .distance c (e .cell)) (S .distance c (b .cell)) (S .ties e) (S .ties b) k in let g = h .0 in omega arith) in
+      let f : nearer S c e b ≡ false = is-false (nearer S c e b) (λ k. let l = head-le (S .distance c (e .cell)) (S .distance c (b .cell)) (S .ties e) (S .ties b) k in let g = h .0 in omega arith) in
       rw f (farther b es (h .1))
 
   -- a branch that is passed over has no entry that is nearer
   passed : (n : ℕ) (p : S .Poly) (b : Item S (suc n)) → SoundItem S (suc n) p b → (best : Option (EntryOf S)) → enters S c (b .poly) best ≡ false → best ≡ nearestOf S c best (held S (suc n) b)
   unfolding enters
-  passed n p b h none e = absurd (contrary true refl e)
+  passed n p b h none e = absurd (not-both true refl e)
   passed n p b h (some f) e =
       let g = leb-false (S .minDistance c (b .poly)) (S .distance c (f .cell)) e in
       sym (farther f (held S (suc n) b)

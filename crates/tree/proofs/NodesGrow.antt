@@ -24,7 +24,7 @@ use Rattle.tree.proofs.Fits.{FitAt}
 use Rattle.tree.proofs.InsertAt.{Fresh, chose-at, down}
 use Rattle.tree.proofs.GoodWays.{GoodWay, way-fits}
 use Rattle.tree.proofs.Ways.{descent, descend-leaf, sound-way}
-use Rattle.tree.proofs.SplitGroups.{few-row}
+use Rattle.tree.proofs.OnePass.{few-row}
 
 module _ (S : Space) where
   -- How many nodes on the way are split.

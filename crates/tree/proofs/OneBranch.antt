@@ -6,6 +6,7 @@ use mathlib.Core.Path.{_≡_}
 use mathlib.Core.List.{List, []}
 use native.Mathlib.Omega.{arith}
 use lib.ListN.{length, getD}
+use Rattle.polygons.proofs.Booleans.{is-false}
 use Rattle.tree.specs.Lists.{All, Pairs}
 use Rattle.tree.specs.Space.{Space}
 use Rattle.tree.specs.Nodes.{EntryOf, Item, itemHas}
@@ -13,7 +14,6 @@ use Rattle.tree.specs.Sound.{Apart, SoundItem}
 use Rattle.tree.specs.Walk.{nodeWalkVisits, nodeWalkEntries}
 use Rattle.tree.proofs.Lists.{all-map, pairs-map}
 use Rattle.tree.proofs.Counts.{total-none, flatMap-none, total-only, flatMap-only}
-use Rattle.tree.proofs.Booleans.{not-true}
 
 module _ (S : Space) (c : S .Cell) (u : EntryOf S → Bool) (n : ℕ) (p : S .Poly) (b : Item S (suc (suc n)))
     (h : SoundItem S (suc (suc n)) p b) where
@@ -24,7 +24,7 @@ module _ (S : Space) (c : S .Cell) (u : EntryOf S → Bool) (n : ℕ) (p : S .Po
   one-has : Pairs (λ x y. has (x .poly) ≡ true → has (y .poly) ≡ false) (b .child)
   unfolding SoundItem itemHas
   one-has = pairs-map (Apart S (suc n)) (λ x y. has (x .poly) ≡ true → has (y .poly) ≡ false) (b .child)
-      (λ x y r e. not-true (has (y .poly)) (r c e)) (h .apart)
+      (λ x y r e. is-false (has (y .poly)) (r c e)) (h .apart)
 
   -- the i-th branch has the cell
   module _ (i : ℕ) (d : Item S (suc n)) (k : i < length (b .child)) (e : has (getD (b .child) i d .poly) ≡ true) where

@@ -6,17 +6,18 @@ use mathlib.Core.List.{List, [], _∷_, _++_, append-nil, map, flatMap}
 use lib.ListN.{length}
 use lib.Dec.{leb}
 use native.Mathlib.Omega.{arith}
+use Rattle.polygons.proofs.ListLaws.{flatMap-append}
 use Rattle.tree.specs.Lists.{keep, countOf, Bag}
 use Rattle.tree.specs.Space.{Space, Side, left, right}
 use Rattle.tree.specs.Nodes.{EntryOf, Item, on, entryOn, held}
 use Rattle.tree.specs.Split.{half}
 use Rattle.tree.specs.Plan.{Way, flat, groupIf, cutGroups, groups, few, lineAt, under, branchUnder}
 use Rattle.tree.specs.Pass.{onAll, deep, wayHeld, plainFew, plainLine, cutPlain, plain, Alike}
-use Rattle.tree.proofs.Lists.{flatMap-append, flatMap-one}
+use Rattle.tree.proofs.Lists.{flatMap-one}
 use Rattle.tree.proofs.Counts.{countOf-append}
 use Rattle.tree.proofs.Bags.{bag-keep, bag-length}
 use Rattle.tree.proofs.InsertEntries.{held-zero, countOf-sides}
-use Rattle.tree.proofs.Emission.{under-append, under-none, under-branch, flat-held}
+use Rattle.tree.proofs.OnePass.{under-append, under-none, under-branch, flat-held}
 use Rattle.tree.specs.Plan as P
 
 module _ (S : Space) where

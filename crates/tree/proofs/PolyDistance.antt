@@ -8,25 +8,21 @@ use native.Mathlib.Omega.{arith}
 use native.Mathlib.Decide.{decLe}
 use Rattle.polygons.specs.Lists.{any, least}
 use Rattle.polygons.proofs.LeastLaws.{least-first, least-rest}
+use Rattle.polygons.proofs.Booleans.{not-both, or-right}
 use Rattle.tree.specs.Lists.{All}
 use Rattle.tree.specs.Boxes.{Boxes, Poly, anyHas, polyDistance}
-use Rattle.tree.proofs.Booleans.{contrary}
 use Rattle.tree.proofs.BoxLaws.{BoxLaws}
-
-or-right : (a b : Bool) → b ≡ true → a || b ≡ true
-or-right true b h = refl
-or-right false b h = h
 
 module _ (B : Boxes) (W : BoxLaws B) where
   -- no cell of the polygon is nearer
   pub poly-low : (p : Poly B) (c d : B .Cell) → anyHas B p d ≡ true → polyDistance B c p ≤ B .distance c d
   unfolding anyHas any
-  poly-low [] c d h = absurd (contrary false h refl)
+  poly-low [] c d h = absurd (not-both false h refl)
   poly-low (r ∷ []) c d h = go (B .has r d) refl h
     where
       go : (t : Bool) → B .has r d ≡ t → t || false ≡ true → polyDistance B c (r ∷ []) ≤ B .distance c d
       go true e k = let x = W .distance-low r c d e in let y = least-first (B .minDistance c) r [] in omega arith
-      go false e k = absurd (contrary false k refl)
+      go false e k = absurd (not-both false k refl)
   poly-low (r ∷ s ∷ l) c d h = go (poly-low (s ∷ l) c d) (B .has r d) refl h
     where
       go : (any (λ q. B .has q d) (s ∷ l) ≡ true → polyDistance B c (s ∷ l) ≤ B .distance c d) → (t : Bool) → B .has r d ≡ t

@@ -5,13 +5,14 @@ use mathlib.Core.Path.{_≡_, refl, sym, _∙_, subst}
 use mathlib.Core.List.{List, [], _∷_, append-nil, flatMap}
 use lib.ListN.{length}
 use native.Mathlib.Omega.{arith}
+use Rattle.polygons.proofs.ListLaws.{length-flatMap}
 use Rattle.tree.specs.Lists.{keep, All, Pairs}
 use Rattle.tree.specs.Space.{Space}
 use Rattle.tree.specs.Nodes.{EntryOf, Item, itemHas, held}
 use Rattle.tree.specs.Sound.{Apart, SoundItem, SoundItems}
 use Rattle.tree.specs.Split.{branchIf}
 use Rattle.tree.specs.Remove.{prune}
-use Rattle.tree.proofs.Lists.{flatMap-same, flatMap-flatMap, keep-flatMap, length-flatMap, all-map, all-flatMap, Across, pairs-flatMap, pairs-one}
+use Rattle.tree.proofs.Lists.{flatMap-same, flatMap-flatMap, keep-flatMap, all-map, all-flatMap, Across, pairs-flatMap, pairs-one}
 use Rattle.tree.proofs.Laws.{Laws}
 
 module _ (S : Space) (W : Laws S) where

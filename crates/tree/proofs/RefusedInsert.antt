@@ -13,7 +13,7 @@ use Rattle.tree.specs.Nodes.{EntryOf, Item}
 use Rattle.tree.specs.Root.{Root}
 use Rattle.tree.specs.Tree.{Tree, Index, nodeCount}
 use Rattle.tree.specs.Split.{split}
-use Rattle.tree.specs.Insert.{insertAt, refused, accepted, limited, insertTree, insert}
+use Rattle.tree.specs.Insert.{Outcome, insertAt, refused, accepted, limited, insertTree, insert}
 
 module _ (S : Space) (e : EntryOf S) where
   -- Step 2 refuses at this node, or it goes on to a branch and refuses below.
@@ -47,7 +47,7 @@ module _ (S : Space) (R : Root S) (N : ℕ) (i : Index S) (e : EntryOf S) where
   pub refused-seven : insert S R N i e ≡ refused 7 → insertTree S R i e ≡ none
   refused-seven h = go (insertTree S R i e) h
     where
-      kept : (t : Tree S) (b : Bool) → cond b (accepted (some t)) (refused 8) ≡ refused 7 → some t ≡ none
+      kept : (t : Tree S) (b : Bool) → cond {A = Outcome S} b (accepted (some t)) (refused 8) ≡ refused 7 → some t ≡ none
       kept t true h = let z : _≡_ {A = ℕ} 0 1 = cc in absurd (omega arith)
       kept t false h = let z : _≡_ {A = ℕ} 8 7 = cc in absurd (omega arith)
 
@@ -59,7 +59,7 @@ module _ (S : Space) (R : Root S) (N : ℕ) (i : Index S) (e : EntryOf S) where
   pub refused-eight : insert S R N i e ≡ refused 8 → (t : Tree S) × (insertTree S R i e ≡ some t) × (N < nodeCount S (some t))
   refused-eight h = go (insertTree S R i e) h
     where
-      kept : (t : Tree S) (b : Bool) → leb (nodeCount S (some t)) N ≡ b → cond b (accepted (some t)) (refused 8) ≡ refused 8 → N < nodeCount S (some t)
+      kept : (t : Tree S) (b : Bool) → leb (nodeCount S (some t)) N ≡ b → cond {A = Outcome S} b (accepted (some t)) (refused 8) ≡ refused 8 → N < nodeCount S (some t)
       kept t true k h = let z : _≡_ {A = ℕ} 0 1 = cc in absurd (omega arith)
       kept t false k h = leb-false (nodeCount S (some t)) N k
 
@@ -71,7 +71,7 @@ module _ (S : Space) (R : Root S) (N : ℕ) (i : Index S) (e : EntryOf S) where
   pub refused-only : (k : ℕ) → insert S R N i e ≡ refused k → (k ≡ 7) ⊎ (k ≡ 8)
   refused-only k h = go (insertTree S R i e) h
     where
-      kept : (t : Tree S) (b : Bool) → cond b (accepted (some t)) (refused 8) ≡ refused k → (k ≡ 7) ⊎ (k ≡ 8)
+      kept : (t : Tree S) (b : Bool) → cond {A = Outcome S} b (accepted (some t)) (refused 8) ≡ refused k → (k ≡ 7) ⊎ (k ≡ 8)
       kept t true h = let z : _≡_ {A = ℕ} 0 1 = cc in absurd (omega arith)
       kept t false h = let z : k ≡ 8 = cc in inr z
 

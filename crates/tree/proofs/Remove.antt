@@ -5,15 +5,16 @@ use mathlib.Core.Path.{_≡_, refl, ap, _∙_, subst}
 use mathlib.Core.List.{List, [], _∷_, flatMap}
 use lib.ListN.{length}
 use native.Mathlib.Omega.{arith}
+use Rattle.polygons.proofs.Booleans.{is-false, not-both}
+use Rattle.polygons.proofs.ListLaws.{length-flatMap}
 use Rattle.tree.specs.Lists.{keep, All}
 use Rattle.tree.specs.Space.{Space}
 use Rattle.tree.specs.Nodes.{EntryOf, Item, held, itemHas}
 use Rattle.tree.specs.Sound.{SoundItem, SoundItems}
 use Rattle.tree.specs.Split.{branchIf}
 use Rattle.tree.specs.Remove.{prune, other, without}
-use Rattle.tree.proofs.Lists.{length-flatMap, flatMap-all, all-map}
+use Rattle.tree.proofs.Lists.{flatMap-all, all-map}
 use Rattle.tree.proofs.Laws.{Laws}
-use Rattle.tree.proofs.Booleans.{not-true, contrary}
 use Rattle.tree.proofs.Once.{held-inside}
 use Rattle.tree.proofs.Prune.{prune-one, held-prunes, row-prune}
 
@@ -52,4 +53,4 @@ module _ (S : Space) (W : Laws S) where
   prune-elsewhere n c p b h k =
       prune-stays (suc n) (other S c) p b h
       (all-map (λ e. itemHas S (suc n) b (e .cell) ≡ true) (λ e. other S c e ≡ true) (held S (suc n) b)
-      (λ e i. ap not (not-true (S .same (e .cell) c) (λ s. contrary (S .has (b .poly) c) (subst (λ (d : S .Cell). S .has (b .poly) d ≡ true) (W .same-is (e .cell) c s) (unfold itemHas in i)) k))) (held-inside S W (suc n) p b h))
+      (λ e i. ap not (is-false (S .same (e .cell) c) (λ s. not-both (S .has (b .poly) c) (subst (λ (d : S .Cell). S .has (b .poly) d ≡ true) (W .same-is (e .cell) c s) (unfold itemHas in i)) k))) (held-inside S W (suc n) p b h))

@@ -14,7 +14,8 @@ use Rattle.tree.proofs.Counts.{flatMap-none, total-append}
 use Rattle.tree.proofs.Lists.{all-map, all-any, all-flatMap}
 
 module _ (S : Space) where
-  length-branchIf : {A : Type 0} (p : S .Poly) (l : List A) → 1 ≤ length l → length (branchIf S p l) ≡ 1
+  -- a branch to some items is one branch
+  pub length-branchIf : {A : Type 0} (p : S .Poly) (l : List A) → 1 ≤ length l → length (branchIf S p l) ≡ 1
   length-branchIf p [] h = absurd (omega arith)
   length-branchIf p (x ∷ l) h = omega arith
 

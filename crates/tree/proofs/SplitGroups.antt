@@ -1,23 +1,22 @@
 -- The entries of the two halves of a node that is split, and of the row that they stand in.
-use Prim.Native.Nat.{ℕ, zero, suc, _+_, _<_, _≤_}
+use Prim.Native.Nat.{ℕ, suc, _+_, _<_, _≤_}
 use mathlib.Core.Path.{_≡_, refl, sym, ap, _∙_}
 use mathlib.Core.List.{List, [], _∷_, _++_, map, flatMap, map-append}
-use lib.Dec.{leb}
-use lib.ListN.{length, length-append, length-map}
+use lib.ListN.{length, length-append}
 use native.Mathlib.Omega.{arith}
 use borrow.Author.Tests.{le-leb, lt-leb}
 use Rattle.tree.specs.Lists.{All, keep, countOf, Bag}
 use Rattle.tree.specs.Space.{Space, Side, left, right}
 use Rattle.tree.specs.Nodes.{EntryOf, Item, entryOn, held}
 use Rattle.tree.specs.Split.{branchIf, half, halfItems, lineOf, halves, split}
-use Rattle.tree.specs.Plan.{Way, row, flat, groups, few, lineAt}
+use Rattle.tree.specs.Plan.{Way, row, flat}
 use Rattle.tree.specs.Pass.{wayHeld, Alike}
 use Rattle.tree.proofs.Lists.{flatMap-flatMap, flatMap-same, keep-flatMap}
 use Rattle.tree.proofs.Halves.{held-half}
 use Rattle.tree.proofs.Fits.{FitAt}
-use Rattle.tree.proofs.InsertEntries.{held-zero}
-use Rattle.tree.proofs.Emission.{groups-is, flat-held}
+use Rattle.tree.proofs.OnePass.{groups-is, flat-held}
 use Rattle.tree.proofs.Pass.{bag-way, alike-self}
+use Rattle.tree.proofs.Sides.{length-branchIf}
 
 module _ (S : Space) where
   -- the entries of the halves of some items are those of the side, in order
@@ -30,10 +29,6 @@ module _ (S : Space) where
   unfolding held
   held-if n q [] h = absurd (omega arith)
   held-if n q (x ∷ l) h = refl
-
-  if-one : {A : Type 0} (q : S .Poly) (l : List A) → 1 ≤ length l → length (branchIf S q l) ≡ 1
-  if-one q [] h = absurd (omega arith)
-  if-one q (x ∷ l) h = refl
 
   module _ (n : ℕ) (p : S .Poly) (l : List (Item S n)) (o : S .most < length l) (f : FitAt S n (lineOf S n l) l) where
     abbrev whole : Item S (suc n)
@@ -55,25 +50,16 @@ module _ (S : Space) where
     unfolding half
     split-two =
         ap length split-is ∙ length-append (half S (suc n) (left (lineOf S n l)) whole) (half S (suc n) (right (lineOf S n l)) whole)
-        ∙ rw (if-one (S .clip (left (lineOf S n l)) p) (halfItems S n (left (lineOf S n l)) l) (f .lefts .0), if-one (S .clip (right (lineOf S n l)) p) (halfItems S n (right (lineOf S n l)) l) (f .rights .0))
+        ∙ rw (length-branchIf S (S .clip (left (lineOf S n l)) p) (halfItems S n (left (lineOf S n l)) l) (f .lefts .0), length-branchIf S (S .clip (right (lineOf S n l)) p) (halfItems S n (right (lineOf S n l)) l) (f .rights .0))
 
   -- one where the node is not split
   pub split-one : (n : ℕ) (p : S .Poly) (l : List (Item S n)) → length l ≤ S .most → length (split S n p l) ≡ 1
   unfolding split
   split-one n p l h = rw (le-leb (length l) (S .most) h)
 
-  -- the plan's tests and lines, by the row
-  pub few-row : (n : ℕ) (w : Way S n) → few S n w ≡ leb (length (row S n w)) (S .most)
-  few-row n w = rw (groups-is S n w, length-map (row S n w) (held S n))
-
   -- the entries of the row are those below the way, in some order
   pub row-entries : (n : ℕ) (w : Way S n) → Bag (flatMap (held S n) (row S n w)) (wayHeld S n w)
   row-entries n w q = ap (countOf q) (sym (ap (flat S) (groups-is S n w) ∙ flat-held S n (row S n w))) ∙ bag-way S n w q
-
-  -- the line of a node of the way, by its row
-  pub line-row : (n : ℕ) (w : Way S n) → lineAt S n w ≡ lineOf S n (row S n w)
-  line-row zero es = unfold row groups in ap (S .leafLine) (flat-held S zero es ∙ held-zero S es)
-  line-row (suc n) w = ap (S .nodeLine) (groups-is S (suc n) w)
 
   -- two groups of a row replaced by groups with the same entries
   pub alike-mid : (a c : List (List (EntryOf S))) (x y x′ y′ : List (EntryOf S)) → Bag x x′ → Bag y y′ → Alike S (a ++ ((x ∷ y ∷ []) ++ c)) (a ++ ((x′ ∷ y′ ∷ []) ++ c))

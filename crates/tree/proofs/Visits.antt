@@ -6,6 +6,7 @@ use mathlib.Core.List.{flatMap}
 use mathlib.Core.Option.{none, some}
 use native.Mathlib.Omega.{arith}
 use Rattle.polygons.specs.Lists.{any}
+use Rattle.polygons.proofs.Booleans.{is-false, not-both}
 use Rattle.tree.specs.Lists.{keep, total, countOf}
 use Rattle.tree.specs.Space.{Space}
 use Rattle.tree.specs.Nodes.{Item, itemHas, held}
@@ -20,7 +21,6 @@ use Rattle.tree.proofs.Any.{any-flatMap, any-from}
 use Rattle.tree.proofs.Laws.{Laws}
 use Rattle.tree.proofs.Once.{held-inside}
 use Rattle.tree.proofs.Depth.{top-sound}
-use Rattle.tree.proofs.Booleans.{not-true, contrary}
 
 module _ (S : Space) where
   -- A test that passes for a polygon wherever it passes for one within.
@@ -35,7 +35,7 @@ module _ (S : Space) where
   unfolding SoundItem itemHas
   no-visits t m zero p e h k = unfold itemPolygons keep in refl
   no-visits t m (suc n) p b h k =
-      let f : t (b .poly) ≡ false = not-true (t (b .poly)) (λ e. contrary (t p) (m p (b .poly) (h .within) e) k) in
+      let f : t (b .poly) ≡ false = is-false (t (b .poly)) (λ e. not-both (t p) (m p (b .poly) (h .within) e) k) in
       let z = total-none (λ x. countOf t (itemPolygons S n x)) (b .child) (all-map (SoundItem S n (b .poly)) (λ x. countOf t (itemPolygons S n x) ≡ 0) (b .child) (λ x o. no-visits t m n (b .poly) x o f) (h .each)) in
       visits-step t n b ∙ rw f (omega arith)
 
@@ -54,7 +54,7 @@ module _ (S : Space) where
       let z = total-one (λ x. countOf (λ q. S .has q c) (itemPolygons S n x)) (λ x. itemHas S n x c) n (b .child)
       (all-map (SoundItem S n (b .poly)) (λ x. itemHas S n x c ≡ false → countOf (λ q. S .has q c) (itemPolygons S n x) ≡ 0) (b .child) (none-at n (b .poly)) (h .each))
       (all-map (SoundItem S n (b .poly)) (λ x. countOf (λ q. S .has q c) (itemPolygons S n x) ≤ n) (b .child) (few-visits c n (b .poly)) (h .each))
-      (pairs-map (Apart S n) (λ x y. itemHas S n x c ≡ true → itemHas S n y c ≡ false) (b .child) (λ x y r e. not-true (itemHas S n y c) (r c e)) (h .apart)) in
+      (pairs-map (Apart S n) (λ x y. itemHas S n x c ≡ true → itemHas S n y c ≡ false) (b .child) (λ x y r e. is-false (itemHas S n y c) (r c e)) (h .apart)) in
       go (S .has (b .poly) c) (visits-step (λ q. S .has q c) n b) z
     where
       none-at : (n : ℕ) (p : S .Poly) (x : Item S n) → SoundItem S n p x → itemHas S n x c ≡ false → countOf (λ q. S .has q c) (itemPolygons S n x) ≡ 0
@@ -92,7 +92,7 @@ module _ (S : Space) where
 
       -- A held cell's visits are the height.
       pub visits-held : (i : Index S) → Sound S R i → (c : S .Cell) → holds S c i ≡ true → visits S c i ≡ height S i
-      visits-held none s c h = unfold any in absurd (contrary false h refl)
+      visits-held none s c h = unfold any in absurd (not-both false h refl)
       visits-held (some t) s c h =
           let a = few-visits c (suc (t .level)) (t .root) (top S t) (top-sound S R t s) in
           let b = held-visits c (suc (t .level)) (t .root) (top S t) (top-sound S R t s) (unfold held in h) in

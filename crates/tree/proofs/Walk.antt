@@ -5,6 +5,7 @@ use mathlib.Core.Path.{_≡_, refl, sym, ap, _∙_, subst}
 use mathlib.Core.List.{List, [], head?}
 use mathlib.Core.Option.{none, some}
 use native.Mathlib.Omega.{arith}
+use Rattle.polygons.proofs.Booleans.{is-false, not-both}
 use Rattle.tree.specs.Lists.{keep, total, countOf}
 use Rattle.tree.specs.Space.{Space}
 use Rattle.tree.specs.Nodes.{EntryOf, Item, itemHas, held, nodes}
@@ -21,7 +22,6 @@ use Rattle.tree.proofs.Once.{held-inside}
 use Rattle.tree.proofs.Depth.{top-sound}
 use Rattle.tree.proofs.InsertEntries.{held-zero}
 use Rattle.tree.proofs.Visits.{Mono, mono-cell, visits-step, none-below}
-use Rattle.tree.proofs.Booleans.{not-true, contrary}
 
 -- A walk by the test t for entries that pass u: a polygon passes with any polygon within, and with any such entry in it.
 module _ (S : Space) (W : Laws S) (t : S .Poly → Bool) (mono : Mono S t) (u : EntryOf S → Bool) (meet : (p : S .Poly) (e : EntryOf S) → S .has p (e .cell) ≡ true → u e ≡ true → t p ≡ true) where
@@ -50,7 +50,7 @@ module _ (S : Space) (W : Laws S) (t : S .Poly → Bool) (mono : Mono S t) (u : 
       go true e = i
       go false e = sym (keep-none u (held S (suc n) b)
           (all-map (λ f. itemHas S (suc n) b (f .cell) ≡ true) (λ f. u f ≡ false) (held S (suc n) b)
-          (λ f k. not-true (u f) (λ j. contrary (t (b .poly)) (meet (b .poly) f (unfold itemHas in k) j) e)) (held-inside S W (suc n) p b h)))
+          (λ f k. is-false (u f) (λ j. not-both (t (b .poly)) (meet (b .poly) f (unfold itemHas in k) j) e)) (held-inside S W (suc n) p b h)))
 
   walk-entries : (n : ℕ) (p : S .Poly) (b : Item S (suc n)) → SoundItem S (suc n) p b → cond (t (b .poly)) (nodeWalkEntries S t u n (b .child)) [] ≡ keep u (held S (suc n) b)
   unfolding nodeWalkEntries SoundItem held
@@ -97,13 +97,16 @@ module _ (S : Space) (W : Laws S) (R : Root S) (i : Index S) (s : Sound S R i) w
     pub window-entries : walkEntries S (λ p. Win .meets p w) (matching S Win w) i ≡ matches S Win w i
     window-entries = index-entries S W (λ p. Win .meets p w) mono-window (matching S Win w) (λ p e. X .cell-meets p w (e .cell)) R i s
 
+-- Entries are no nodes.
+pub leaf-nodes : (S : Space) (es : List (EntryOf S)) → total (nodes S zero) es ≡ 0
+unfolding nodes
+leaf-nodes S es = total-none (nodes S zero) es (all-any (λ e. nodes S zero e ≡ 0) es (λ e. refl))
+
 -- A walk by a test that every polygon passes enters all nodes.
 module _ (S : Space) (t : S .Poly → Bool) (every : (p : S .Poly) → t p ≡ true) where
   pub walk-every : (n : ℕ) (items : List (Item S n)) → nodeWalkVisits S t n items ≡ suc (total (nodes S n) items)
   unfolding nodeWalkVisits nodes
-  walk-every zero es =
-      let z = total-none (nodes S zero) es (all-any (λ e. nodes S zero e ≡ 0) es (λ e. refl)) in
-      omega arith
+  walk-every zero es = let z = leaf-nodes S es in omega arith
   walk-every (suc n) bs =
       let z = total-same (λ b. cond (t (b .poly)) (nodeWalkVisits S t n (b .child)) 0) (nodes S (suc n)) bs
       (all-any (λ b. cond (t (b .poly)) (nodeWalkVisits S t n (b .child)) 0 ≡ nodes S (suc n) b) bs (λ b. rw (every (b .poly)) (let i = walk-every n (b .child) in omega arith))) in

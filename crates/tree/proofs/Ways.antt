@@ -6,6 +6,7 @@ use mathlib.Core.List.{List, [], _∷_, _++_, map, flatMap}
 use mathlib.Core.Option.{some, bind}
 use lib.ListN.{length, length-append}
 use native.Mathlib.Omega.{arith}
+use Rattle.polygons.proofs.ListLaws.{flatMap-append}
 use Rattle.tree.specs.Lists.{All, countOf, Bag}
 use Rattle.tree.specs.Space.{Space, Chosen}
 use Rattle.tree.specs.Nodes.{EntryOf, Item, itemHas, held}
@@ -14,13 +15,13 @@ use Rattle.tree.specs.Split.{split, lineOf}
 use Rattle.tree.specs.Insert.{insertAt}
 use Rattle.tree.specs.Plan.{Way, descend, row, build}
 use Rattle.tree.specs.Pass.{wayHeld}
-use Rattle.tree.proofs.Lists.{all-map, all-of-map, flatMap-append}
+use Rattle.tree.proofs.Lists.{all-map, all-of-map}
 use Rattle.tree.proofs.Counts.{countOf-append}
 use Rattle.tree.proofs.Any.{bind-some}
 use Rattle.tree.proofs.Laws.{Laws, Chose, Steps}
 use Rattle.tree.proofs.Keeps.{Good, replaced-row, below-fits}
 use Rattle.tree.proofs.Fits.{FitAt, line-fits, leaf-line-fits}
-use Rattle.tree.proofs.Emission.{insert-is}
+use Rattle.tree.proofs.OnePass.{insert-is}
 use Rattle.tree.proofs.InsertAt.{Fresh, insert-good, leaf-row, chose-at, down, all-real}
 use Rattle.tree.proofs.InsertEntries.{held-zero}
 use Rattle.tree.proofs.RemoveIndex.{held-some}

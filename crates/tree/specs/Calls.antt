@@ -50,15 +50,11 @@ isAccepted (nearestAnswer e d v) = true
 isAccepted (emptyAnswer b v) = true
 
 module _ (S : Space) where
-  -- The answer and the index after, from how a call that may change the index ends. A refused call leaves "index" as it was.
-  abbrev pub outcomeAnswer : Outcome S → Answer S
-  outcomeAnswer (refused k) = refusal k
-  outcomeAnswer (accepted i) = reports (length (entries S i))
-
-  -- The same of an insertion, which removed r cells: a refused one reports none.
-  abbrev pub insertedAnswer : ℕ → Outcome S → Answer S
-  insertedAnswer r (refused k) = refusal k
-  insertedAnswer r (accepted i) = inserted (length (entries S i)) r
+  -- The answer and the index after, from how a call that may change the index ends: f is its answer with the number of
+  -- entries held after it. A refused call leaves "index" as it was.
+  abbrev pub outcomeAnswer : (ℕ → Answer S) → Outcome S → Answer S
+  outcomeAnswer f (refused k) = refusal k
+  outcomeAnswer f (accepted i) = f (length (entries S i))
 
   abbrev pub outcomeIndex : Index S → Outcome S → Index S
   outcomeIndex i (refused k) = i
@@ -81,8 +77,8 @@ module _ (S : Space) where
     module _ (Win : Window S) where
       -- The answer of a call on an index.
       unfoldable pub answer : Index S → Call S Win → Answer S
-      answer i (insertCall e) = insertedAnswer (removedTotal S R i (e .cell)) (insertion i e)
-      answer i (removeCall c) = outcomeAnswer (removal i c)
+      answer i (insertCall e) = outcomeAnswer (λ n. inserted n (removedTotal S R i (e .cell))) (insertion i e)
+      answer i (removeCall c) = outcomeAnswer reports (removal i c)
       answer i clearCall = reports 0
       answer i (pointCall c) = pointAnswer (entryAt S c i) (visits S c i)
       answer i (windowCall w) = windowAnswer (matches S Win w i) (windowVisits S Win w i)

@@ -96,14 +96,14 @@ module _ (S : Space) where
   abbrev pub cutInto : {A : Type 0} → Bool → S .Line → S .Poly → (List (Side (S .Line)) → List A) → List (Side (S .Line)) → List (Branch (S .Poly) A)
   cutInto few l p f ss = cond few (branchUnder ss p (f ss)) (branchUnder (left l ∷ ss) p (f (left l ∷ ss)) ++ branchUnder (right l ∷ ss) p (f (right l ∷ ss)))
 
-  -- The emission in one pass: the items of a node on the way under the sides of the splits above it.
-  unfoldable pub emitRow : (n : ℕ) → List (Side (S .Line)) → Way n → List (Item S n)
-  emitRow zero ss es = under zero ss es
-  emitRow (suc n) ss w =
+  -- Writing in one pass: the items of a node on the way under the sides of the splits above it.
+  unfoldable pub writeRow : (n : ℕ) → List (Side (S .Line)) → Way n → List (Item S n)
+  writeRow zero ss es = under zero ss es
+  writeRow (suc n) ss w =
       under (suc n) ss (w .before)
-      ++ (cutInto (few n (w .below)) (lineAt n (w .below)) (w .grown) (λ ts. emitRow n ts (w .below)) ss
+      ++ (cutInto (few n (w .below)) (lineAt n (w .below)) (w .grown) (λ ts. writeRow n ts (w .below)) ss
       ++ under (suc n) ss (w .after))
 
   -- The one or two branches that take the node's place, under the sides of the splits above it.
-  abbrev pub emit : (n : ℕ) → List (Side (S .Line)) → S .Poly → Way n → List (Item S (suc n))
-  emit n ss p w = cutInto (few n w) (lineAt n w) p (λ ts. emitRow n ts w) ss
+  abbrev pub write : (n : ℕ) → List (Side (S .Line)) → S .Poly → Way n → List (Item S (suc n))
+  write n ss p w = cutInto (few n w) (lineAt n w) p (λ ts. writeRow n ts w) ss

@@ -9,12 +9,17 @@ use Rattle.tree.specs.Nodes.{EntryOf, Item, held, nodes}
 use Rattle.tree.specs.Sound.{Count, SoundItems}
 use Rattle.tree.specs.Root.{Root}
 
+-- A tree that is not empty, with polygons P: its leaves lie level steps below the root, whose items are of the type I level.
+-- So "leaves are equally deep" by its type. No plane stands in it: trees of all fanouts are one type.
+pub record TreeOf (P : Type 0) (I : ℕ → Type 0) : Type 0 where
+  pub level : ℕ
+  pub root : P
+  pub items : List (I level)
+
 module _ (S : Space) where
-  -- A tree that is not empty: its leaves lie level steps below the root. So "leaves are equally deep" by its type.
-  pub record Tree : Type 0 where
-    pub level : ℕ
-    pub root : S .Poly
-    pub items : List (Item S level)
+  -- A tree of this plane.
+  abbrev pub Tree : Type 0
+  Tree = TreeOf (S .Poly) (Item S)
 
   -- The index: a tree, or nothing when it is empty.
   abbrev pub Index : Type 0

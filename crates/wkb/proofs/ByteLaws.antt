@@ -10,7 +10,7 @@ use borrow.Author.Tests.{ltb-true}
 use lib.Dec.{ltb}
 use lib.ListN.{length}
 use lib.Pow.{areBytes}
-use Rattle.geometry.proofs.Booleans.{split-and}
+use Rattle.polygons.proofs.Booleans.{split-and}
 use Rattle.wkb.specs.Bytes.{littleBytes, littleValue}
 
 -- k bytes

@@ -6,5 +6,5 @@ pub mod ReadLaws
 pub mod CollectionCases
 pub mod OverwriteLaws
 pub mod LittleLoop
-pub mod GeometryWays
+pub mod GeometryReturns
 pub mod PolygonsLoop

@@ -1,7 +1,7 @@
 -- The loop that writes a number's bytes.
 use Prim.Native.Nat.{ℕ, suc, _+_, _-_, _/_, _%_, _≤_, _<_}
 use mathlib.Core.Path.{_≡_, refl, sym, ap, _∙_}
-use mathlib.Core.List.{List, _∷_, _++_}
+use mathlib.Core.List.{List, _∷_, _++_, head-eq-of-cons-eq, tail-eq-of-cons-eq}
 use native.Mathlib.Omega.{arith}
 use native.Mathlib.Numerals.{add-one}
 use lib.ListN.{length, take, drop, getD, set, length-set}
@@ -28,12 +28,6 @@ little-suc : (n v : ℕ) → littleBytes (suc n) v ≡ (v % 256) ∷ littleBytes
 unfolding littleBytes
 little-suc n v = refl
 
-cons-heads : (a b : ℕ) (l m : List ℕ) → a ∷ l ≡ b ∷ m → a ≡ b
-cons-heads a b l m e = cc
-
-cons-tails : (a b : ℕ) (l m : List ℕ) → a ∷ l ≡ b ∷ m → l ≡ m
-cons-tails a b l m e = cc
-
 module _ (out₀ : List ℕ) (at k v : ℕ) (out : List ℕ) (rest i : ℕ) (w : Writing out₀ at k v out rest i) where
   pub writing-again : i < k → at + k ≤ length out₀
       → Writing out₀ at k v (set out (at + i) (rest % 256)) (rest / 256) (i + 1)
@@ -45,8 +39,8 @@ module _ (out₀ : List ℕ) (at k v : ℕ) (out : List ℕ) (rest i : ℕ) (w :
       let n : k - i ≡ suc (k - suc i) = omega arith in
       let e : getD s i 0 ∷ drop (suc i) s ≡ (rest % 256) ∷ littleBytes (k - suc i) (rest / 256)
       = sym (drop-cons s i 0 is) ∙ w .others ∙ ap (λ (m : ℕ). littleBytes m rest) n ∙ little-suc (k - suc i) rest in
-      let x : getD s i 0 ≡ rest % 256 = cons-heads _ _ _ _ e in
-      let y : drop (suc i) s ≡ littleBytes (k - suc i) (rest / 256) = cons-tails _ _ _ _ e in
+      let x : getD s i 0 ≡ rest % 256 = head-eq-of-cons-eq e in
+      let y : drop (suc i) s ≡ littleBytes (k - suc i) (rest / 256) = tail-eq-of-cons-eq e in
       record {
         few = omega arith;
         list = ap (λ (l : List ℕ). set l (at + i) (rest % 256)) (w .list)

@@ -18,9 +18,9 @@ pub enum Refusal {
     /// 'Cell not held (removal).'
     NotHeld,
     /// In step 2 a list passed its limit.
-    Polygon,
+    OverLimit,
     /// 'Tree after would exceed N nodes.'
-    Nodes,
+    TooManyNodes,
     /// 'List shorter than 3 x matches.'
     ShortList,
     /// 'Nothing is held' (nearest query).
@@ -37,8 +37,8 @@ impl Refusal {
             Refusal::NoSoundTree => 4,
             Refusal::Held => 5,
             Refusal::NotHeld => 6,
-            Refusal::Polygon => 7,
-            Refusal::Nodes => 8,
+            Refusal::OverLimit => 7,
+            Refusal::TooManyNodes => 8,
             Refusal::ShortList => 9,
             Refusal::NothingHeld => 10,
         }
@@ -46,7 +46,7 @@ impl Refusal {
 
     /// 'Index; work area zeroed': refusals 7 and 8. Others leave everything as it was.
     pub fn zeroes_work(self) -> bool {
-        matches!(self, Refusal::Polygon | Refusal::Nodes)
+        matches!(self, Refusal::OverLimit | Refusal::TooManyNodes)
     }
 }
 
@@ -56,8 +56,8 @@ impl From<tree::Refusal> for Refusal {
             tree::Refusal::Invalid => Refusal::Invalid,
             tree::Refusal::Held => Refusal::Held,
             tree::Refusal::NotHeld => Refusal::NotHeld,
-            tree::Refusal::Polygon(_) => Refusal::Polygon,
-            tree::Refusal::Nodes => Refusal::Nodes,
+            tree::Refusal::OverLimit(_) => Refusal::OverLimit,
+            tree::Refusal::TooManyNodes => Refusal::TooManyNodes,
             tree::Refusal::ShortList { .. } => Refusal::ShortList,
             tree::Refusal::NothingHeld => Refusal::NothingHeld,
         }

@@ -2,7 +2,7 @@
 
 use super::extra_area::extra_area;
 use super::polygon::{common_parts, has};
-use super::{Branch, PolygonLimit};
+use super::{Branch, Limit};
 use crate::geometry::{
     cut_list_by_polygon, refine, shared_cells, Cell, Rectangle, LIST_LIMIT, POLYGON_LIMIT,
 };
@@ -22,7 +22,7 @@ pub fn choose_branch(
     branches: &mut [Branch],
     parent: &[Rectangle],
     cell: Cell,
-) -> Result<Step, PolygonLimit> {
+) -> Result<Step, Limit> {
     if let Some(place) = branches.iter().position(|b| has(&b.polygon, cell)) {
         return Ok(Step { place, removed: 0 });
     }
@@ -70,11 +70,8 @@ fn siblings_of(branches: &[Branch], chosen: usize) -> Vec<Rectangle> {
 
 /// 'Cut the grown one by every sibling's polygon in order.' The limit of 256 is tested after the
 /// cut by each rectangle of each sibling.
-fn cut_by_siblings(
-    grown: Rectangle,
-    siblings: &[Rectangle],
-) -> Result<Vec<Rectangle>, PolygonLimit> {
-    cut_list_by_polygon(&[grown], siblings).map_err(|_| PolygonLimit::AfterCut)
+fn cut_by_siblings(grown: Rectangle, siblings: &[Rectangle]) -> Result<Vec<Rectangle>, Limit> {
+    cut_list_by_polygon(&[grown], siblings).map_err(|_| Limit::AfterCut)
 }
 
 /// 'Replace each piece by its common parts with the parent's rectangles': each piece in order, and
@@ -82,13 +79,13 @@ fn cut_by_siblings(
 fn common_parts_with_parent(
     pieces: &[Rectangle],
     parent: &[Rectangle],
-) -> Result<Vec<Rectangle>, PolygonLimit> {
+) -> Result<Vec<Rectangle>, Limit> {
     let parts: Vec<Rectangle> = pieces
         .iter()
         .flat_map(|&piece| common_parts(piece, parent))
         .collect();
     if parts.len() > LIST_LIMIT {
-        return Err(PolygonLimit::AfterCommonParts);
+        return Err(Limit::AfterCommonParts);
     }
     Ok(parts)
 }
@@ -98,11 +95,11 @@ fn with_pieces(
     polygon: &[Rectangle],
     chosen: usize,
     pieces: &[Rectangle],
-) -> Result<Vec<Rectangle>, PolygonLimit> {
+) -> Result<Vec<Rectangle>, Limit> {
     let (before, after) = (&polygon[..chosen], &polygon[chosen + 1..]);
     let refined = refine(&[before, pieces, after].concat());
     if refined.len() > POLYGON_LIMIT {
-        return Err(PolygonLimit::Refined);
+        return Err(Limit::Refined);
     }
     Ok(refined)
 }

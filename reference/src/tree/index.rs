@@ -88,9 +88,9 @@ impl Index {
             return Err(Refusal::Held);
         }
         let inserted = insert(self.tree(), Entry { cell, tag });
-        let Inserted { tree, removed } = inserted.map_err(Refusal::Polygon)?;
+        let Inserted { tree, removed } = inserted.map_err(Refusal::OverLimit)?;
         if tree.nodes() > self.n {
-            return Err(Refusal::Nodes);
+            return Err(Refusal::TooManyNodes);
         }
         self.tree = Some(tree);
         Ok(InsertAnswer {

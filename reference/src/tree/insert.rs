@@ -3,7 +3,7 @@
 use super::choose::{choose_branch, Step};
 use super::line::line;
 use super::split::split;
-use super::{Branch, Entry, Node, PolygonLimit, Tree, F};
+use super::{Branch, Entry, Limit, Node, Tree, F};
 use crate::geometry::Rectangle;
 
 /// What an insertion gives.
@@ -16,7 +16,7 @@ pub struct Inserted {
 }
 
 /// Puts the entry in. The cell is not held before.
-pub fn insert(tree: Option<&Tree>, entry: Entry) -> Result<Inserted, PolygonLimit> {
+pub fn insert(tree: Option<&Tree>, entry: Entry) -> Result<Inserted, Limit> {
     let Some(tree) = tree else {
         return Ok(Inserted {
             tree: single_entry(entry),
@@ -43,7 +43,7 @@ fn single_entry(entry: Entry) -> Tree {
 
 /// Steps 2 and 3 on the way down, step 4 for the children on the way up. Returns the cells removed
 /// here and below.
-fn insert_below(node: &mut Node, polygon: &[Rectangle], entry: Entry) -> Result<u64, PolygonLimit> {
+fn insert_below(node: &mut Node, polygon: &[Rectangle], entry: Entry) -> Result<u64, Limit> {
     match node {
         Node::Leaf(leaf) => {
             leaf.entries.push(entry);

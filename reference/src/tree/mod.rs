@@ -23,7 +23,7 @@ pub use insert::{insert, Inserted};
 pub use line::{leaf_line, routing_line, Line};
 pub use nearest::{least_distance, nearest, squared_distance, walk, Walk};
 pub use node::{Branch, Entry, Leaf, Node, Routing, Tree};
-pub use refusal::{PolygonLimit, Refusal};
+pub use refusal::{Limit, Refusal};
 pub use remove::remove;
 pub use split::{split, Side};
 

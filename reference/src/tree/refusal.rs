@@ -11,9 +11,9 @@ pub enum Refusal {
     /// 'Cell not held (removal).'
     NotHeld,
     /// In step 2 a list passed its limit.
-    Polygon(PolygonLimit),
+    OverLimit(Limit),
     /// 'Tree after would exceed N nodes.'
-    Nodes,
+    TooManyNodes,
     /// 'List shorter than 3 x matches'; reports the matches.
     ShortList { matches: usize },
     /// 'Nothing is held' (nearest query).
@@ -22,7 +22,7 @@ pub enum Refusal {
 
 /// The three limits of step 2, in the order of the work.
 #[derive(Clone, Copy, Debug, PartialEq, Eq)]
-pub enum PolygonLimit {
+pub enum Limit {
     /// 'Pieces over 256 after a cut by one rectangle.'
     AfterCut,
     /// 'Pieces over 256 .. after the common parts.'
@@ -38,8 +38,8 @@ impl Refusal {
             Refusal::Invalid => 3,
             Refusal::Held => 5,
             Refusal::NotHeld => 6,
-            Refusal::Polygon(_) => 7,
-            Refusal::Nodes => 8,
+            Refusal::OverLimit(_) => 7,
+            Refusal::TooManyNodes => 8,
             Refusal::ShortList { .. } => 9,
             Refusal::NothingHeld => 10,
         }

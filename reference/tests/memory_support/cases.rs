@@ -2,14 +2,14 @@
 //! with a group, by which they differ from test to test.
 
 use super::built::built_trees;
+use super::grown_path::tall_tree;
+use super::half_sound::loose_tree;
 use super::images::{any_image, large_image, nodes, small_grid, tree_of_case};
 use super::lent::Lent;
-use super::loose::loose_tree;
+use super::piece_limits::ragged;
 use super::queries::Queried;
-use super::ragged::ragged;
-use super::tall::tall_tree;
 use super::MOST_PARTS;
-use crate::support::tally::Tally;
+use crate::support::counts::Tally;
 use crate::support::{say, seed};
 use reference::geometry::Rectangle;
 use reference::memory::is_sound;

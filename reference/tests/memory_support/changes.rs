@@ -1,11 +1,11 @@
 //! Many insertions and removals on one sound index.
 
-use super::session::Session;
+use super::calls::Session;
 use super::trees::cell_of;
-use super::work::{Dirt, DIRTS};
+use super::work_areas::{Dirt, DIRTS};
 use crate::support::checked::Command;
+use crate::support::counts::Tally;
 use crate::support::seed;
-use crate::support::tally::Tally;
 use reference::geometry::{Cell, Rectangle};
 use reference::random::Random;
 use reference::tree::{Entry, Tree};

@@ -3,7 +3,7 @@
 use super::damage::Change;
 use super::lent::Lent;
 use super::queries::any_window;
-use crate::support::tally::Tally;
+use crate::support::counts::Tally;
 use reference::geometry::{Cell, Rectangle};
 use reference::random::Random;
 use reference::tree::Tree;

@@ -2,7 +2,7 @@
 //! kinds of queries that the tests count.
 
 use super::outcome::WindowOutput;
-use crate::support::tally::Tally;
+use crate::support::counts::Tally;
 use std::fmt::Arguments;
 
 #[derive(Clone, Debug, PartialEq, Eq)]

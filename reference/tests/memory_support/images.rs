@@ -1,8 +1,8 @@
 //! Images of trees at parts that the layout admits.
 
+use super::crossed_lines::wheel_tree;
 use super::histories::random_history;
 use super::trees::{random_tree, tree_of};
-use super::wheel::wheel_tree;
 use reference::geometry::Rectangle;
 use reference::memory::image;
 use reference::random::Random;

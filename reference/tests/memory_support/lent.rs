@@ -5,7 +5,7 @@ use super::emptiness::EmptinessOutput;
 use super::guard::{fill, guarded, GUARD};
 use super::nearest::NearestOutput;
 use super::outcome::{ClearOutput, InsertOutput, PointOutput, RemoveOutput, WindowOutput};
-use super::work::Work;
+use super::work_areas::Work;
 use reference::geometry::Cell;
 use reference::memory::{self, read_back, Reading};
 use reference::proved_index;

@@ -1,7 +1,7 @@
 //! What a nearest query leaves behind; the entry, looked for among those held; and the kinds of
 //! queries that the tests count.
 
-use crate::support::tally::Tally;
+use crate::support::counts::Tally;
 use reference::geometry::Cell;
 use reference::tree::Entry;
 use std::fmt::Arguments;

@@ -2,7 +2,7 @@
 
 use super::changes::any_cell;
 use super::lent::Lent;
-use crate::support::tally::Tally;
+use crate::support::counts::Tally;
 use reference::geometry::{Cell, Rectangle};
 use reference::memory::Reading;
 use reference::random::Random;

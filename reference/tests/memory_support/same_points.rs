@@ -10,8 +10,8 @@ use super::queries::{
     any_window, cells_of, invalid_windows, windows_of, with_margin, INVALID_CELLS,
 };
 use crate::support::build::rectangle;
+use crate::support::counts::Tally;
 use crate::support::sound::polygon_has;
-use crate::support::tally::Tally;
 use reference::geometry::{Cell, Rectangle};
 use reference::random::Random;
 use reference::tree::Entry;

@@ -1,9 +1,9 @@
 //! An index with its record: every command is checked against document 01.
 
+use super::counts::Tally;
 use super::kinds::{accepted_kinds, refused_kind};
-use super::settle::settle;
 use super::sound::{check_sound, held_entries, polygon_has, polygon_meets, views};
-use super::tally::Tally;
+use super::splitting::settle;
 use super::trace::{differs_by_area, trace, Sizes, Trace};
 use super::GRID_END;
 use reference::geometry::{Cell, Rectangle};
@@ -150,15 +150,15 @@ impl Checked {
         if trace.sizes.inside > 0 {
             self.tally.count("I with a sibling's rectangle inside");
         }
-        let expected = trace.limit.map(Refusal::Polygon);
+        let expected = trace.limit.map(Refusal::OverLimit);
         let passed = answer
             .err()
-            .filter(|refusal| matches!(refusal, Refusal::Polygon(_)));
+            .filter(|refusal| matches!(refusal, Refusal::OverLimit(_)));
         assert_eq!(passed, expected, "{place}: limits of step 2");
         match answer {
             Ok(answer) => self.check_accepted(tree, &trace, answer, place),
-            Err(Refusal::Nodes) => self.check_too_many_nodes(&trace, place),
-            Err(Refusal::Polygon(_)) => {}
+            Err(Refusal::TooManyNodes) => self.check_too_many_nodes(&trace, place),
+            Err(Refusal::OverLimit(_)) => {}
             Err(refusal) => panic!("{place}: {refusal:?}"),
         }
     }

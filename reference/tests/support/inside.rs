@@ -3,7 +3,7 @@
 
 use super::build::{leaf, routing, tree};
 use super::nested::{bars, growing, left, nested, right, row, BLOCK, MIDDLE, ROOT};
-use reference::tree::PolygonLimit::{self, AfterCommonParts, AfterCut, Refined};
+use reference::tree::Limit::{self, AfterCommonParts, AfterCut, Refined};
 use reference::tree::Tree;
 
 /// A tree into which the cell of `nested` is inserted.
@@ -14,7 +14,7 @@ pub struct Limited {
     /// rectangles of the refined polygon. 0 where a limit is passed before.
     pub sizes: [usize; 3],
     /// The limit that is passed.
-    pub limit: Option<PolygonLimit>,
+    pub limit: Option<Limit>,
 }
 
 /// Just below and just above each limit; and the longest list that is ever refined, of 256 common

@@ -4,7 +4,7 @@ use super::checked::Command;
 use super::sound::{views, View};
 use super::trace::Trace;
 use super::POLYGON_LIMIT;
-use reference::tree::PolygonLimit::{AfterCommonParts, AfterCut, Refined};
+use reference::tree::Limit::{AfterCommonParts, AfterCut, Refined};
 use reference::tree::{Node, Refusal, Tree};
 
 /// The kinds of an accepted insertion.
@@ -51,12 +51,12 @@ pub fn refused_kind(command: Command, refusal: Refusal) -> &'static str {
     match (command, refusal) {
         (Command::Insert(..), Refusal::Invalid) => "I refused 3",
         (Command::Insert(..), Refusal::Held) => "I refused 5",
-        (Command::Insert(..), Refusal::Polygon(AfterCut)) => "I refused 7 after a cut",
-        (Command::Insert(..), Refusal::Polygon(AfterCommonParts)) => {
+        (Command::Insert(..), Refusal::OverLimit(AfterCut)) => "I refused 7 after a cut",
+        (Command::Insert(..), Refusal::OverLimit(AfterCommonParts)) => {
             "I refused 7 after the common parts"
         }
-        (Command::Insert(..), Refusal::Polygon(Refined)) => "I refused 7, refined polygon",
-        (Command::Insert(..), Refusal::Nodes) => "I refused 8",
+        (Command::Insert(..), Refusal::OverLimit(Refined)) => "I refused 7, refined polygon",
+        (Command::Insert(..), Refusal::TooManyNodes) => "I refused 8",
         (Command::Remove(_), Refusal::Invalid) => "R refused 3",
         (Command::Remove(_), Refusal::NotHeld) => "R refused 6",
         (Command::Point(_), Refusal::Invalid) => "P refused 3",

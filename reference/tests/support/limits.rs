@@ -4,7 +4,7 @@
 use super::build::{leaf, routing, tree};
 use super::checked::Checked;
 use super::trace::{trace, Sizes};
-use super::{bars, ladder, notch, parent};
+use super::{cut_by_siblings, grown_leaves, over_sibling, parent};
 use reference::geometry::Cell;
 use reference::tree::{Branch, Entry, Node, Tree};
 
@@ -31,8 +31,8 @@ pub fn pieces(counts: &[usize]) -> usize {
 /// The bars in a fresh index, the rows between them filled, and the cell to grow to.
 pub fn filled_bars(counts: &[usize]) -> (Checked, [u32; 2]) {
     let mut checked = Checked::new(7, format!("bars {counts:?}"));
-    ladder::put_all(&mut checked, &ladder::eight(0, 0));
-    let cell = bars::build(&mut checked, 0, &ends(counts), true);
+    grown_leaves::put_all(&mut checked, &grown_leaves::eight(0, 0));
+    let cell = cut_by_siblings::build(&mut checked, 0, &ends(counts), true);
     assert_eq!(sizes(&checked, cell).after_cut, pieces(counts));
     (checked, cell)
 }
@@ -60,7 +60,7 @@ pub const PARTS_258: [usize; 5] = [2, 3, 4, 2, 19];
 pub fn below_a_parent(counts: &[usize]) -> (Checked, Cell) {
     let mut checked = Checked::new(12, format!("bars {counts:?} below a parent"));
     let row = parent::build(&mut checked);
-    let cell = bars::build(&mut checked, row, &ends(counts), false);
+    let cell = cut_by_siblings::build(&mut checked, row, &ends(counts), false);
     (checked, cell)
 }
 
@@ -73,7 +73,7 @@ pub fn row_after_the_bars(mut tree: Tree) -> Tree {
     let [_, upper, _, filling, _] = &mut root.branches[..] else {
         panic!("not five leaves");
     };
-    let full = bars::EDGE + PIECES_256.len() as u32;
+    let full = cut_by_siblings::EDGE + PIECES_256.len() as u32;
     let row = filling.polygon.iter().rposition(|r| r.ur[0] == full);
     upper.polygon.pop();
     upper
@@ -108,11 +108,11 @@ pub const ACROSS_CELL: Cell = [199, 21_899];
 /// A leaf's polygon of 16 rectangles in a fresh index, and the cell that makes them 17.
 pub fn rungs() -> (Checked, Cell) {
     let mut checked = Checked::new(6, "rungs".to_string());
-    ladder::put_all(&mut checked, &ladder::eight(0, 0));
-    ladder::three_leaves(&mut checked, 0, 2000, 60_000);
-    let rows = ladder::add_rungs(&mut checked, 0, 0, 15);
-    assert_eq!(ladder::polygon_of(&checked, [0, rows[0]]).len(), 16);
-    let above = ladder::rung_to_pass(&mut checked, 0, rows[0]);
+    grown_leaves::put_all(&mut checked, &grown_leaves::eight(0, 0));
+    grown_leaves::three_leaves(&mut checked, 0, 2000, 60_000);
+    let rows = grown_leaves::add_rungs(&mut checked, 0, 0, 15);
+    assert_eq!(grown_leaves::polygon_of(&checked, [0, rows[0]]).len(), 16);
+    let above = grown_leaves::rung_to_pass(&mut checked, 0, rows[0]);
     (checked, [0, above])
 }
 
@@ -127,6 +127,6 @@ pub const INSIDE_257: [u32; 16] = [0, 0, 1, 2, 3, 4, 5, 6, 7, 8, 9, 10, 11, 12, 
 /// another of its rectangles would grow, past no bar.
 pub fn over_bars(reaches: &[u32]) -> (Checked, Cell) {
     let mut checked = Checked::new(5, format!("over bars {reaches:?}"));
-    let cell = notch::build(&mut checked, reaches);
+    let cell = over_sibling::build(&mut checked, reaches);
     (checked, cell)
 }

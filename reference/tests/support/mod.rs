@@ -4,7 +4,6 @@
 // Each test program uses a part of this module.
 #![allow(dead_code)]
 
-pub mod bars;
 pub mod build;
 pub mod case;
 pub mod cell_set;
@@ -12,31 +11,32 @@ pub mod checked;
 pub mod choices;
 pub mod compared;
 pub mod containment;
-pub mod crowded;
-pub mod dear_cuts;
+pub mod counts;
+pub mod cut_by_siblings;
 pub mod extra;
 pub mod fault;
+pub mod grown_leaves;
 pub mod inside;
 pub mod joins;
 pub mod kinds;
-pub mod ladder;
 pub mod limits;
 pub mod lines;
 pub mod lists;
+pub mod many_pieces;
+pub mod most_removed;
 pub mod nested;
-pub mod notch;
 pub mod others;
+pub mod over_sibling;
 pub mod parent;
 pub mod polygons;
 pub mod program;
+pub mod removed_cells;
 pub mod report;
-pub mod settle;
 pub mod shapes;
 pub mod sound;
-pub mod stairs;
+pub mod splitting;
 pub mod streams;
 pub mod tables;
-pub mod tally;
 pub mod trace;
 pub mod wkb;
 

@@ -6,7 +6,7 @@
 use super::build::{entry, leaf, polygon, tree};
 use super::LIST_LIMIT;
 use reference::geometry::{Cell, Rectangle};
-use reference::tree::{Branch, Entry, Node, PolygonLimit, Tree};
+use reference::tree::{Branch, Entry, Limit, Node, Tree};
 
 /// The cell to which the arm grows.
 pub const CELL: Cell = [30_000, 60];
@@ -59,7 +59,7 @@ pub struct Inside {
     pub pieces: usize,
     pub refined: usize,
     /// The polygon of the leaf after, or the limit that is passed.
-    pub expected: Result<Vec<Rectangle>, PolygonLimit>,
+    pub expected: Result<Vec<Rectangle>, Limit>,
 }
 
 /// Each number of bars, also with x and y exchanged.
@@ -80,8 +80,8 @@ fn upright(n: u32) -> Inside {
         refined: if is_over { 0 } else { 3 * n as usize + 2 },
         expected: match n {
             1..=4 => Ok(polygon_over(n)),
-            _ if is_over => Err(PolygonLimit::AfterCut),
-            _ => Err(PolygonLimit::Refined),
+            _ if is_over => Err(Limit::AfterCut),
+            _ => Err(Limit::Refined),
         },
     }
 }
@@ -97,7 +97,7 @@ fn on_their_side(n: u32) -> Inside {
         refined: 3 * n as usize + 2,
         expected: match n {
             1..=4 => Ok(turned_polygon_over(n)),
-            _ => Err(PolygonLimit::Refined),
+            _ => Err(Limit::Refined),
         },
     }
 }

@@ -1,7 +1,7 @@
 //! A built stream to a routing node whose polygon is two large rectangles that overlap.
 
 use super::checked::Checked;
-use super::ladder::{eight, put, put_all, split_rung, take, take_all, touch};
+use super::grown_leaves::{eight, put, put_all, split_rung, take, take_all, touch};
 use reference::geometry::{Cell, Rectangle};
 use reference::tree::Node;
 

@@ -5,7 +5,7 @@ use super::extra::{by_area, by_cuts, Rule};
 use super::sound::polygon_has;
 use super::{LIST_LIMIT, POLYGON_LIMIT};
 use reference::geometry::{cut_list, refine, Cell, Rectangle};
-use reference::tree::{Branch, Entry, Node, PolygonLimit, Tree};
+use reference::tree::{Branch, Entry, Limit, Node, Tree};
 
 /// The largest lists of step 2, over all levels up to the one that passes a limit.
 #[derive(Clone, Copy, Debug, Default, PartialEq, Eq)]
@@ -37,7 +37,7 @@ impl Sizes {
 #[derive(Clone, Debug)]
 pub struct Trace {
     pub sizes: Sizes,
-    pub limit: Option<PolygonLimit>,
+    pub limit: Option<Limit>,
     /// The tree after steps 1 to 3: a leaf may have nine entries. Not complete where a limit was
     /// passed.
     pub unsplit: Tree,
@@ -114,7 +114,7 @@ fn follow(
     parent: &[Rectangle],
     entry: Entry,
     sizes: &mut Sizes,
-) -> Result<Level, PolygonLimit> {
+) -> Result<Level, Limit> {
     for (place, branch) in branches.iter().enumerate() {
         if polygon_has(&branch.polygon, entry.cell) {
             return Ok(Level {
@@ -136,7 +136,7 @@ fn follow(
     for &s in siblings {
         pieces = cut_list(&pieces, s);
         sizes.after_cut = sizes.after_cut.max(pieces.len());
-        within(pieces.len(), LIST_LIMIT, PolygonLimit::AfterCut)?;
+        within(pieces.len(), LIST_LIMIT, Limit::AfterCut)?;
     }
     // The pieces of one rectangle share no cell.
     let left: u64 = pieces.iter().map(|piece| piece.area()).sum();
@@ -145,11 +145,11 @@ fn follow(
         .flat_map(|piece| parent.iter().filter_map(|&p| piece.common_part(p)))
         .collect();
     sizes.after_common_parts = sizes.after_common_parts.max(parts.len());
-    within(parts.len(), LIST_LIMIT, PolygonLimit::AfterCommonParts)?;
+    within(parts.len(), LIST_LIMIT, Limit::AfterCommonParts)?;
     list.splice(at..=at, parts);
     let refined = refine(&list);
     sizes.refined = sizes.refined.max(refined.len());
-    within(refined.len(), POLYGON_LIMIT, PolygonLimit::Refined)?;
+    within(refined.len(), POLYGON_LIMIT, Limit::Refined)?;
     Ok(Level {
         place,
         polygon: refined,
@@ -169,7 +169,7 @@ fn cheapest(rule: Rule, branches: &[Branch], cell: Cell) -> (usize, usize) {
     (branch, rectangle)
 }
 
-fn within(length: usize, most: usize, limit: PolygonLimit) -> Result<(), PolygonLimit> {
+fn within(length: usize, most: usize, limit: Limit) -> Result<(), Limit> {
     if length > most {
         Err(limit)
     } else {

@@ -179,7 +179,7 @@ fn outcome(index: &Index, cell: Cell) -> Outcome {
     match after.insert(cell, 0) {
         Ok(_) if nodes(&after) > nodes(index) => Outcome::Splits,
         Ok(_) => Outcome::Fits,
-        Err(Refusal::Nodes) => Outcome::TooManyNodes,
+        Err(Refusal::TooManyNodes) => Outcome::TooManyNodes,
         Err(_) => Outcome::Other,
     }
 }

@@ -1,8 +1,7 @@
--- `extra::extra_area` meets its contract; its ways out are in ExtraWays.
+-- `extra::extra_area` meets its contract; its returns are in ExtraReturns.
 use borrow.Author.Needs.{needs}
-use Rattle.geometry.proofs.CellLaws.{Valid}
-use Rattle.area.proofs.OneWays.{grid-x, grid-y}
-use Rattle.area.proofs.ExtraWays.{read-valid, new-valid, new-ends, extra-below, extra-above, extra-outside, extra-counted}
+use Rattle.geometry.proofs.CellLaws.{Valid, grid-x, grid-y}
+use Rattle.area.proofs.ExtraReturns.{read-valid, new-valid, new-ends, extra-below, extra-above, extra-outside, extra-counted}
 use Rattle.area.proofs.extra.extra_area.Statement.{statement}
 use Rattle.area.proofs.extra.extra_area.Tie as tie
 

@@ -1,6 +1,7 @@
--- `extra::outside` meets its contract; its ways out are in OutsideWays.
+-- `extra::outside` meets its contract; its returns are in OutsideReturns.
 use borrow.Author.Needs.{needs}
-use Rattle.area.proofs.OutsideWays.{valid-wide, valid-high, part-wide, part-high, part-less, outside-part, outside-all}
+use Rattle.geometry.proofs.CellLaws.{valid-wide, valid-high}
+use Rattle.area.proofs.OutsideReturns.{part-wide, part-high, part-less, outside-part, outside-all}
 use Rattle.area.proofs.extra.outside.Statement.{statement}
 use Rattle.area.proofs.extra.outside.Tie as tie
 

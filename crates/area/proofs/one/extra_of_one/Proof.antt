@@ -1,7 +1,7 @@
--- `one::extra_of_one` meets its contract; the laws that it needs are in OneWays.
+-- `one::extra_of_one` meets its contract; the laws that it needs are in OneReturns.
 use native.Mathlib.Omega.{arith}
-use Rattle.geometry.proofs.CellLaws.{Valid, valid-of}
-use Rattle.area.proofs.OneWays.{grid-x, grid-y, grown-valid, area-less, area-extra}
+use Rattle.geometry.proofs.CellLaws.{Valid, valid-of, grid-x, grid-y}
+use Rattle.area.proofs.OneReturns.{grown-valid, area-less, area-extra}
 use Rattle.area.proofs.one.extra_of_one.Statement.{statement}
 use Rattle.area.proofs.one.extra_of_one.Tie as tie
 

@@ -1,5 +1,5 @@
--- `parsing::choose` meets its contract; its ways out are in CommandWays.
-use Rattle.commands.proofs.CommandWays.{choose-insert, choose-no-insert, choose-remove, choose-no-remove, choose-point, choose-no-point, choose-window, choose-no-window, choose-clear, choose-no-clear, choose-other}
+-- `parsing::choose` meets its contract; its returns are in CommandReturns.
+use Rattle.commands.proofs.CommandReturns.{choose-insert, choose-no-insert, choose-remove, choose-no-remove, choose-point, choose-no-point, choose-window, choose-no-window, choose-clear, choose-no-clear, choose-other}
 use borrow.Author.Needs.{needs}
 use Rattle.commands.proofs.parsing.choose.Statement.{statement}
 use Rattle.commands.proofs.parsing.choose.Tie as tie

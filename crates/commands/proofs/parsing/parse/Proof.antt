@@ -1,5 +1,5 @@
--- `parsing::parse` meets its contract; its ways out are in CommandWays.
-use Rattle.commands.proofs.CommandWays.{parse-long, parse-no-letter, parse-piece, parse-bad, parse-good}
+-- `parsing::parse` meets its contract; its returns are in CommandReturns.
+use Rattle.commands.proofs.CommandReturns.{parse-long, parse-no-letter, parse-piece, parse-bad, parse-good}
 use borrow.Author.Needs.{needs}
 use borrow.Author.Tests.{not-true, not-false}
 use Rattle.commands.proofs.parsing.parse.Statement.{statement}

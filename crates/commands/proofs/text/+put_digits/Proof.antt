@@ -1,4 +1,4 @@
--- `text::put_digits` meets its contract; its ways out are in TextLaws.
+-- `text::put_digits` meets its contract; its returns are in TextLaws.
 use native.Mathlib.Omega.{arith}
 use Rattle.commands.proofs.TextLaws.{room-digit, put-digit, room-tenth, room-last, put-last}
 use borrow.Author.Needs.{needs}

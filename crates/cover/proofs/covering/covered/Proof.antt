@@ -16,11 +16,11 @@ is-within-any-requires c κs = search needs
 returns-3 : tie.Need-returns-3
 returns-3 c = search covered-within
 
-none-left-requires : tie.Need-none-left-requires
-none-left-requires c κs = search needs
+none-remaining-requires : tie.Need-none-remaining-requires
+none-remaining-requires c κs = search needs
 
 returns-4 : tie.Need-returns-4
 returns-4 c = search covered-whole
 
 pub covered-spec : {M : Type 1} → statement M
-covered-spec = tie.close (tie.spec returns returns-2 is-within-any-requires returns-3 none-left-requires returns-4)
+covered-spec = tie.close (tie.spec returns returns-2 is-within-any-requires returns-3 none-remaining-requires returns-4)

@@ -1,6 +1,6 @@
 -- `rect_distance` meets its contract.
 use borrow.Author.Needs.{needs}
-use Rattle.distance.proofs.CodeWays.{wide-of, high-of, found-grid, found-distance}
+use Rattle.distance.proofs.CodeReturns.{wide-of, high-of, found-grid, found-distance}
 use Rattle.distance.proofs.squared.rect_distance.Statement.{statement}
 use Rattle.distance.proofs.squared.rect_distance.Tie as tie
 

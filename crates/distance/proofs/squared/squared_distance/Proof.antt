@@ -1,6 +1,6 @@
 -- `squared_distance` meets its contract.
 use native.Mathlib.Omega.{arith}
-use Rattle.distance.proofs.CodeWays.{x-square, y-square, squares}
+use Rattle.distance.proofs.CodeReturns.{x-square, y-square, squares}
 use borrow.Author.Needs.{needs}
 use Rattle.distance.proofs.squared.squared_distance.Statement.{statement}
 use Rattle.distance.proofs.squared.squared_distance.Tie as tie

@@ -1,10 +1,10 @@
--- `calls::common` meets its contract; the laws that it needs are in Ways.
+-- `calls::common` meets its contract; the laws that it needs are in Returns.
 use Prim.Native.Nat.{_≤_}
 use native.Mathlib.Omega.{arith}
 use borrow.Author.Tests.{not-true, not-false}
 use borrow.Author.Needs.{needs}
 use Rattle.drawing.specs.Calls.{validWithRect, commonDrawn}
-use Rattle.drawing.proofs.Ways.{bad-result, bad-list, bad-third, common-over, common-wrote}
+use Rattle.drawing.proofs.Returns.{bad-result, bad-list, bad-third, common-over, common-wrote}
 use Rattle.geometry.proofs.CutLoops.{few-of}
 use Rattle.drawing.proofs.calls.common.Statement.{statement}
 use Rattle.drawing.proofs.calls.common.Tie as tie

@@ -1,10 +1,10 @@
--- `calls::cut` meets its contract; the laws that it needs are in Ways.
+-- `calls::cut` meets its contract; the laws that it needs are in Returns.
 use Prim.Native.Nat.{_≤_}
 use native.Mathlib.Omega.{arith}
 use borrow.Author.Tests.{not-true, not-false}
 use borrow.Author.Needs.{needs}
 use Rattle.drawing.specs.Calls.{validWithRect, cutDrawn}
-use Rattle.drawing.proofs.Ways.{bad-result, bad-list, bad-third, three-over, three-wrote}
+use Rattle.drawing.proofs.Returns.{bad-result, bad-list, bad-third, three-over, three-wrote}
 use Rattle.geometry.proofs.CutLoops.{few-of}
 use Rattle.drawing.proofs.calls.cut.Statement.{statement}
 use Rattle.drawing.proofs.calls.cut.Tie as tie

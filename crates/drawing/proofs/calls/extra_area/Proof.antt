@@ -1,7 +1,7 @@
--- `calls::extra_area` meets its contract; the laws that it needs are in Ways and GrowLoop.
+-- `calls::extra_area` meets its contract; the laws that it needs are in Returns and GrowLoop.
 use borrow.Author.Tests.{not-true, not-false}
 use borrow.Author.Needs.{needs}
-use Rattle.drawing.proofs.Ways.{told}
+use Rattle.drawing.proofs.Returns.{told}
 use Rattle.drawing.proofs.GrowLoop.{unfit-rect, unfit-cell, fit-rect, fit}
 use Rattle.drawing.proofs.calls.extra_area.Statement.{statement}
 use Rattle.drawing.proofs.calls.extra_area.Tie as tie

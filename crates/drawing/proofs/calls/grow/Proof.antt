@@ -1,11 +1,11 @@
--- `calls::grow` meets its contract; the laws that it needs are in Ways and GrowLoop.
+-- `calls::grow` meets its contract; the laws that it needs are in Returns and GrowLoop.
 use Prim.Native.Nat.{_≤_, _/_}
 use native.Mathlib.Omega.{arith}
 use lib.ListN.{length}
 use borrow.Author.Tests.{not-true, not-false}
 use borrow.Author.Needs.{needs}
 use Rattle.drawing.specs.Calls.{validWithCell}
-use Rattle.drawing.proofs.Ways.{bad-result, bad-list, bad-third, told, list-few}
+use Rattle.drawing.proofs.Returns.{bad-result, bad-list, bad-third, told, list-few}
 use Rattle.drawing.proofs.GrowLoop.{grow-wrote}
 use Rattle.drawing.proofs.calls.grow.Statement.{statement}
 use Rattle.drawing.proofs.calls.grow.Tie as tie

@@ -1,4 +1,4 @@
--- `calls::refine` meets its contract; the laws that it needs are in Ways.
+-- `calls::refine` meets its contract; the laws that it needs are in Returns.
 use Prim.Native.Nat.{_/_}
 use Prim.Native.Nat.{_≤_}
 use native.Mathlib.Omega.{arith}
@@ -6,7 +6,7 @@ use lib.ListN.{length}
 use borrow.Author.Tests.{not-true, not-false}
 use borrow.Author.Needs.{needs}
 use Rattle.drawing.specs.Calls.{validAlone, refineDrawn}
-use Rattle.drawing.proofs.Ways.{alone-bad-result, alone-bad-list, refine-wrote, list-few}
+use Rattle.drawing.proofs.Returns.{alone-bad-result, alone-bad-list, refine-wrote, list-few}
 use Rattle.drawing.proofs.calls.refine.Statement.{statement}
 use Rattle.drawing.proofs.calls.refine.Tie as tie
 

@@ -1,6 +1,6 @@
--- `calls::refine_in` meets its contract; the laws that it needs are in Ways.
+-- `calls::refine_in` meets its contract; the laws that it needs are in Returns.
 use borrow.Author.Needs.{needs}
-use Rattle.drawing.proofs.Ways.{refined-into}
+use Rattle.drawing.proofs.Returns.{refined-into}
 use Rattle.drawing.proofs.calls.refine_in.Statement.{statement}
 use Rattle.drawing.proofs.calls.refine_in.Tie as tie
 

@@ -1,7 +1,7 @@
--- `containing::contains` meets its contract; its ways out are in ContainsWays.
+-- `containing::contains` meets its contract; its returns are in ContainsReturns.
 use borrow.Author.Tests.{not-true, not-false}
 use borrow.Author.Needs.{needs}
-use Rattle.drawing.proofs.ContainsWays.{no-polygon, off-grid, tested}
+use Rattle.drawing.proofs.ContainsReturns.{no-polygon, off-grid, tested}
 use Rattle.drawing.proofs.containing.contains.Statement.{statement}
 use Rattle.drawing.proofs.containing.contains.Tie as tie
 

@@ -1,6 +1,6 @@
--- `exports::lintzoger_common` meets its contract; the laws that it needs are in ExportWays.
+-- `exports::lintzoger_common` meets its contract; the laws that it needs are in ExportReturns.
 use borrow.Author.Needs.{needs}
-use Rattle.drawing.proofs.ExportWays.{exported}
+use Rattle.drawing.proofs.ExportReturns.{exported}
 use Rattle.drawing.proofs.exports.lintzoger_common.Statement.{statement}
 use Rattle.drawing.proofs.exports.lintzoger_common.Tie as tie
 

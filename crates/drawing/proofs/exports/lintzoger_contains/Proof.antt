@@ -1,6 +1,6 @@
--- `exports::lintzoger_contains` meets its contract; the laws that it needs are in ContainsWays.
+-- `exports::lintzoger_contains` meets its contract; the laws that it needs are in ContainsReturns.
 use borrow.Author.Needs.{needs}
-use Rattle.drawing.proofs.ContainsWays.{compared-fits, tested-exported, refused-exported}
+use Rattle.drawing.proofs.ContainsReturns.{compared-fits, tested-exported, refused-exported}
 use Rattle.drawing.proofs.exports.lintzoger_contains.Statement.{statement}
 use Rattle.drawing.proofs.exports.lintzoger_contains.Tie as tie
 

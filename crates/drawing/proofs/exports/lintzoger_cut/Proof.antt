@@ -1,6 +1,6 @@
--- `exports::lintzoger_cut` meets its contract; the laws that it needs are in ExportWays.
+-- `exports::lintzoger_cut` meets its contract; the laws that it needs are in ExportReturns.
 use borrow.Author.Needs.{needs}
-use Rattle.drawing.proofs.ExportWays.{exported}
+use Rattle.drawing.proofs.ExportReturns.{exported}
 use Rattle.drawing.proofs.exports.lintzoger_cut.Statement.{statement}
 use Rattle.drawing.proofs.exports.lintzoger_cut.Tie as tie
 

@@ -1,7 +1,7 @@
--- `exports::lintzoger_cut_polygon` meets its contract; the laws that it needs are in PolygonCutWays.
+-- `exports::lintzoger_cut_polygon` meets its contract; the laws that it needs are in PolygonCutReturns.
 use Prim.Native.Nat.{_≤_}
 use native.Mathlib.Omega.{arith}
-use Rattle.drawing.proofs.PolygonCutWays.{few-written, wrote-exported, invalid-exported, over-exported}
+use Rattle.drawing.proofs.PolygonCutReturns.{few-written, wrote-exported, invalid-exported, over-exported}
 use borrow.Author.Needs.{needs}
 use Rattle.drawing.proofs.exports.lintzoger_cut_polygon.Statement.{statement}
 use Rattle.drawing.proofs.exports.lintzoger_cut_polygon.Tie as tie

@@ -1,6 +1,6 @@
--- `exports::lintzoger_extra_area` meets its contract; the laws that it needs are in ExportWays.
+-- `exports::lintzoger_extra_area` meets its contract; the laws that it needs are in ExportReturns.
 use borrow.Author.Needs.{needs}
-use Rattle.drawing.proofs.ExportWays.{area-number, area-reported, unfit-number, unfit-reported}
+use Rattle.drawing.proofs.ExportReturns.{area-number, area-reported, unfit-number, unfit-reported}
 use Rattle.drawing.proofs.exports.lintzoger_extra_area.Statement.{statement}
 use Rattle.drawing.proofs.exports.lintzoger_extra_area.Tie as tie
 

@@ -1,6 +1,6 @@
--- `exports::lintzoger_wkb` meets its contract; the laws that it needs are in WkbWays.
+-- `exports::lintzoger_wkb` meets its contract; the laws that it needs are in WkbReturns.
 use borrow.Author.Needs.{needs}
-use Rattle.drawing.proofs.WkbWays.{bytes-fit, bytes-exported, bad-exported, short-exported}
+use Rattle.drawing.proofs.WkbReturns.{bytes-fit, bytes-exported, bad-exported, short-exported}
 use Rattle.drawing.proofs.exports.lintzoger_wkb.Statement.{statement}
 use Rattle.drawing.proofs.exports.lintzoger_wkb.Tie as tie
 

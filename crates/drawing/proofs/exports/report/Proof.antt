@@ -1,8 +1,8 @@
--- `exports::report` meets its contract; the laws that it needs are in ExportWays.
+-- `exports::report` meets its contract; the laws that it needs are in ExportReturns.
 use Prim.Native.Nat.{_≤_}
 use native.Mathlib.Omega.{arith}
 use borrow.Author.Needs.{needs}
-use Rattle.drawing.proofs.ExportWays.{few-wrote}
+use Rattle.drawing.proofs.ExportReturns.{few-wrote}
 use Rattle.drawing.proofs.exports.report.Statement.{statement}
 use Rattle.drawing.proofs.exports.report.Tie as tie
 

@@ -1,5 +1,5 @@
--- `polygon_cut::cut_by_polygon` meets its contract; the laws that it needs are in PolygonCutWays.
-use Rattle.drawing.proofs.PolygonCutWays.{wrote-list, wrote-polygon, cut-wrote, cut-invalid, cut-over}
+-- `polygon_cut::cut_by_polygon` meets its contract; the laws that it needs are in PolygonCutReturns.
+use Rattle.drawing.proofs.PolygonCutReturns.{wrote-list, wrote-polygon, cut-wrote, cut-invalid, cut-over}
 use borrow.Author.Needs.{needs}
 use Rattle.drawing.proofs.polygon_cut.cut_by_polygon.Statement.{statement}
 use Rattle.drawing.proofs.polygon_cut.cut_by_polygon.Tie as tie

@@ -1,4 +1,4 @@
--- `polygon_cut::cut_into` meets its contract; the laws that it needs are in Ways.
+-- `polygon_cut::cut_into` meets its contract; the laws that it needs are in Returns.
 use mathlib.Core.Path.{refl}
 use mathlib.Core.Path.{_≡_}
 use Prim.Native.Nat.{_≤_, _/_}
@@ -7,8 +7,8 @@ use lib.ListN.{length}
 use borrow.Author.Tests.{not-true, not-false}
 use borrow.Author.Needs.{needs}
 use Rattle.drawing.specs.Calls.{validWithPolygon, cutPolygonDrawn}
-use Rattle.drawing.proofs.Ways.{work-long}
-use Rattle.drawing.proofs.Ways.{bad-result, bad-list, bad-third, polygon-over, polygon-wrote, list-few}
+use Rattle.drawing.proofs.Returns.{work-long}
+use Rattle.drawing.proofs.Returns.{bad-result, bad-list, bad-third, polygon-over, polygon-wrote, list-few}
 use Rattle.geometry.proofs.CutLoops.{few-of}
 use Rattle.drawing.proofs.polygon_cut.cut_into.Statement.{statement}
 use Rattle.drawing.proofs.polygon_cut.cut_into.Tie as tie

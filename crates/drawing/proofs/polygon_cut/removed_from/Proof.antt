@@ -1,6 +1,6 @@
--- `polygon_cut::removed_from` meets its contract; the laws that it needs are in PolygonCutWays.
+-- `polygon_cut::removed_from` meets its contract; the laws that it needs are in PolygonCutReturns.
 use native.Mathlib.Omega.{arith}
-use Rattle.drawing.proofs.PolygonCutWays.{few-rects, polygon-fits, polygon-count, list-fits, both-fit, both-valid, both-removed}
+use Rattle.drawing.proofs.PolygonCutReturns.{few-rects, polygon-fits, polygon-count, list-fits, both-fit, both-valid, both-removed}
 use borrow.Author.Needs.{needs}
 use Rattle.drawing.proofs.polygon_cut.removed_from.Statement.{statement}
 use Rattle.drawing.proofs.polygon_cut.removed_from.Tie as tie

@@ -1,11 +1,11 @@
--- `writing::write_wkb` meets its contract; its ways out are in WkbWays.
+-- `writing::write_wkb` meets its contract; its returns are in WkbReturns.
 use Prim.Native.Nat.{_+_, _*_, _/_, _≤_, _<_}
 use lib.ListN.{length}
 use borrow.Author.Tests.{not-true, not-false}
 use borrow.Author.Needs.{needs}
 use native.Mathlib.Omega.{arith}
-use Rattle.drawing.proofs.WkbWays.{bad-polygon, short-output, written}
-use Rattle.drawing.proofs.Ways.{list-few}
+use Rattle.drawing.proofs.WkbReturns.{bad-polygon, short-output, written}
+use Rattle.drawing.proofs.Returns.{list-few}
 use Rattle.drawing.proofs.writing.write_wkb.Statement.{statement}
 use Rattle.drawing.proofs.writing.write_wkb.Tie as tie
 

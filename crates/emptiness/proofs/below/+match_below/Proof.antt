@@ -8,10 +8,10 @@ use borrow.Fn.PlainCycle.{Measures, is, falls, and}
 use Rattle.layout.proofs.child.Reads as child-reads
 use Rattle.layout.proofs.node_at.Reads as node-at-reads
 use Rattle.layout.proofs.part_at.Reads as part-at-reads
-use Rattle.index.proofs.WalkRows.{node-part}
-use Rattle.index.proofs.WalkLoop.{child-walkable, child-polygon, child-fits}
-use Rattle.index.proofs.WalkNode.{walk-count, walk-nine, walk-child}
-use Rattle.index.proofs.polygon_meets.Reads as polygon-meets-reads
+use Rattle.walks.proofs.WalkRows.{node-part}
+use Rattle.walks.proofs.WalkLoop.{child-walkable, child-polygon, child-fits}
+use Rattle.walks.proofs.WalkNode.{walk-count, walk-nine, walk-child}
+use Rattle.walks.proofs.polygon_meets.Reads as polygon-meets-reads
 use Rattle.emptiness.proofs.MatchLeaf.{match-leaf}
 use Rattle.emptiness.proofs.MatchLoop.{MatchLoop, match-start, match-end, match-miss, match-room, match-stop, match-on}
 use Rattle.emptiness.proofs.leaf.match_in_leaf.Reads as match-in-leaf-reads

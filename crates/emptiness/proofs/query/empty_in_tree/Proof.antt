@@ -1,6 +1,6 @@
--- `query::empty_in_tree` meets its contract; its ways out are in CallWays.
-use Rattle.index.proofs.TreeWalk.{tree-walkable, tree-polygon}
-use Rattle.emptiness.proofs.CallWays.{tree-room, tree-outside, tree-occupied, tree-empty}
+-- `query::empty_in_tree` meets its contract; its returns are in CallReturns.
+use Rattle.walks.proofs.TreeWalk.{tree-walkable, tree-polygon}
+use Rattle.emptiness.proofs.CallReturns.{tree-room, tree-outside, tree-occupied, tree-empty}
 use Rattle.emptiness.proofs.query.empty_in_tree.Statement.{statement}
 use Rattle.emptiness.proofs.query.empty_in_tree.Tie as tie
 

@@ -13,8 +13,8 @@ grow-requires c κs = (search cell-x, search cell-y)
 of-requires : tie.Need-of-requires
 of-requires c κs = search needs
 
-put-level-requires : tie.Need-put-level-requires
-put-level-requires c κs = search needs
+put-node-on-requires : tie.Need-put-node-on-requires
+put-node-on-requires c κs = search needs
 
 descend-requires : tie.Need-descend-requires
 descend-requires c κs = (search find-start, search start-room)
@@ -27,4 +27,4 @@ returns c = (search find-found, (search find-removed, search find-length))
 
 pub find-path-spec : {M : Type 1} → statement M
 find-path-spec =
-    tie.close (tie.spec first-rect-requires grow-requires of-requires put-level-requires descend-requires same-length returns)
+    tie.close (tie.spec first-rect-requires grow-requires of-requires put-node-on-requires descend-requires same-length returns)

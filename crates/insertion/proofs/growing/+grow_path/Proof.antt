@@ -1,7 +1,7 @@
--- `growing::grow_path` meets its contract, with the level as its measure; its ways are in GrowWays.
+-- `growing::grow_path` meets its contract, with the level as its measure; its ways are in GrowReturns.
 use native.Mathlib.Omega.{arith}
 use borrow.Author.Needs.{needs}
-use Rattle.insertion.proofs.GrowWays.{grow-leaf-in, grow-leaf-room, grow-leaf-done, grow-below, grow-level, grow-done}
+use Rattle.insertion.proofs.GrowReturns.{grow-leaf-in, grow-leaf-room, grow-leaf-done, grow-below, grow-level, grow-done}
 use Prim.Native.Nat.{ℕ, _<_}
 use borrow.Fn.Kinds.{In}
 use borrow.Fn.PlainCycle.{Measures, is, falls, and}

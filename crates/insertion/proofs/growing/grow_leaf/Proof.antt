@@ -1,18 +1,18 @@
 -- `growing::grow_leaf` meets its contract.
 use borrow.Author.Needs.{needs}
 use Rattle.insertion.proofs.GrowLeaf.{leaf-written}
-use Rattle.insertion.proofs.GrowWays.{leaf-few}
+use Rattle.insertion.proofs.GrowReturns.{leaf-few}
 use Rattle.insertion.proofs.growing.grow_leaf.Statement.{statement}
 use Rattle.insertion.proofs.growing.grow_leaf.Tie as tie
 
-shared-slice-read-k : tie.Need-shared-slice-read-k
-shared-slice-read-k c = search needs
+part-on-requires : tie.Need-part-on-requires
+part-on-requires c κs = search needs
 
 node-at-requires : tie.Need-node-at-requires
 node-at-requires c κs = search needs
 
-path-polygon-requires : tie.Need-path-polygon-requires
-path-polygon-requires c κs = search needs
+polygon-on-requires : tie.Need-polygon-on-requires
+polygon-on-requires c κs = search needs
 
 with-entry-requires : tie.Need-with-entry-requires
 with-entry-requires c κs = search leaf-few
@@ -30,9 +30,9 @@ pub grow-leaf-spec : {M : Type 1} → statement M
 grow-leaf-spec =
     tie.close
     (tie.spec
-    shared-slice-read-k
+    part-on-requires
     node-at-requires
-    path-polygon-requires
+    polygon-on-requires
     with-entry-requires
     replace-node-requires
     same-length

@@ -4,20 +4,14 @@ use Rattle.insertion.proofs.GrowNode.{node-written}
 use Rattle.insertion.proofs.growing.grow_node.Statement.{statement}
 use Rattle.insertion.proofs.growing.grow_node.Tie as tie
 
-mul-k : tie.Need-mul-k
-mul-k c = search needs
-
-mul-k-2 : tie.Need-mul-k-2
-mul-k-2 c = search needs
-
-shared-slice-read-k : tie.Need-shared-slice-read-k
-shared-slice-read-k c = search needs
+part-on-requires : tie.Need-part-on-requires
+part-on-requires c κs = search needs
 
 node-at-requires : tie.Need-node-at-requires
 node-at-requires c κs = search needs
 
-path-polygon-requires : tie.Need-path-polygon-requires
-path-polygon-requires c κs = search needs
+polygon-on-requires : tie.Need-polygon-on-requires
+polygon-on-requires c κs = search needs
 
 replace-node-requires : tie.Need-replace-node-requires
 replace-node-requires c κs = search needs
@@ -32,11 +26,9 @@ pub grow-node-spec : {M : Type 1} → statement M
 grow-node-spec =
     tie.close
     (tie.spec
-    mul-k
-    mul-k-2
-    shared-slice-read-k
+    part-on-requires
     node-at-requires
-    path-polygon-requires
+    polygon-on-requires
     replace-node-requires
     same-length
     returns)

@@ -1,60 +1,63 @@
--- `insert_call::insert_opened` meets its contract; the laws that it needs are in InsertWays.
-use borrow.Author.Tests.{not-true, not-false}
-use Rattle.index.proofs.OpenLaws.{right-is}
-use Rattle.insertion.proofs.InsertWays.{wrong-length, wrong-work, off-grid, call-done, cell-on-grid}
+-- `insert_call::insert_opened` meets its contract; the laws that it needs are in InsertReturns.
+use Rattle.soundness.proofs.OpenLaws.{opened-tree}
+use Rattle.insertion.proofs.InsertReturns.{no-tree, opened-empty, into-done}
 use borrow.Author.Needs.{needs}
 use Rattle.insertion.proofs.insert_call.insert_opened.Statement.{statement}
 use Rattle.insertion.proofs.insert_call.insert_opened.Tie as tie
 
-right-length-requires : tie.Need-right-length-requires
-right-length-requires c κs = search needs
+enum-told : tie.Need-enum-told
+enum-told c = search needs
+
+returns : tie.Need-returns
+returns c = search no-tree
+
+enum-told-2 : tie.Need-enum-told-2
+enum-told-2 c = search needs
+
+insert-first-requires : tie.Need-insert-first-requires
+insert-first-requires c κs = (search opened-empty, (search needs, search needs))
+
+fill-zeros-requires : tie.Need-fill-zeros-requires
+fill-zeros-requires c κs = search needs
 
 same-length : tie.Need-same-length
 same-length c = search needs
-
-returns : tie.Need-returns
-returns c = search (wrong-length, not-true)
 
 same-length-2 : tie.Need-same-length-2
 same-length-2 c = search needs
 
 returns-2 : tie.Need-returns-2
-returns-2 c = search (wrong-work, right-is, not-false)
+returns-2 c = search into-done
 
-on-grid-requires : tie.Need-on-grid-requires
-on-grid-requires c κs = search needs
+enum-known-opened : tie.Need-enum-known-opened
+enum-known-opened c = search needs
+
+insert-in-tree-requires : tie.Need-insert-in-tree-requires
+insert-in-tree-requires c κs = (search opened-tree, (search needs, search needs))
 
 same-length-3 : tie.Need-same-length-3
 same-length-3 c = search needs
 
-returns-3 : tie.Need-returns-3
-returns-3 c = search (off-grid, right-is, not-true, not-false)
-
-insert-read-requires : tie.Need-insert-read-requires
-insert-read-requires c κs = (search needs, search needs, search (cell-on-grid, not-false))
-
 same-length-4 : tie.Need-same-length-4
 same-length-4 c = search needs
 
-same-length-5 : tie.Need-same-length-5
-same-length-5 c = search needs
-
-returns-4 : tie.Need-returns-4
-returns-4 c = search (call-done, right-is, not-false)
+returns-3 : tie.Need-returns-3
+returns-3 c = search needs
 
 pub insert-opened-spec : {M : Type 1} → statement M
 insert-opened-spec =
     tie.close
     (tie.spec
-    right-length-requires
-    same-length
+    enum-told
     returns
+    enum-told-2
+    insert-first-requires
+    fill-zeros-requires
+    same-length
     same-length-2
     returns-2
-    on-grid-requires
+    enum-known-opened
+    insert-in-tree-requires
     same-length-3
-    returns-3
-    insert-read-requires
     same-length-4
-    same-length-5
-    returns-4)
+    returns-3)

@@ -1,21 +1,15 @@
 -- `planning::line_at` meets its contract; the laws that it needs are in NodeBounds and LineLaws.
-use Rattle.insertion.proofs.NodeBounds.{part-in, place-at, part-ends, full-node, below-in}
-use Rattle.insertion.proofs.LineLaws.{leaf-ready, leaf-found, node-ready, node-found}
 use borrow.Author.Needs.{needs}
+use Rattle.insertion.proofs.NodeBounds.{full-level, full-ends, below-level}
+use Rattle.insertion.proofs.LineLaws.{leaf-ready, leaf-found, node-ready, node-found}
 use Rattle.insertion.proofs.planning.line_at.Statement.{statement}
 use Rattle.insertion.proofs.planning.line_at.Tie as tie
 
-mul-at : tie.Need-mul-at
-mul-at c = search needs
-
-mul-k : tie.Need-mul-k
-mul-k c = search needs
-
-shared-slice-read-k : tie.Need-shared-slice-read-k
-shared-slice-read-k c = search (part-in, full-node)
+part-on-requires : tie.Need-part-on-requires
+part-on-requires c κs = search full-level
 
 part-at-requires : tie.Need-part-at-requires
-part-at-requires c κs = search (part-ends, full-node)
+part-at-requires c κs = search full-ends
 
 leaf-line-requires : tie.Need-leaf-line-requires
 leaf-line-requires c κs = search leaf-ready
@@ -23,32 +17,17 @@ leaf-line-requires c κs = search leaf-ready
 returns : tie.Need-returns
 returns c = search leaf-found
 
-add-place : tie.Need-add-place
-add-place c = search needs
+place-on-requires : tie.Need-place-on-requires
+place-on-requires c κs = search full-level
 
-mul-place : tie.Need-mul-place
-mul-place c = search needs
+sub-line-on : tie.Need-sub-line-on
+sub-line-on c = search needs
 
-shared-slice-read-place : tie.Need-shared-slice-read-place
-shared-slice-read-place c = search (place-at, full-node)
+cast-line-on : tie.Need-cast-line-on
+cast-line-on c = search needs
 
-sub-below : tie.Need-sub-below
-sub-below c = search needs
-
-cast-below : tie.Need-cast-below
-cast-below c = search needs
-
-mul-below : tie.Need-mul-below
-mul-below c = search needs
-
-add-below : tie.Need-add-below
-add-below c = search needs
-
-mul-below-2 : tie.Need-mul-below-2
-mul-below-2 c = search needs
-
-shared-slice-read-below : tie.Need-shared-slice-read-below
-shared-slice-read-below c = search below-in
+line-on-requires : tie.Need-line-on-requires
+line-on-requires c κs = search below-level
 
 node-line-requires : tie.Need-node-line-requires
 node-line-requires c κs = search node-ready
@@ -60,20 +39,13 @@ pub line-at-spec : {M : Type 1} → statement M
 line-at-spec =
     tie.close
     (tie.spec
-    mul-at
-    mul-k
-    shared-slice-read-k
+    part-on-requires
     part-at-requires
     leaf-line-requires
     returns
-    add-place
-    mul-place
-    shared-slice-read-place
-    sub-below
-    cast-below
-    mul-below
-    add-below
-    mul-below-2
-    shared-slice-read-below
+    place-on-requires
+    sub-line-on
+    cast-line-on
+    line-on-requires
     node-line-requires
     returns-2)

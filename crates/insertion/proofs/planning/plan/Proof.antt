@@ -1,7 +1,7 @@
 -- `planning::plan` meets its contract; its loop is in PlanLoop.
 use borrow.Author.Needs.{needs}
 use Prim.Native.Nat.{_-_}
-use Rattle.insertion.proofs.PlanBounds.{plan-line, plan-next}
+use Rattle.insertion.proofs.PlanBounds.{plan-level, plan-next}
 use Rattle.insertion.proofs.PlanLoop.{Planning, plan-start, plan-full, plan-again, plan-end}
 use Rattle.insertion.proofs.planning.plan.Statement.{statement}
 use Rattle.insertion.proofs.planning.plan.Tie as tie
@@ -18,20 +18,11 @@ loop-holds c = search plan-start
 line-at-requires : tie.Need-line-at-requires Inv-loop μ-loop
 line-at-requires c κs = search plan-full
 
-cast-path : tie.Need-cast-path Inv-loop μ-loop
-cast-path c = search needs
+cast-put-line-on : tie.Need-cast-put-line-on Inv-loop μ-loop
+cast-put-line-on c = search needs
 
-mul-path : tie.Need-mul-path Inv-loop μ-loop
-mul-path c = search needs
-
-add-path : tie.Need-add-path Inv-loop μ-loop
-add-path c = search needs
-
-mul-path-2 : tie.Need-mul-path-2 Inv-loop μ-loop
-mul-path-2 c = search needs
-
-slice-write-path : tie.Need-slice-write-path Inv-loop μ-loop
-slice-write-path c = search plan-line
+put-line-on-requires : tie.Need-put-line-on-requires Inv-loop μ-loop
+put-line-on-requires c κs = search plan-level
 
 add-n : tie.Need-add-n Inv-loop μ-loop
 add-n c = search plan-next
@@ -56,11 +47,8 @@ plan-spec =
     μ-loop
     loop-holds
     line-at-requires
-    cast-path
-    mul-path
-    add-path
-    mul-path-2
-    slice-write-path
+    cast-put-line-on
+    put-line-on-requires
     add-n
     loop-less
     loop-again

@@ -1,7 +1,7 @@
 -- `planning::split_count` meets its contract; its loop is in SplitCount.
 use borrow.Author.Needs.{needs}
 use Prim.Native.Nat.{_+_, _-_}
-use Rattle.insertion.proofs.PlanBounds.{count-part, count-in, count-next}
+use Rattle.insertion.proofs.PlanBounds.{count-level, count-in, count-next}
 use Rattle.insertion.proofs.SplitCount.{Counting, counting-start, counting-stop, counting-again, counting-end}
 use Rattle.insertion.proofs.planning.split_count.Statement.{statement}
 use Rattle.insertion.proofs.planning.split_count.Tie as tie
@@ -15,17 +15,11 @@ abbrev μ-loop : tie.MeasureT-loop
 loop-holds : tie.Need-loop-holds Inv-loop μ-loop
 loop-holds c = search counting-start
 
-cast-k : tie.Need-cast-k Inv-loop μ-loop
-cast-k c = search needs
+cast-part-on : tie.Need-cast-part-on Inv-loop μ-loop
+cast-part-on c = search needs
 
-mul-k : tie.Need-mul-k Inv-loop μ-loop
-mul-k c = search needs
-
-mul-k-2 : tie.Need-mul-k-2 Inv-loop μ-loop
-mul-k-2 c = search needs
-
-shared-slice-read-k : tie.Need-shared-slice-read-k Inv-loop μ-loop
-shared-slice-read-k c = search count-part
+part-on-requires : tie.Need-part-on-requires Inv-loop μ-loop
+part-on-requires c κs = search count-level
 
 count-at-requires : tie.Need-count-at-requires Inv-loop μ-loop
 count-at-requires c κs = search count-in
@@ -52,10 +46,8 @@ split-count-spec =
     Inv-loop
     μ-loop
     loop-holds
-    cast-k
-    mul-k
-    mul-k-2
-    shared-slice-read-k
+    cast-part-on
+    part-on-requires
     count-at-requires
     returns
     add-n

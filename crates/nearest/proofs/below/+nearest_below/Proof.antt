@@ -4,9 +4,9 @@ use mathlib.Core.Logic.{⊎-elim}
 use mathlib.Core.Path.{_∙_}
 use native.Mathlib.Omega.{arith}
 use borrow.Author.Needs.{needs}
-use Rattle.index.proofs.WalkRows.{node-part}
-use Rattle.index.proofs.WalkLoop.{child-fits}
-use Rattle.index.proofs.WalkNode.{walk-count, walk-nine, walk-child}
+use Rattle.walks.proofs.WalkRows.{node-part}
+use Rattle.walks.proofs.WalkLoop.{child-fits}
+use Rattle.walks.proofs.WalkNode.{walk-count, walk-nine, walk-child}
 use Rattle.nearest.proofs.NearLoop.{NearLoop, enter-room, near-leaf, near-start, near-end, near-child, near-polygon, near-room, near-good, near-miss, near-hit}
 use Rattle.nearest.proofs.NearMet.{good-entered}
 use Rattle.nearest.proofs.NearSound.{leaf-on-grid}

@@ -1,6 +1,6 @@
 -- `polygon_distance` meets its contract.
-use Rattle.layout.proofs.NodeLaws.{polygon-few}
-use Rattle.nearest.proofs.NearPolygon.{lent-some, lent-valid, lent-distance}
+use Rattle.layout.proofs.NodeLaws.{polygon-few, lent-some, lent-valid}
+use Rattle.nearest.proofs.NearPolygon.{lent-distance}
 use borrow.Author.Needs.{needs}
 use Rattle.nearest.proofs.below.polygon_distance.Statement.{statement}
 use Rattle.nearest.proofs.below.polygon_distance.Tie as tie

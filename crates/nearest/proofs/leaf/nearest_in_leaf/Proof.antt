@@ -20,11 +20,8 @@ cast-n c = search needs
 loop-holds : tie.Need-loop-holds Inv-loop μ-loop
 loop-holds c = search leaf-start
 
-cell-requires : tie.Need-cell-requires Inv-loop μ-loop
-cell-requires c κs = search leaf-nine
-
-tag-requires : tie.Need-tag-requires Inv-loop μ-loop
-tag-requires c κs = search leaf-nine
+nth-entry-requires : tie.Need-nth-entry-requires Inv-loop μ-loop
+nth-entry-requires c κs = search leaf-nine
 
 with-entry-requires : tie.Need-with-entry-requires Inv-loop μ-loop
 with-entry-requires c κs = (search needs, (search leaf-grid, search needs))
@@ -50,8 +47,7 @@ nearest-in-leaf-spec =
     load-requires
     cast-n
     loop-holds
-    cell-requires
-    tag-requires
+    nth-entry-requires
     with-entry-requires
     add-i
     loop-less

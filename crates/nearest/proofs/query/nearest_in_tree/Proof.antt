@@ -1,6 +1,6 @@
 -- `nearest_in_tree` meets its contract.
 use borrow.Author.Tests.{not-true, not-false}
-use Rattle.nearest.proofs.CallWays.{nothing-good, tree-near, tree-room, tree-nothing, tree-found}
+use Rattle.nearest.proofs.CallReturns.{nothing-good, tree-near, tree-room, tree-nothing, tree-found}
 use borrow.Author.Needs.{needs}
 use Rattle.nearest.proofs.query.nearest_in_tree.Statement.{statement}
 use Rattle.nearest.proofs.query.nearest_in_tree.Tie as tie

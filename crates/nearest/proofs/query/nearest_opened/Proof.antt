@@ -1,35 +1,39 @@
--- `query::nearest_opened` meets its contract; its ways out are in CallWays.
-use Rattle.index.proofs.PointWays.{length-tested}
-use Rattle.nearest.proofs.CallWays.{answer-wrong-length, answer-off-grid, answer-tested, grid-tested}
+-- `nearest_opened` meets its contract.
+use Rattle.soundness.proofs.OpenLaws.{opened-tree}
+use Rattle.nearest.proofs.CallReturns.{read-no-tree, read-empty}
 use borrow.Author.Needs.{needs}
 use Rattle.nearest.proofs.query.nearest_opened.Statement.{statement}
 use Rattle.nearest.proofs.query.nearest_opened.Tie as tie
 
-right-length-requires : tie.Need-right-length-requires
-right-length-requires c κs = search needs
+enum-told : tie.Need-enum-told
+enum-told c = search needs
 
 returns : tie.Need-returns
-returns c = search answer-wrong-length
+returns c = search read-no-tree
 
-on-grid-requires : tie.Need-on-grid-requires
-on-grid-requires c κs = search needs
+enum-told-2 : tie.Need-enum-told-2
+enum-told-2 c = search needs
 
 returns-2 : tie.Need-returns-2
-returns-2 c = search (answer-off-grid, length-tested)
+returns-2 c = search read-empty
 
-nearest-read-requires : tie.Need-nearest-read-requires
-nearest-read-requires c κs = (search needs, grid-tested _ _ (c .before .on-grid .ensures) (c .if2 .left))
+enum-known-opened : tie.Need-enum-known-opened
+enum-known-opened c = search needs
+
+nearest-in-tree-requires : tie.Need-nearest-in-tree-requires
+nearest-in-tree-requires c κs = (search opened-tree, search needs)
 
 returns-3 : tie.Need-returns-3
-returns-3 c = search (answer-tested, length-tested)
+returns-3 c = search needs
 
 pub nearest-opened-spec : {M : Type 1} → statement M
 nearest-opened-spec =
     tie.close
     (tie.spec
-    right-length-requires
+    enum-told
     returns
-    on-grid-requires
+    enum-told-2
     returns-2
-    nearest-read-requires
+    enum-known-opened
+    nearest-in-tree-requires
     returns-3)

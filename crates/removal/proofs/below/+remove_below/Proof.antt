@@ -1,14 +1,14 @@
--- `below::remove_below` meets its contract, with the level as its measure; its ways are in BelowWays.
+-- `below::remove_below` meets its contract, with the level as its measure; its ways are in BelowReturns.
 use native.Mathlib.Omega.{arith}
 use borrow.Author.Needs.{needs}
-use Rattle.removal.proofs.BelowWays.{below-holds, below-takes, below-leaf, below-children, below-some, below-child, below-stays, below-takes-branch, below-node}
+use Rattle.removal.proofs.BelowReturns.{below-holds, below-takes, below-leaf, below-children, below-some, below-child, below-stays, below-takes-branch, below-node}
 use Prim.Native.Nat.{ℕ, _<_}
 use borrow.Fn.Kinds.{In}
 use borrow.Fn.PlainCycle.{Measures, is, falls, and}
 use Rattle.removal.proofs.below.remove_below.Reads as remove-below
 use Rattle.removal.proofs.below.remove_below.Kinds as remove-below-kinds
 use Rattle.removal.proofs.below.+remove_below.Lts-remove_below as remove-below-lts
-use Rattle.index.proofs.child_with.Reads as child-with-reads
+use Rattle.walks.proofs.child_with.Reads as child-with-reads
 use Rattle.layout.proofs.part_at.Reads as part-at-reads
 use Rattle.removal.proofs.below.take_branch.Reads as take-branch-reads
 use Rattle.removal.proofs.below.take_entry.Reads as take-entry-reads

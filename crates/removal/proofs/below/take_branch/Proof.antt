@@ -1,6 +1,6 @@
--- `below::take_branch` meets its contract; its ways are in TakeWays.
+-- `below::take_branch` meets its contract; its ways are in TakeReturns.
 use borrow.Author.Needs.{needs}
-use Rattle.removal.proofs.TakeWays.{has-item, few-items, take-last, take-branch}
+use Rattle.removal.proofs.TakeReturns.{has-item, few-items, take-last, take-branch}
 use Rattle.removal.proofs.below.take_branch.Statement.{statement}
 use Rattle.removal.proofs.below.take_branch.Tie as tie
 

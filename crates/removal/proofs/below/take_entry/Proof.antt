@@ -1,6 +1,6 @@
--- `below::take_entry` meets its contract; its ways are in TakeWays.
+-- `below::take_entry` meets its contract; its ways are in TakeReturns.
 use borrow.Author.Needs.{needs}
-use Rattle.removal.proofs.TakeWays.{has-item, few-items, take-last, take-entry}
+use Rattle.removal.proofs.TakeReturns.{has-item, few-items, take-last, take-entry}
 use Rattle.removal.proofs.below.take_entry.Statement.{statement}
 use Rattle.removal.proofs.below.take_entry.Tie as tie
 

@@ -1,51 +1,17 @@
--- `removing::remove` meets its contract; its ways out are in RemoveWays.
-use Rattle.index.proofs.PointWays.{length-tested}
-use Rattle.removal.proofs.RemoveWays.{remove-wrong-length, remove-off-grid, remove-tested}
+-- `removing::remove` meets its contract: nothing is known of its memory.
+use Rattle.soundness.proofs.ReadsLaws.{unknown}
 use borrow.Author.Needs.{needs}
 use Rattle.removal.proofs.removing.remove.Statement.{statement}
 use Rattle.removal.proofs.removing.remove.Tie as tie
 
-right-length-requires : tie.Need-right-length-requires
-right-length-requires c κs = search needs
+remove-known-requires : tie.Need-remove-known-requires
+remove-known-requires c κs = unknown _
 
 same-length : tie.Need-same-length
 same-length c = search needs
 
 returns : tie.Need-returns
-returns c = search remove-wrong-length
-
-on-grid-requires : tie.Need-on-grid-requires
-on-grid-requires c κs = search needs
-
-same-length-2 : tie.Need-same-length-2
-same-length-2 c = search needs
-
-returns-2 : tie.Need-returns-2
-returns-2 c = search (remove-off-grid, length-tested)
-
-open-requires : tie.Need-open-requires
-open-requires c κs = search length-tested
-
-remove-read-requires : tie.Need-remove-read-requires
-remove-read-requires c κs = search needs
-
-same-length-3 : tie.Need-same-length-3
-same-length-3 c = search needs
-
-returns-3 : tie.Need-returns-3
-returns-3 c = search (remove-tested, length-tested)
+returns c = search needs
 
 pub remove-spec : {M : Type 1} → statement M
-remove-spec =
-    tie.close
-    (tie.spec
-    right-length-requires
-    same-length
-    returns
-    on-grid-requires
-    same-length-2
-    returns-2
-    open-requires
-    remove-read-requires
-    same-length-3
-    returns-3)
+remove-spec = tie.close (tie.spec remove-known-requires same-length returns)

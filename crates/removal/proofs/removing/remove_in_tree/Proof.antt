@@ -1,6 +1,6 @@
--- `removing::remove_in_tree` meets its contract; its ways out are in TreeRemoved.
-use Rattle.index.proofs.TreeWalk.{tree-walkable}
-use Rattle.removal.proofs.TreeRemoved.{head-in, not-held, held-some, tree-removable, tree-left, tree-gone}
+-- `removing::remove_in_tree` meets its contract; its returns are in TreeRemoved.
+use Rattle.walks.proofs.TreeWalk.{tree-walkable}
+use Rattle.removal.proofs.TreeRemoved.{head-in, not-held, held-some, tree-removable, tree-remaining, tree-gone}
 use Prim.Native.Nat.{_≤_}
 use native.Mathlib.Omega.{arith}
 use borrow.Author.Needs.{needs}
@@ -31,7 +31,7 @@ same-length-2 : tie.Need-same-length-2
 same-length-2 c = search needs
 
 returns-2 : tie.Need-returns-2
-returns-2 c = search tree-left
+returns-2 c = search tree-remaining
 
 no-tree-requires : tie.Need-no-tree-requires
 no-tree-requires c κs = search head-in

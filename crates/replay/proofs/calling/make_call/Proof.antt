@@ -1,6 +1,6 @@
--- `calling::make_call` meets its contract; the laws that it needs are in CallWays.
+-- `calling::make_call` meets its contract; the laws that it needs are in CallReturns.
 use native.Mathlib.Omega.{arith}
-use Rattle.replay.proofs.CallWays.{replied-insert, replied-remove, replied-clear, replied-point, replied-window, replied-nearest, replied-empty}
+use Rattle.replay.proofs.CallReturns.{replied-insert, replied-remove, replied-clear, replied-point, replied-window, replied-nearest, replied-empty}
 use borrow.Author.Needs.{needs}
 use Rattle.replay.proofs.calling.make_call.Statement.{statement}
 use Rattle.replay.proofs.calling.make_call.Tie as tie

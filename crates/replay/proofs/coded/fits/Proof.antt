@@ -1,7 +1,7 @@
--- `coded::fits` meets its contract; the laws that it needs are in CodedWays.
+-- `coded::fits` meets its contract; the laws that it needs are in CodedReturns.
 use Prim.Native.Nat.{_+_, _*_}
 use native.Mathlib.Omega.{arith}
-use Rattle.replay.proofs.CodedWays.{fits-no-call, fits-no-room, fits-no-kind, fits-no-part, fits-last}
+use Rattle.replay.proofs.CodedReturns.{fits-no-call, fits-no-room, fits-no-kind, fits-no-part, fits-last}
 use borrow.Author.Needs.{needs}
 use Rattle.replay.proofs.coded.fits.Statement.{statement}
 use Rattle.replay.proofs.coded.fits.Tie as tie

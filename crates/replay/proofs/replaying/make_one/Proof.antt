@@ -1,6 +1,6 @@
--- `replaying::make_one` meets its contract; the laws that it needs are in CallWays.
+-- `replaying::make_one` meets its contract; the laws that it needs are in CallReturns.
 use Rattle.replay.specs.Coded.{partFor, partBack}
-use Rattle.replay.proofs.CallWays.{one-made}
+use Rattle.replay.proofs.CallReturns.{one-made}
 use borrow.Author.Needs.{needs}
 use Rattle.replay.proofs.replaying.make_one.Statement.{statement}
 use Rattle.replay.proofs.replaying.make_one.Tie as tie

@@ -2,7 +2,7 @@
 use Prim.Native.Nat.{_-_}
 use lib.ListN.{length}
 use borrow.Author.Needs.{needs}
-use Rattle.replay.proofs.CodedWays.{fits-of}
+use Rattle.replay.proofs.CodedReturns.{fits-of}
 use Rattle.replay.proofs.ReplayLoop.{Replaying, replay-start, replay-again, replay-less, replay-end}
 use Rattle.replay.proofs.replaying.replay.Statement.{statement}
 use Rattle.replay.proofs.replaying.replay.Tie as tie

@@ -1,7 +1,7 @@
--- `replies::put_reply` meets its contract; the law that it needs is in ReplyWays.
+-- `replies::put_reply` meets its contract; the law that it needs is in ReplyReturns.
 use native.Mathlib.Omega.{arith}
 use lib.ListN.{length-set}
-use Rattle.replay.proofs.ReplyWays.{stored-reply}
+use Rattle.replay.proofs.ReplyReturns.{stored-reply}
 use borrow.Author.Needs.{needs}
 use Rattle.replay.proofs.replies.put_reply.Statement.{statement}
 use Rattle.replay.proofs.replies.put_reply.Tie as tie

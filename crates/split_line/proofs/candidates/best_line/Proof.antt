@@ -6,10 +6,10 @@ use Rattle.split_line.proofs.candidates.best_line.Statement.{statement}
 use Rattle.split_line.proofs.candidates.best_line.Tie as tie
 
 abbrev Inv-loop : tie.InvT-loop
-Inv-loop bounds n key₀ i₀ key i = AtBest bounds n i key
+Inv-loop extents n key₀ i₀ key i = AtBest extents n i key
 
 abbrev μ-loop : tie.MeasureT-loop
-μ-loop bounds n key₀ i₀ key i = n - i
+μ-loop extents n key₀ i₀ key i = n - i
 
 loop-holds : tie.Need-loop-holds Inv-loop μ-loop
 loop-holds c = search best-start

@@ -6,10 +6,10 @@ use Rattle.split_line.proofs.candidates.count_sides.Statement.{statemen
 use Rattle.split_line.proofs.candidates.count_sides.Tie as tie
 
 abbrev Inv-loop : tie.InvT-loop
-Inv-loop bounds n line counts₀ i₀ counts i = AtCount bounds n line i counts
+Inv-loop extents n line counts₀ i₀ counts i = AtCount extents n line i counts
 
 abbrev μ-loop : tie.MeasureT-loop
-μ-loop bounds n line counts₀ i₀ counts i = n - i
+μ-loop extents n line counts₀ i₀ counts i = n - i
 
 loop-holds : tie.Need-loop-holds Inv-loop μ-loop
 loop-holds c = search counting-start

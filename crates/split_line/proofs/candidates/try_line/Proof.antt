@@ -17,8 +17,8 @@ returns c = search (no-fit, not-true)
 mul-next : tie.Need-mul-next
 mul-next c = search both-fits
 
-rank-of-requires : tie.Need-rank-of-requires
-rank-of-requires c κs = search needs
+number-of-requires : tie.Need-number-of-requires
+number-of-requires c κs = search needs
 
 add-next : tie.Need-add-next
 add-next c = search key-fits
@@ -37,7 +37,7 @@ try-line-spec =
     fit-requires
     returns
     mul-next
-    rank-of-requires
+    number-of-requires
     add-next
     returns-2
     returns-3)

@@ -4,11 +4,11 @@ use Rattle.split_line.proofs.NodeLaws.{node-line-is}
 use Rattle.split_line.proofs.node.node_line.Statement.{statement}
 use Rattle.split_line.proofs.node.node_line.Tie as tie
 
-slice-aggregate-put-bounds : tie.Need-slice-aggregate-put-bounds
-slice-aggregate-put-bounds c = search needs
+slice-aggregate-put-extents : tie.Need-slice-aggregate-put-extents
+slice-aggregate-put-extents c = search needs
 
-put-bounds-requires : tie.Need-put-bounds-requires
-put-bounds-requires c κs = search needs
+put-extents-requires : tie.Need-put-extents-requires
+put-extents-requires c κs = search needs
 
 slice-aggregate-best-line : tie.Need-slice-aggregate-best-line
 slice-aggregate-best-line c = search needs
@@ -23,8 +23,8 @@ pub node-line-spec : {M : Type 1} → statement M
 node-line-spec =
     tie.close
     (tie.spec
-    slice-aggregate-put-bounds
-    put-bounds-requires
+    slice-aggregate-put-extents
+    put-extents-requires
     slice-aggregate-best-line
     best-line-requires
     returns)

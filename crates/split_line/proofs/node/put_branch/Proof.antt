@@ -7,14 +7,14 @@ use Rattle.split_line.proofs.node.put_branch.Tie as tie
 left-side-requires : tie.Need-left-side-requires
 left-side-requires c κs = search needs
 
-side-bounds-requires : tie.Need-side-bounds-requires
-side-bounds-requires c κs = search needs
+side-extent-requires : tie.Need-side-extent-requires
+side-extent-requires c κs = search needs
 
 right-side-requires : tie.Need-right-side-requires
 right-side-requires c κs = search needs
 
-side-bounds-requires-2 : tie.Need-side-bounds-requires-2
-side-bounds-requires-2 c κs = search needs
+side-extent-requires-2 : tie.Need-side-extent-requires-2
+side-extent-requires-2 c κs = search needs
 
 put-rect-requires : tie.Need-put-rect-requires
 put-rect-requires c κs = search room-first
@@ -34,8 +34,8 @@ same-length c = search needs
 returns : tie.Need-returns
 returns c = search put-halves
 
-whole-bounds-requires : tie.Need-whole-bounds-requires
-whole-bounds-requires c κs = search needs
+whole-extent-requires : tie.Need-whole-extent-requires
+whole-extent-requires c κs = search needs
 
 put-rect-requires-3 : tie.Need-put-rect-requires-3
 put-rect-requires-3 c κs = search room-one
@@ -54,16 +54,16 @@ put-branch-spec =
     tie.close
     (tie.spec
     left-side-requires
-    side-bounds-requires
+    side-extent-requires
     right-side-requires
-    side-bounds-requires-2
+    side-extent-requires-2
     put-rect-requires
     add-put-rect
     put-rect-requires-2
     add-result
     same-length
     returns
-    whole-bounds-requires
+    whole-extent-requires
     put-rect-requires-3
     add-result-2
     same-length-2

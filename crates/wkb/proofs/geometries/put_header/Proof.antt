@@ -1,6 +1,6 @@
 -- `geometries::put_header` meets its contract.
 use borrow.Author.Needs.{needs}
-use Rattle.wkb.proofs.GeometryWays.{header-written}
+use Rattle.wkb.proofs.GeometryReturns.{header-written}
 use Rattle.wkb.proofs.geometries.put_header.Statement.{statement}
 use Rattle.wkb.proofs.geometries.put_header.Tie as tie
 

@@ -1,6 +1,6 @@
 -- `geometries::put_point` meets its contract.
 use borrow.Author.Needs.{needs}
-use Rattle.wkb.proofs.GeometryWays.{point-written}
+use Rattle.wkb.proofs.GeometryReturns.{point-written}
 use Rattle.wkb.proofs.geometries.put_point.Statement.{statement}
 use Rattle.wkb.proofs.geometries.put_point.Tie as tie
 

@@ -1,6 +1,6 @@
 -- `geometries::put_polygon` meets its contract.
 use borrow.Author.Needs.{needs}
-use Rattle.wkb.proofs.GeometryWays.{polygon-written}
+use Rattle.wkb.proofs.GeometryReturns.{polygon-written}
 use Rattle.wkb.proofs.geometries.put_polygon.Statement.{statement}
 use Rattle.wkb.proofs.geometries.put_polygon.Tie as tie
 

@@ -1,6 +1,6 @@
 -- `geometries::put_ring` meets its contract.
 use borrow.Author.Needs.{needs}
-use Rattle.wkb.proofs.GeometryWays.{ring-written}
+use Rattle.wkb.proofs.GeometryReturns.{ring-written}
 use Rattle.wkb.proofs.geometries.put_ring.Statement.{statement}
 use Rattle.wkb.proofs.geometries.put_ring.Tie as tie
 

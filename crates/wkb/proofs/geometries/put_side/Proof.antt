@@ -1,6 +1,6 @@
 -- `geometries::put_side` meets its contract.
 use borrow.Author.Needs.{needs}
-use Rattle.wkb.proofs.GeometryWays.{side-written}
+use Rattle.wkb.proofs.GeometryReturns.{side-written}
 use Rattle.wkb.proofs.geometries.put_side.Statement.{statement}
 use Rattle.wkb.proofs.geometries.put_side.Tie as tie
 

@@ -1,7 +1,7 @@
--- `rect::Rect::area` meets its contract; the laws that it needs are in RectWays.
+-- `rect::Rect::area` meets its contract; the laws that it needs are in RectReturns.
 use borrow.Author.Needs.{needs}
 use Rattle.geometry.specs.Cells.{area}
-use Rattle.geometry.proofs.RectWays.{product-fits}
+use Rattle.geometry.proofs.RectReturns.{product-fits}
 use Rattle.geometry.proofs.rect.Rect.area.Statement.{statement}
 use Rattle.geometry.proofs.rect.Rect.area.Tie as tie
 

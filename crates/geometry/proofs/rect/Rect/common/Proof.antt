@@ -1,6 +1,6 @@
--- `rect::Rect::common` meets its contract; the laws that it needs are in RectWays.
+-- `rect::Rect::common` meets its contract; the laws that it needs are in RectReturns.
 use borrow.Author.Needs.{needs}
-use Rattle.geometry.proofs.RectWays.{common-none-x, common-none-y, common-part}
+use Rattle.geometry.proofs.RectReturns.{common-none-x, common-none-y, common-part}
 use Rattle.geometry.proofs.rect.Rect.common.Statement.{statement}
 use Rattle.geometry.proofs.rect.Rect.common.Tie as tie
 

@@ -1,6 +1,6 @@
--- `rect::Rect::shares` meets its contract; the laws that it needs are in RectWays.
+-- `rect::Rect::shares` meets its contract; the laws that it needs are in RectReturns.
 use borrow.Author.Needs.{needs}
-use Rattle.geometry.proofs.RectWays.{shares-none-x, shares-y}
+use Rattle.geometry.proofs.RectReturns.{shares-none-x, shares-y}
 use Rattle.geometry.proofs.rect.Rect.shares.Statement.{statement}
 use Rattle.geometry.proofs.rect.Rect.shares.Tie as tie
 

@@ -1,6 +1,6 @@
--- `rect::Rect::side_part` meets its contract; the laws that it needs are in RectWays.
+-- `rect::Rect::side_part` meets its contract; the laws that it needs are in RectReturns.
 use borrow.Author.Needs.{needs}
-use Rattle.geometry.proofs.RectWays.{part-left-x, part-left-y, part-right-x, part-right-y}
+use Rattle.geometry.proofs.RectReturns.{part-left-x, part-left-y, part-right-x, part-right-y}
 use Rattle.geometry.proofs.rect.Rect.side_part.Statement.{statement}
 use Rattle.geometry.proofs.rect.Rect.side_part.Tie as tie
 

@@ -14,12 +14,12 @@ slice-aggregate-put-entry c = search needs
 put-entry-requires : tie.Need-put-entry-requires
 put-entry-requires c κs = search (entry-room, of-map)
 
-add-t9 : tie.Need-add-t9
-add-t9 c = search needs
+add-t8 : tie.Need-add-t8
+add-t8 c = search needs
 
 returns : tie.Need-returns
 returns c = search entry-is
 
 pub with-entry-spec : {M : Type 1} → statement M
 with-entry-spec =
-    tie.close (tie.spec cast-at slice-aggregate-put-entry put-entry-requires add-t9 returns)
+    tie.close (tie.spec cast-at slice-aggregate-put-entry put-entry-requires add-t8 returns)

@@ -1,0 +1,88 @@
+-- `reply::nearest_reply` meets its contract; the laws that it needs are in ReplyReturns.
+use Rattle.answers.specs.Numbers.{withSeven}
+use Rattle.answers.proofs.ReplyReturns.{nearest-case}
+use borrow.Author.Needs.{needs}
+use Rattle.answers.proofs.reply.nearest_reply.Statement.{statement}
+use Rattle.answers.proofs.reply.nearest_reply.Tie as tie
+
+enum-known-answer : tie.Need-enum-known-answer
+enum-known-answer c = search needs
+
+cast-t9 : tie.Need-cast-t9
+cast-t9 c = search needs
+
+cast-t10 : tie.Need-cast-t10
+cast-t10 c = search needs
+
+cast-t11 : tie.Need-cast-t11
+cast-t11 c = search needs
+
+cast-t12 : tie.Need-cast-t12
+cast-t12 c = search needs
+
+enum-told : tie.Need-enum-told
+enum-told c = search needs
+
+refuses-requires : tie.Need-refuses-requires
+refuses-requires c κs = search needs
+
+enum-told-2 : tie.Need-enum-told-2
+enum-told-2 c = search needs
+
+refuses-requires-2 : tie.Need-refuses-requires-2
+refuses-requires-2 c κs = search needs
+
+enum-told-3 : tie.Need-enum-told-3
+enum-told-3 c = search needs
+
+refuses-requires-3 : tie.Need-refuses-requires-3
+refuses-requires-3 c κs = search needs
+
+enum-told-4 : tie.Need-enum-told-4
+enum-told-4 c = search needs
+
+refuses-requires-4 : tie.Need-refuses-requires-4
+refuses-requires-4 c κs = search needs
+
+returns : tie.Need-returns
+unfolding withSeven
+returns c = search nearest-case
+
+returns-2 : tie.Need-returns-2
+unfolding withSeven
+returns-2 c = search nearest-case
+
+returns-3 : tie.Need-returns-3
+unfolding withSeven
+returns-3 c = search nearest-case
+
+returns-4 : tie.Need-returns-4
+unfolding withSeven
+returns-4 c = search nearest-case
+
+returns-5 : tie.Need-returns-5
+unfolding withSeven
+returns-5 c = search nearest-case
+
+pub nearest-reply-spec : {M : Type 1} → statement M
+nearest-reply-spec =
+    tie.close
+    (tie.spec
+    enum-known-answer
+    cast-t9
+    cast-t10
+    cast-t11
+    cast-t12
+    enum-told
+    refuses-requires
+    enum-told-2
+    refuses-requires-2
+    enum-told-3
+    refuses-requires-3
+    enum-told-4
+    refuses-requires-4
+    returns
+    returns-2
+    returns-3
+    returns-4
+    returns-5)

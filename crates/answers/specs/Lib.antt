@@ -1,0 +1,4 @@
+pub mod Numbers
+pub mod Listing
+pub mod Answers
+pub mod Changes

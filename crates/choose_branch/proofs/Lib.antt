@@ -1,0 +1,15 @@
+pub mod ChoiceCases
+pub mod ChildParts
+pub mod ReadBranches
+pub mod FirstLoop
+pub mod AloneLaws
+pub mod AloneLoops
+pub mod LeastLoops
+pub mod LeastLaws
+pub mod ReplacedReturns
+pub mod PieceLaws
+pub mod SiblingLoop
+pub mod GrownReturns
+pub mod RemovedLaws
+pub mod ChooseLaws
+pub mod ChooseReturns

@@ -1,0 +1,46 @@
+-- `answer_lines::put_cleared` meets its contract; its returns are in AnswerReturns.
+use Rattle.commands.proofs.AnswerReturns.{cleared-accepted, cleared-refused}
+use borrow.Author.Needs.{needs}
+use Rattle.commands.proofs.answer_lines.put_cleared.Statement.{statement}
+use Rattle.commands.proofs.answer_lines.put_cleared.Tie as tie
+
+enum-known-r : tie.Need-enum-known-r
+enum-known-r c = search needs
+
+enum-told : tie.Need-enum-told
+enum-told c = search needs
+
+clear-reply-requires : tie.Need-clear-reply-requires
+clear-reply-requires c κs = search needs
+
+put-refusal-requires : tie.Need-put-refusal-requires
+put-refusal-requires c κs = search needs
+
+same-length : tie.Need-same-length
+same-length c = search needs
+
+returns : tie.Need-returns
+returns c = search cleared-refused
+
+put-two-requires : tie.Need-put-two-requires
+put-two-requires c κs = search needs
+
+same-length-2 : tie.Need-same-length-2
+same-length-2 c = search needs
+
+returns-2 : tie.Need-returns-2
+returns-2 c = search cleared-accepted
+
+pub put-cleared-spec : {M : Type 1} → statement M
+put-cleared-spec =
+    tie.close
+    (tie.spec
+    enum-known-r
+    enum-told
+    clear-reply-requires
+    put-refusal-requires
+    same-length
+    returns
+    put-two-requires
+    same-length-2
+    returns-2)

@@ -1,6 +1,0 @@
-pub mod Emits
-pub mod Leaves
-pub mod Parts
-pub mod Path
-pub mod Rows
-pub mod Whole

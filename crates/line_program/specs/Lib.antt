@@ -1,0 +1,3 @@
+pub mod Response
+pub mod Stream
+pub mod LinesClaim

@@ -1,0 +1,4 @@
+pub mod ReadLaws
+pub mod SameLaws
+pub mod PutLaws
+pub mod NodePutLaws

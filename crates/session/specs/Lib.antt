@@ -1,4 +1,0 @@
-pub mod Opening
-pub mod Response
-pub mod Stream
-pub mod LinesClaim

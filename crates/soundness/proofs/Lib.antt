@@ -1,0 +1,5 @@
+pub mod LeafLaws
+pub mod CheckLaws
+pub mod CheckLoops
+pub mod OpenLaws
+pub mod ReadsLaws

@@ -1,0 +1,11 @@
+pub mod EntryTests
+pub mod WalkParts
+pub mod WalkNode
+pub mod WalkRows
+pub mod FoldRows
+pub mod ChildLaws
+pub mod ChildLoop
+pub mod WalkLoop
+pub mod WalkLeaf
+pub mod TreeWalk
+pub mod CountWalk

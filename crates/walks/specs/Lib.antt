@@ -1,0 +1,3 @@
+pub mod Walks
+pub mod Children
+pub mod Count
