@@ -1,5 +1,5 @@
--- The answer of each call, from the memory, its arguments and the lengths of the lent lists. 'Tests run in number order; the first that
--- applies is given, and only where its cause holds.'
+-- The answer of each call, from the memory, its arguments and the lengths of the lent lists. 'Tests run in number
+-- order; the first that applies is given, and only where its cause holds.'
 -- docs/RULES.md 4.23 to 4.26, 5.4 to 5.11, 5.13, 5.18, 7.1, 7.2
 use Prim.Native.Nat.{ℕ, _*_}
 use mathlib.Core.Bool.{Bool, true, false, cond}
@@ -54,7 +54,8 @@ insertRead N e (some i) = insertEnd (cellsRemoved i (e .cell)) (insertion indexS
 unfoldable pub insertAnswer : List ℕ → ℕ → CellEntry → Inserted
 insertAnswer m work e =
     cond (isIndexLength m)
-    (cond (eqb work (length m)) (cond (onGrid (e .cell)) (insertRead (partsOf m) e (reading fanout m)) I.Invalid) I.WorkLength)
+    (cond (eqb work (length m)) (cond (onGrid (e .cell)) (insertRead (partsOf m) e (reading fanout m))
+    I.Invalid) I.WorkLength)
     I.WrongLength
 
 -- how a removal ended: 6 of the table
@@ -105,13 +106,16 @@ windowRead w len (some i) =
 
 -- window query: the index, the window and the length of the result list. Tests 1, 3, 4, 9
 unfoldable pub windowAnswer : List ℕ → Rect → ℕ → WindowFound
-windowAnswer m w len = cond (isIndexLength m) (cond (valid w) (windowRead w len (reading fanout m)) W.Invalid) W.WrongLength
+windowAnswer m w len = cond (isIndexLength m)
+    (cond (valid w) (windowRead w len (reading fanout m)) W.Invalid) W.WrongLength
 
--- 'writes x, y, tag for each matching entry in depth-first order, leaves the rest of the list'; a refused call leaves all of it
+-- 'writes x, y, tag for each matching entry in depth-first order, leaves the rest of the list'; a refused call leaves
+-- all of it
 unfoldable pub windowWritten : Rect → Option PlaneIndex → List ℕ → List ℕ
 windowWritten w none list = list
 windowWritten w (some i) list =
-    cond (leb (listWidth * length (matchesIn w i)) (length list)) (flatMap listedNumbers (matchesIn w i) ++ drop (listWidth * length (matchesIn w i)) list) list
+    cond (leb (listWidth * length (matchesIn w i)) (length list))
+    (flatMap listedNumbers (matchesIn w i) ++ drop (listWidth * length (matchesIn w i)) list) list
 
 unfoldable pub windowList : List ℕ → Rect → List ℕ → List ℕ
 windowList m w list = cond (isIndexLength m) (cond (valid w) (windowWritten w (reading fanout m) list) list) list

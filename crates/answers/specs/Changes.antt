@@ -1,5 +1,5 @@
--- What insertion, removal and the window query leave in the lists they were lent, with their answers. Which part a node takes is free: what the memory
--- reads as is fixed.
+-- What insertion, removal and the window query leave in the lists they were lent, with their answers. Which part a
+-- node takes is free: what the memory reads as is fixed.
 -- docs/RULES.md 3.16, 4.23, 4.25, 5.4, 5.11, 5.12, 7.2
 use Prim.Native.Nat.{ℕ}
 use mathlib.Core.List.{List}
@@ -20,7 +20,8 @@ use Rattle.answers.specs.Answers.{insertAnswer, removeAnswer, windowAnsw
 use Rattle.geometry.specs.declared.rect.Rect.{Rect}
 use Rattle.answers.specs.declared.answer.WindowFound.{WindowFound}
 
--- 'Its promise names the tree after, from the tree before': what the memory reads as after an insertion, from what it read as before
+-- 'Its promise names the tree after, from the tree before': what the memory reads as after an insertion, from what it
+-- read as before
 unfoldable pub insertedIndex : ℕ → CellEntry → Option PlaneIndex → Option PlaneIndex
 insertedIndex N e none = none
 insertedIndex N e (some i) = some (outcomeIndex indexSpace i (insertion indexSpace indexRoot N i e))

@@ -15,4 +15,5 @@ listedNumbers e = e .cell .x ∷ e .cell .y ∷ e .tag ∷ []
 
 -- a list with an entry's numbers at the at-th place
 unfoldable pub putListed : List ℕ → ℕ → CellEntry → List ℕ
-putListed l at e = set (set (set l (listWidth * at) (e .cell .x)) (listWidth * at + 1) (e .cell .y)) (listWidth * at + 2) (e .tag)
+putListed l at e = set (set (set l (listWidth * at) (e .cell .x)) (listWidth * at + 1) (e .cell .y))
+    (listWidth * at + 2) (e .tag)

@@ -1,4 +1,5 @@
--- Document 01, 'Causes for saying no': the number and the values that each answer stands for. The number is 0 where the call accepts.
+-- Document 01, 'Causes for saying no': the number and the values that each answer stands for. The number is 0 where
+-- the call accepts.
 -- docs/RULES.md 4.24, 4.26, 5.4 to 5.6, 5.9, 5.13, 5.18, 7.3, 7.4, 8.10
 use Prim.Native.Nat.{ℕ}
 use mathlib.Core.List.{List, [], _∷_}

@@ -1,4 +1,5 @@
-// What the calls answer. specs/Answers.antt defines which case it is, specs/Numbers.antt document 01's number and values for each.
+// What the calls answer. specs/Answers.antt defines which case it is, specs/Numbers.antt document 01's number and
+// values for each.
 
 pub enum Inserted {
     // the entries held after the call, and how many cells siblings removed

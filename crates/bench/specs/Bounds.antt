@@ -16,7 +16,8 @@ Short (T.Kept n) = n ≤ 81
 Short T.End = Unit {0}
 Short T.Failed = Unit {0}
 
--- The result list, the input and the output are long enough: a line that is kept leaves room for more, and every answer fits.
+-- The result list, the input and the output are long enough: a line that is kept leaves room for more, and every
+-- answer fits.
 pub record Lengths (list input out : ℕ) : Type 0 where
   pub few : list ≤ 65536
   pub input-room : 81 < input

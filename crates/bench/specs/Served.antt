@@ -21,8 +21,8 @@ pub record Served (a b : Lent) : Type 0 where
   pub text : List ℕ
   pub session : Session commands a b text
 
--- The whole lines of some bytes are those of the commands cs: whatever follows the bytes, their commands are cs, then those of the rest,
--- which has no line feed.
+-- The whole lines of some bytes are those of the commands cs: whatever follows the bytes, their commands are cs, then
+-- those of the rest, which has no line feed.
 pub record Taken (bytes : List ℕ) (cs : List Command) (rest : List ℕ) : Type 0 where
   pub read : (more : List ℕ) → commandsOf (bytes ++ more) ≡ cs ++ commandsOf (rest ++ more)
   pub piece : OnePiece rest
@@ -66,7 +66,8 @@ pub record TurnServed (a b : Lent) (t : Turn) : Type 0 where
   pub short : Short t
   pub served : Served a b
 
--- The session started from a fresh index of 64 parts: demand 3's claim holds of the calls of the index that its commands made.
+-- The session started from a fresh index of 64 parts: demand 3's claim holds of the calls of the index that its
+-- commands made.
 pub record Claimed (a b : Lent) : Type 0 where
   pub served : Served a b
   pub claim : LinesClaim 64 (served .commands) b (served .text)

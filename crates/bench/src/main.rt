@@ -30,8 +30,8 @@ enum Turn {
     Failed,
 }
 
-// Whether a call that failed is to be made again: a signal came, or the stream is one that does not wait. There is no call to wait until
-// it is ready, so other processes are let run meanwhile.
+// Whether a call that failed is to be made again: a signal came, or the stream is one that does not wait. There is no
+// call to wait until it is ready, so other processes are let run meanwhile.
 fn is_again() -> bool {
     let error = os::errno();
     if error == libc::EINTR {
@@ -44,8 +44,9 @@ fn is_again() -> bool {
     false
 }
 
-// Reads once, and again where the read is to be made again. A read that fails is told to standard error. A proved loop has to end, and
-// nothing says that the input comes, so the loop counts its turns down from a number that no run uses up.
+// Reads once, and again where the read is to be made again. A read that fails is told to standard error. A proved loop
+// has to end, and nothing says that the input comes, so the loop counts its turns down from a number that no run uses
+// up.
 fn read_once(buf: &mut [u8]) -> isize {
     let mut turns = u64::MAX;
     while 0 < turns {
@@ -62,8 +63,8 @@ fn read_once(buf: &mut [u8]) -> isize {
     -1
 }
 
-// Writes the first n bytes of out, in as many writes as it takes. A write that fails, or takes nothing, is told to standard error. The
-// loop counts its turns down, as that of read_once.
+// Writes the first n bytes of out, in as many writes as it takes. A write that fails, or takes nothing, is told to
+// standard error. The loop counts its turns down, as that of read_once.
 fn write_answers(out: &[u8], n: usize) -> bool
     requires { ⌜ n ≤ length (now out) ⌝ }
 {
@@ -101,7 +102,8 @@ fn answer_all(
 ) -> Rest
     requires { ⌜ length (now list) ≤ 65536 ⌝ }
     requires { ⌜ 64 + 12 * length (now list) ≤ length (now out) ⌝ }
-    ensures { λ r. ⌜ AllServed (now (input .entry)) (lent (now (m .entry)) (now (work .entry)) (now (list .entry))) (lent (now (m .exit)) (now (work .exit)) (now (list .exit))) r ⌝ }
+    ensures { λ r. ⌜ AllServed (now (input .entry)) (lent (now (m .entry)) (now (work .entry)) (now (list .entry)))
+        (lent (now (m .exit)) (now (work .exit)) (now (list .exit))) r ⌝ }
 {
     let mut from = 0;
     loop {
@@ -128,7 +130,9 @@ fn answer_first(
 ) -> Turn
     requires { ⌜ to ≤ length (now input) ⌝ }
     requires { ⌜ Lengths (length (now list)) (length (now input)) (length (now out)) ⌝ }
-    ensures { λ r. ⌜ FirstServed (take to (now (input .entry))) (now (input .exit)) (lent (now (m .entry)) (now (work .entry)) (now (list .entry))) (lent (now (m .exit)) (now (work .exit)) (now (list .exit))) r ⌝ }
+    ensures { λ r. ⌜ FirstServed (take to (now (input .entry))) (now (input .exit))
+        (lent (now (m .entry)) (now (work .entry)) (now (list .entry)))
+        (lent (now (m .exit)) (now (work .exit)) (now (list .exit))) r ⌝ }
 {
     let rest = answer_all(&input[0..to], m, work, list, out);
     match rest {
@@ -152,7 +156,8 @@ fn read_some(
 ) -> Turn
     requires { ⌜ kept ≤ 81 ⌝ }
     requires { ⌜ Lengths (length (now list)) (length (now input)) (length (now out)) ⌝ }
-    ensures { λ r. ⌜ TurnServed (lent (now (m .entry)) (now (work .entry)) (now (list .entry))) (lent (now (m .exit)) (now (work .exit)) (now (list .exit))) r ⌝ }
+    ensures { λ r. ⌜ TurnServed (lent (now (m .entry)) (now (work .entry)) (now (list .entry)))
+        (lent (now (m .exit)) (now (work .exit)) (now (list .exit))) r ⌝ }
 {
     let got = read_once(&mut input[kept..]);
     if got < 0 {
@@ -177,7 +182,9 @@ fn answer_last(
 )
     requires { ⌜ kept ≤ 81 ⌝ }
     requires { ⌜ Lengths (length (now list)) (length (now input)) (length (now out)) ⌝ }
-    ensures { λ _. ⌜ LastServed (take kept (now (input .entry))) (lent (now (m .entry)) (now (work .entry)) (now (list .entry))) (lent (now (m .exit)) (now (work .exit)) (now (list .exit))) ⌝ }
+    ensures { λ _. ⌜ LastServed (take kept (now (input .entry)))
+        (lent (now (m .entry)) (now (work .entry)) (now (list .entry)))
+        (lent (now (m .exit)) (now (work .exit)) (now (list .exit))) ⌝ }
 {
     if kept == 0 {
         return;
@@ -190,7 +197,8 @@ fn answer_last(
 fn run(m: &mut [u32], work: &mut [u32], list: &mut [u32], input: &mut [u8], out: &mut [u8])
     requires { ⌜ now m ≡ freshMemory 64 ⌝ }
     requires { ⌜ Lengths (length (now list)) (length (now input)) (length (now out)) ⌝ }
-    ensures { λ _. ⌜ Claimed (lent (now (m .entry)) (now (work .entry)) (now (list .entry))) (lent (now (m .exit)) (now (work .exit)) (now (list .exit))) ⌝ }
+    ensures { λ _. ⌜ Claimed (lent (now (m .entry)) (now (work .entry)) (now (list .entry)))
+        (lent (now (m .exit)) (now (work .exit)) (now (list .exit))) ⌝ }
 {
     let mut kept = 0;
     let mut turns = u64::MAX;

@@ -1,4 +1,5 @@
--- Document 01, 'Insertion', step 2, on memory: which branch of a routing node insertion goes to, and the polygon that it gets.
+-- Document 01, 'Insertion', step 2, on memory: which branch of a routing node insertion goes to, and the polygon that
+-- it gets.
 use Prim.Native.Nat.{ℕ, suc, _+_, _≤_, _<_}
 use mathlib.Core.Bool.{true}
 use mathlib.Core.List.{List, _∷_, _++_}
@@ -28,8 +29,10 @@ pub record Routing (m : List ℕ) (k : ℕ) : Type 0 where
   pub reads : readNode fanout (suc n) m lo k ≡ some node
   pub fine : All (λ b. indexSpace .Fine (b .poly)) (node .child)
 
--- The branch at a place of the row of the node b is the one chosen, with the polygon q from now on; p is the node's own polygon.
-pub record ChosenBranch (n : ℕ) (b : Item indexSpace (suc (suc n))) (p : List Rect) (c : Cell) (place : ℕ) (q : List Rect) : Type 0 where
+-- The branch at a place of the row of the node b is the one chosen, with the polygon q from now on; p is the node's
+-- own polygon.
+pub record ChosenBranch (n : ℕ) (b : Item indexSpace (suc (suc n))) (p : List Rect) (c : Cell) (place : ℕ)
+    (q : List Rect) : Type 0 where
   pub old : Item indexSpace (suc n)
   pub below : place < length (b .child)
   pub row : b .child ≡ take place (b .child) ++ (old ∷ drop (place + 1) (b .child))
@@ -42,7 +45,8 @@ pub record ChosenAt (m : List ℕ) (k : ℕ) (p : List Rect) (c : Cell) (place :
   pub each : (n lo : ℕ) (b : Item indexSpace (suc (suc n))) → readNode fanout (suc n) m lo k ≡ some b
       → ChosenBranch n b p c place (rectsOf q)
 
--- Refusal 7, of every reading: 'pieces over 256 after a cut by one rectangle or after the common parts, or the refined polygon over 16'.
+-- Refusal 7, of every reading: 'pieces over 256 after a cut by one rectangle or after the common parts, or the refined
+-- polygon over 16'.
 pub record NoneChosen (m : List ℕ) (k : ℕ) (p : List Rect) (c : Cell) : Type 0 where
   pub each : (n lo : ℕ) (b : Item indexSpace (suc (suc n))) → readNode fanout (suc n) m lo k ≡ some b
       → indexSpace .choose p (b .child) c ≡ none

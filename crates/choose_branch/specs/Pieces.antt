@@ -1,4 +1,5 @@
--- Document 01, 'Insertion', step 2: 'Grow it; cut the grown one by every sibling's polygon in order; replace each piece ..; refine.'
+-- Document 01, 'Insertion', step 2: 'Grow it; cut the grown one by every sibling's polygon in order; replace each
+-- piece ..; refine.'
 use Prim.Native.Nat.{ℕ, _+_}
 use mathlib.Core.List.{List, [], _∷_, _++_, flatMap}
 use mathlib.Core.Option.{Option, bind}

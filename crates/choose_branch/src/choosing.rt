@@ -37,7 +37,10 @@ pub struct Choice {
 
 // The branch of least extra area, where none has the cell, with its polygon grown.
 fn choose_least(m: &[u32], k: u32, p: Polygon, c: Cell) -> Choice
-    requires { ⌜ Branches (now m) k × (firstPlace (hasTest c) (polygonsIn (now m) k) ≡ countAt (now m) k) × (p .count ≤ 16) × (onGrid c ≡ true) ⌝ }
+    requires { ⌜ Branches (now m) k ⌝ }
+    requires { ⌜ firstPlace (hasTest c) (polygonsIn (now m) k) ≡ countAt (now m) k ⌝ }
+    requires { ⌜ p .count ≤ 16 ⌝ }
+    requires { ⌜ onGrid c ≡ true ⌝ }
     ensures { λ r. ⌜ ChoiceIs (now (m .entry)) k (rectsOf p) c r ⌝ }
     ensures { λ r. ⌜ RemovedAt (now (m .entry)) k c r ⌝ }
 {
@@ -67,7 +70,9 @@ fn choose_least(m: &[u32], k: u32, p: Polygon, c: Cell) -> Choice
 
 // The branch that has the cell, or the one of least extra area.
 fn choose_branch(m: &[u32], k: u32, p: Polygon, c: Cell) -> Choice
-    requires { ⌜ Branches (now m) k × (p .count ≤ 16) × (onGrid c ≡ true) ⌝ }
+    requires { ⌜ Branches (now m) k ⌝ }
+    requires { ⌜ p .count ≤ 16 ⌝ }
+    requires { ⌜ onGrid c ≡ true ⌝ }
     ensures { λ r. ⌜ ChoiceIs (now (m .entry)) k (rectsOf p) c r ⌝ }
     ensures { λ r. ⌜ RemovedAt (now (m .entry)) k c r ⌝ }
 {
@@ -89,7 +94,9 @@ fn choose_branch(m: &[u32], k: u32, p: Polygon, c: Cell) -> Choice
 // The branch of the routing node at part k for the cell; p is the node's own polygon, as grown in this
 // insertion.
 pub fn choose(m: &[u32], k: u32, p: Polygon, c: Cell) -> Choice
-    requires { ⌜ Routing (now m) k × (p .count ≤ 16) × (onGrid c ≡ true) ⌝ }
+    requires { ⌜ Routing (now m) k ⌝ }
+    requires { ⌜ p .count ≤ 16 ⌝ }
+    requires { ⌜ onGrid c ≡ true ⌝ }
     ensures { λ r. ⌜ ChoiceIs (now (m .entry)) k (rectsOf p) c r ⌝ }
     ensures { λ r. ⌜ RemovedAt (now (m .entry)) k c r ⌝ }
 {

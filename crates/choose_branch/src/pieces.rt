@@ -45,7 +45,8 @@ fn put_inner(
     list: &mut [u32],
     out: &mut [u32],
 ) -> Grown
-    requires { ⌜ Branches (now m) k × (place < countAt (now m) k) × (valid g ≡ true) × (p .count ≤ 16) × (1088 ≤ length (now list)) × (1088 ≤ length (now out)) ⌝ }
+    requires { ⌜ Branches (now m) k × (place < countAt (now m) k) × (valid g ≡ true) × (p .count ≤ 16)
+        × (1088 ≤ length (now list)) × (1088 ≤ length (now out)) ⌝ }
     ensures { λ r. ⌜ Written (now (out .entry))
         (innerPieces (rectsOf p) (siblings (polygonsIn (now (m .entry)) k) place) g) (r .count) (now (out .exit)) ⌝ }
     ensures { λ r. ⌜ RemovedBy g (siblings (polygonsIn (now (m .entry)) k) place) r ⌝ }
@@ -58,15 +59,17 @@ fn put_inner(
         return Grown { count, removed: 0 };
     };
     // the pieces share no cell; those outside the parent's polygon are still among them
-    let left = total_area(list, n);
-    let removed = g.area() - left;
+    let remaining = total_area(list, n);
+    let removed = g.area() - remaining;
     let count = common_parts(list, n, p, out);
     Grown { count, removed }
 }
 
 // The rect-th rectangle of the polygon at part j, grown to the cell.
 fn grown_rect(m: &[u32], j: u32, rect: usize, c: Cell) -> Rect
-    requires { ⌜ PolygonPart (now m) j × (rect < rectCount (part (now m) j)) × (onGrid c ≡ true) ⌝ }
+    requires { ⌜ PolygonPart (now m) j ⌝ }
+    requires { ⌜ rect < rectCount (part (now m) j) ⌝ }
+    requires { ⌜ onGrid c ≡ true ⌝ }
     ensures { λ g. ⌜ g ≡ grown (getD (polygonIn (part (now (m .entry)) j)) rect noRect) c ⌝ }
 {
     let p = part_at(m, j);
@@ -86,7 +89,9 @@ pub fn put_grown(
     list: &mut [u32],
     spare: &mut [u32],
 ) -> Grown
-    requires { ⌜ Branches (now m) k × (place < countAt (now m) k) × (rect < length (getD (polygonsIn (now m) k) place [])) × (p .count ≤ 16) × (onGrid c ≡ true) × (1088 ≤ length (now list)) × (1088 ≤ length (now spare)) ⌝ }
+    requires { ⌜ Branches (now m) k × (place < countAt (now m) k)
+        × (rect < length (getD (polygonsIn (now m) k) place [])) × (p .count ≤ 16) × (onGrid c ≡ true)
+        × (1088 ≤ length (now list)) × (1088 ≤ length (now spare)) ⌝ }
     ensures { λ r. ⌜ Written (now (list .entry)) (grownAt (rectsOf p) (polygonsIn (now (m .entry)) k) place rect c)
         (r .count) (now (list .exit)) ⌝ }
     ensures { λ r. ⌜ RemovedBy (grownRect (polygonsIn (now (m .entry)) k) place rect c)

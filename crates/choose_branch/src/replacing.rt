@@ -22,15 +22,22 @@ fn put_replaced(
     pieces: &[u32],
     count: usize,
 ) -> usize
-    requires { ⌜ (k < n) × (n ≤ 16) × (4 * n ≤ length (now polygon)) × (count ≤ 256) × (4 * count ≤ length (now pieces)) × (1088 ≤ length (now list)) ⌝ }
-    ensures { λ m. ⌜ Appended (now (list .entry)) 0 (replaced (rectsIn (now (polygon .entry)) n) k (rectsIn (now (pieces .entry)) count)) 271 (now (list .exit)) m ⌝ }
+    requires { ⌜ k < n ⌝ }
+    requires { ⌜ n ≤ 16 ⌝ }
+    requires { ⌜ 4 * n ≤ length (now polygon) ⌝ }
+    requires { ⌜ count ≤ 256 ⌝ }
+    requires { ⌜ 4 * count ≤ length (now pieces) ⌝ }
+    requires { ⌜ 1088 ≤ length (now list) ⌝ }
+    ensures { λ m. ⌜ Appended (now (list .entry)) 0
+        (replaced (rectsIn (now (polygon .entry)) n) k (rectsIn (now (pieces .entry)) count)) 271
+        (now (list .exit)) m ⌝ }
 {
     let a = put_rects(list, 0, polygon, 0, k);
     let b = put_rects(list, a, pieces, 0, count);
     put_rects(list, b, polygon, k + 1, n)
 }
 
-// The polygon's n rectangles with the pieces in place of its k-th one, refined: over where more than 16 are left.
+// The polygon's n rectangles with the pieces in place of its k-th one, refined: over where more than 16 remain.
 fn put_refined(
     list: &mut [u32],
     polygon: &[u32],
@@ -39,15 +46,22 @@ fn put_refined(
     pieces: &[u32],
     count: usize,
 ) -> Count
-    requires { ⌜ (k < n) × (n ≤ 16) × (4 * n ≤ length (now polygon)) × (count ≤ 256) × (4 * count ≤ length (now pieces)) × (1088 ≤ length (now list)) ⌝ }
-    ensures { λ c. ⌜ Written (now (list .entry)) (refinedLimited (replaced (rectsIn (now (polygon .entry)) n) k (rectsIn (now (pieces .entry)) count))) c (now (list .exit)) ⌝ }
+    requires { ⌜ k < n ⌝ }
+    requires { ⌜ n ≤ 16 ⌝ }
+    requires { ⌜ 4 * n ≤ length (now polygon) ⌝ }
+    requires { ⌜ count ≤ 256 ⌝ }
+    requires { ⌜ 4 * count ≤ length (now pieces) ⌝ }
+    requires { ⌜ 1088 ≤ length (now list) ⌝ }
+    ensures { λ c. ⌜ Written (now (list .entry))
+        (refinedLimited (replaced (rectsIn (now (polygon .entry)) n) k (rectsIn (now (pieces .entry)) count))) c
+        (now (list .exit)) ⌝ }
 {
     let all = put_replaced(list, polygon, n, k, pieces, count);
-    let left = refine_list(list, all);
-    if MOST_OF_POLYGON < left {
+    let remaining = refine_list(list, all);
+    if MOST_OF_POLYGON < remaining {
         return Count::Over;
     }
-    Count::Rects(left)
+    Count::Rects(remaining)
 }
 
 // Writes the polygon at part j with the pieces in place of its rect-th rectangle, refined.
@@ -59,8 +73,14 @@ pub fn put_polygon(
     pieces: &[u32],
     count: usize,
 ) -> Count
-    requires { ⌜ PolygonPart (now m) j × (rect < rectCount (part (now m) j)) × (count ≤ 256) × (4 * count ≤ length (now pieces)) × (1088 ≤ length (now list)) ⌝ }
-    ensures { λ c. ⌜ Written (now (list .entry)) (refinedLimited (replaced (polygonIn (part (now (m .entry)) j)) rect (rectsIn (now (pieces .entry)) count))) c (now (list .exit)) ⌝ }
+    requires { ⌜ PolygonPart (now m) j ⌝ }
+    requires { ⌜ rect < rectCount (part (now m) j) ⌝ }
+    requires { ⌜ count ≤ 256 ⌝ }
+    requires { ⌜ 4 * count ≤ length (now pieces) ⌝ }
+    requires { ⌜ 1088 ≤ length (now list) ⌝ }
+    ensures { λ c. ⌜ Written (now (list .entry))
+        (refinedLimited (replaced (polygonIn (part (now (m .entry)) j)) rect (rectsIn (now (pieces .entry)) count))) c
+        (now (list .exit)) ⌝ }
 {
     let p = part_at(m, j);
     put_refined(list, rects(p), rect_count(p) as usize, rect, pieces, count)

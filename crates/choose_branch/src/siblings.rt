@@ -25,24 +25,27 @@ fn cut_by_children(
     n: usize,
     spare: &mut [u32],
 ) -> Count
-    requires { ⌜ Branches (now m) k × (from ≤ to) × (to ≤ countAt (now m) k) × (n ≤ 256) × (1088 ≤ length (now list)) × (1088 ≤ length (now spare)) ⌝ }
-    ensures { λ c. ⌜ Written (now (list .entry)) (cutLimited (rectsIn (now (list .entry)) n) (rectsAll (drop from (take to (polygonsIn (now (m .entry)) k))))) c (now (list .exit)) ⌝ }
+    requires { ⌜ Branches (now m) k × (from ≤ to) × (to ≤ countAt (now m) k) × (n ≤ 256) × (1088 ≤ length (now list))
+        × (1088 ≤ length (now spare)) ⌝ }
+    ensures { λ c. ⌜ Written (now (list .entry))
+        (cutLimited (rectsIn (now (list .entry)) n) (rectsAll (drop from (take to (polygonsIn (now (m .entry)) k))))) c
+        (now (list .exit)) ⌝ }
     ensures { λ _. ⌜ length (now (spare .exit)) ≡ length (now (spare .entry)) ⌝ }
 {
     let node = node_at(m, k);
-    let mut left = n;
+    let mut remaining = n;
     let mut i = from;
     while i < to {
         let j = child(&node.items, i);
         let p = polygon_at(m, j);
-        let c = cut_polygon(list, left, p, spare);
+        let c = cut_polygon(list, remaining, p, spare);
         let Count::Rects(rects) = c else {
             return Count::Over;
         };
-        left = rects;
+        remaining = rects;
         i += 1;
     }
-    Count::Rects(left)
+    Count::Rects(remaining)
 }
 
 // Cuts the first n rectangles of a list by the polygons of all children but the one at a place, in order.
@@ -54,14 +57,17 @@ pub fn cut_by_siblings(
     n: usize,
     spare: &mut [u32],
 ) -> Count
-    requires { ⌜ Branches (now m) k × (place < countAt (now m) k) × (n ≤ 256) × (1088 ≤ length (now list)) × (1088 ≤ length (now spare)) ⌝ }
-    ensures { λ c. ⌜ Written (now (list .entry)) (cutLimited (rectsIn (now (list .entry)) n) (siblings (polygonsIn (now (m .entry)) k) place)) c (now (list .exit)) ⌝ }
+    requires { ⌜ Branches (now m) k × (place < countAt (now m) k) × (n ≤ 256) × (1088 ≤ length (now list))
+        × (1088 ≤ length (now spare)) ⌝ }
+    ensures { λ c. ⌜ Written (now (list .entry))
+        (cutLimited (rectsIn (now (list .entry)) n) (siblings (polygonsIn (now (m .entry)) k) place)) c
+        (now (list .exit)) ⌝ }
     ensures { λ _. ⌜ length (now (spare .exit)) ≡ length (now (spare .entry)) ⌝ }
 {
     let before = cut_by_children(m, k, 0, place, list, n, spare);
-    let Count::Rects(left) = before else {
+    let Count::Rects(remaining) = before else {
         return Count::Over;
     };
     let count = count_at(m, k) as usize;
-    cut_by_children(m, k, place + 1, count, list, left, spare)
+    cut_by_children(m, k, place + 1, count, list, remaining, spare)
 }

@@ -43,7 +43,8 @@ pointText r = foundText letterP (pointReply r)
 unfoldable pub entriesText : List ℕ → ℕ → List ℕ
 entriesText list zero = []
 entriesText list (suc n) =
-    entriesText list n ++ lineText letterE (getD list (listWidth * n) 0 ∷ getD list (listWidth * n + 1) 0 ∷ getD list (listWidth * n + 2) 0 ∷ [])
+    entriesText list n ++ lineText letterE
+    (getD list (listWidth * n) 0 ∷ getD list (listWidth * n + 1) 0 ∷ getD list (listWidth * n + 2) 0 ∷ [])
 
 -- how many entries a window query wrote to its list
 unfoldable pub listed : WindowFound → ℕ

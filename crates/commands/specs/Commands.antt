@@ -1,5 +1,5 @@
--- Document 01: 'Commands: `I x y tag`, `R x y`, `P x y`, `S llx lly urx ury`, `C`. Fields are decimal .., after one space each; .. Other
--- lines, or lines over 80 bytes, print `?`.'
+-- Document 01: 'Commands: `I x y tag`, `R x y`, `P x y`, `S llx lly urx ury`, `C`. Fields are decimal .., after one
+-- space each; .. Other lines, or lines over 80 bytes, print `?`.'
 -- docs/RULES.md 9.4, 9.6
 use Prim.Native.Nat.{ℕ}
 use mathlib.Core.Bool.{Bool, cond, _&&_}

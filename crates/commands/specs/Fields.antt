@@ -48,7 +48,8 @@ unfoldable pub NotFew : Option (List ℕ) → Type 0
 NotFew none = Unit {0}
 NotFew (some vs) = 4 < length vs
 
--- What was read of the fields behind a line's letter: their numbers; or they are no numbers, or more than any command has.
+-- What was read of the fields behind a line's letter: their numbers; or they are no numbers, or more than any command
+-- has.
 pub record FieldsRead (line : List ℕ) (r : Fields) : Type 0 where
   pub few : r .count ≤ 4
   pub long : length (r .values) ≡ 4

@@ -29,8 +29,8 @@ lineText letter vs = (letter ∷ flatMap fieldText vs) ++ (lineFeed ∷ [])
 unfoldable pub refusalText : ℕ → ℕ → List ℕ
 refusalText letter n = (letter ∷ space ∷ exclamationMark ∷ fieldText n) ++ (lineFeed ∷ [])
 
--- A text of at most k bytes was put into out at a place, which gives out'. The bytes before the place are kept; next is the place
--- behind the text.
+-- A text of at most k bytes was put into out at a place, which gives out'. The bytes before the place are kept; next
+-- is the place behind the text.
 pub record Appended (k : ℕ) (out : List ℕ) (at : ℕ) (text out' : List ℕ) (next : ℕ) : Type 0 where
   pub bytes : take next out' ≡ take at out ++ text
   pub next-is : next ≡ at + length text

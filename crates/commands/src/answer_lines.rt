@@ -95,8 +95,10 @@ pub fn put_point(out: &mut [u8], at: usize, r: PointFound) -> usize
 
 // A line for each of the first n entries of a list.
 fn put_entries(out: &mut [u8], at: usize, list: &[u32], n: usize) -> usize
-    requires { ⌜ (listWidth * n ≤ length (now list)) × (at + 35 * n ≤ length (now out)) ⌝ }
-    ensures { λ next. ⌜ Appended (35 * n) (now (out .entry)) at (entriesText (now (list .entry)) n) (now (out .exit)) next ⌝ }
+    requires { ⌜ listWidth * n ≤ length (now list) ⌝ }
+    requires { ⌜ at + 35 * n ≤ length (now out) ⌝ }
+    ensures { λ next. ⌜ Appended (35 * n) (now (out .entry)) at (entriesText (now (list .entry)) n)
+        (now (out .exit)) next ⌝ }
 {
     let mut next = at;
     let mut i = 0;
@@ -110,8 +112,10 @@ fn put_entries(out: &mut [u8], at: usize, list: &[u32], n: usize) -> usize
 
 // The line of a window query, and a line for each entry that it wrote to the list.
 pub fn put_window(out: &mut [u8], at: usize, r: WindowFound, list: &[u32]) -> usize
-    requires { ⌜ (listWidth * listed r ≤ length (now list)) × (at + (24 + 12 * length (now list)) ≤ length (now out)) ⌝ }
-    ensures { λ next. ⌜ Appended (24 + 12 * length (now (list .entry))) (now (out .entry)) at (windowText r (now (list .entry))) (now (out .exit)) next ⌝ }
+    requires { ⌜ listWidth * listed r ≤ length (now list) ⌝ }
+    requires { ⌜ at + (24 + 12 * length (now list)) ≤ length (now out) ⌝ }
+    ensures { λ next. ⌜ Appended (24 + 12 * length (now (list .entry))) (now (out .entry)) at
+        (windowText r (now (list .entry))) (now (out .exit)) next ⌝ }
 {
     let WindowFound::Found { matches, visits } = r else {
         let reply = window_reply(r);

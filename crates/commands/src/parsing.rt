@@ -33,7 +33,8 @@ pub enum Command {
 
 // The command of a letter and the numbers behind it.
 fn choose(letter: u8, fields: Fields) -> Command
-    requires { ⌜ (fields .count ≤ 4) × (length (fields .values) ≡ 4) ⌝ }
+    requires { ⌜ fields .count ≤ 4 ⌝ }
+    requires { ⌜ length (fields .values) ≡ 4 ⌝ }
     ensures { λ r. ⌜ r ≡ commandFor letter (take (fields .count) (fields .values)) ⌝ }
 {
     let n = fields.count;

@@ -17,8 +17,8 @@ use Rattle.drawing.specs.declared.answer.Contains.the-variants.{Tested, 
 use Rattle.drawing.specs.declared.answer.Extra.{Extra}
 use Rattle.drawing.specs.declared.answer.Extra.the-variants.{Area, Unfit}
 
--- The answer of a call, from whether all its arguments are valid and the limited list that its rule gives. The test for 3 comes
--- before that for 7.
+-- The answer of a call, from whether all its arguments are valid and the limited list that its rule gives. The test
+-- for 3 comes before that for 7.
 unfoldable pub answerOf : Bool → Option (List Rect) → Answer
 answerOf false l = Invalid
 answerOf true none = TooMany
@@ -30,8 +30,8 @@ resultOf false l out = out
 resultOf true none out = out
 resultOf true (some l) out = numbersOf l ++ drop (4 * length l) out
 
--- Document 01's number for each answer; 0 where the call accepts.
--- 'An invalid rectangle, cell, count or result list length is refused with 3, a list over 256 after a single cut with 7'
+-- Document 01's number for each answer; 0 where the call accepts. 'An invalid rectangle, cell, count or result list
+-- length is refused with 3, a list over 256 after a single cut with 7'
 abbrev pub number : Answer → ℕ
 number (Wrote n) = 0
 number Invalid = 3
@@ -50,19 +50,22 @@ few Invalid = Unit {0}
 few TooMany = Unit {0}
 
 -- What a call promises: its answer and the whole result list at exit.
-pub record Drawn (valid : Bool) (limited : Option (List Rect)) (out : List ℕ) (a : Answer) (out' : List ℕ) : Type 0 where
+pub record Drawn (valid : Bool) (limited : Option (List Rect)) (out : List ℕ) (a : Answer)
+    (out' : List ℕ) : Type 0 where
   pub answer : a ≡ answerOf valid limited
   pub result : out' ≡ resultOf valid limited out
   pub count : few a
 
--- The first n rectangles of a list were refined, and the result is the first m of the numbers out'; those behind stayed.
+-- The first n rectangles of a list were refined, and the result is the first m of the numbers out'; those behind
+-- stayed.
 pub record RefinedInto (list : List ℕ) (n : ℕ) (out : List ℕ) (m : ℕ) (out' : List ℕ) : Type 0 where
   pub result : out' ≡ numbersOf (refine (rectsIn list n)) ++ drop (4 * m) out
   pub count : m ≡ length (refine (rectsIn list n))
   pub fewer : m ≤ n
 
 -- What its form for C promises: document 01's number, the result list and the reported number at exit.
-pub record Exported (valid : Bool) (limited : Option (List Rect)) (out : List ℕ) (told : ℕ) (n : ℕ) (out' : List ℕ) (told' : ℕ) : Type 0 where
+pub record Exported (valid : Bool) (limited : Option (List Rect)) (out : List ℕ) (told : ℕ) (n : ℕ) (out' : List ℕ)
+    (told' : ℕ) : Type 0 where
   pub refusal : n ≡ number (answerOf valid limited)
   pub result : out' ≡ resultOf valid limited out
   pub count : told' ≡ reported (answerOf valid limited) told

@@ -1,5 +1,5 @@
--- What the calls of the drawing exercise accept. Document 01: 'Called so, they take 1 to 256 rectangles (a cutting polygon
--- 1 to 16), write to a list of exactly 256 rectangles'.
+-- What the calls of the drawing exercise accept. Document 01: 'Called so, they take 1 to 256 rectangles (a cutting
+-- polygon 1 to 16), write to a list of exactly 256 rectangles'.
 -- docs/RULES.md 2.20, 2.21
 use Prim.Native.Nat.{ℕ, _/_, _%_}
 use mathlib.Core.Bool.{Bool, _&&_}

@@ -1,4 +1,5 @@
--- The calls of the drawing exercise: for each, whether its arguments are valid, and the limited list that its rule gives.
+-- The calls of the drawing exercise: for each, whether its arguments are valid, and the limited list that its rule
+-- gives.
 -- docs/RULES.md 2.19, 2.22
 use Prim.Native.Nat.{ℕ}
 use mathlib.Core.Bool.{Bool, _&&_}

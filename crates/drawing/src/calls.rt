@@ -29,7 +29,8 @@ use refinement::refine_list;
 
 // The part of each rectangle that it shares with one rectangle, where it shares any.
 pub fn common(list: &[u32], r: Rect, out: &mut [u32]) -> Answer
-    ensures { λ a. ⌜ Drawn (validWithRect (now (list .entry)) r (now (out .entry))) (commonDrawn (now (list .entry)) r) (now (out .entry)) a (now (out .exit)) ⌝ }
+    ensures { λ a. ⌜ Drawn (validWithRect (now (list .entry)) r (now (out .entry))) (commonDrawn (now (list .entry)) r)
+        (now (out .entry)) a (now (out .exit)) ⌝ }
 {
     if out.len() != RESULT_NUMBERS {
         return Answer::Invalid;
@@ -52,8 +53,11 @@ pub fn common(list: &[u32], r: Rect, out: &mut [u32]) -> Answer
 
 // Writes each of the first n rectangles of a list, grown to a cell, to another list.
 fn put_grown(list: &[u32], n: usize, c: Cell, out: &mut [u32])
-    requires { ⌜ (4 * n ≤ length (now list)) × (4 * n ≤ length (now out)) × (onGrid c ≡ true) ⌝ }
-    ensures { λ _. ⌜ now (out .exit) ≡ numbersOf (map (grownTo c) (rectsIn (now (list .entry)) n)) ++ drop (4 * n) (now (out .entry)) ⌝ }
+    requires { ⌜ 4 * n ≤ length (now list) ⌝ }
+    requires { ⌜ 4 * n ≤ length (now out) ⌝ }
+    requires { ⌜ onGrid c ≡ true ⌝ }
+    ensures { λ _. ⌜ now (out .exit) ≡ numbersOf (map (grownTo c) (rectsIn (now (list .entry)) n))
+        ++ drop (4 * n) (now (out .entry)) ⌝ }
 {
     let mut i = 0;
     while i < n {
@@ -65,7 +69,8 @@ fn put_grown(list: &[u32], n: usize, c: Cell, out: &mut [u32])
 
 // Each rectangle grown to a cell.
 pub fn grow(list: &[u32], c: Cell, out: &mut [u32]) -> Answer
-    ensures { λ a. ⌜ Drawn (validWithCell (now (list .entry)) c (now (out .entry))) (growDrawn (now (list .entry)) c) (now (out .entry)) a (now (out .exit)) ⌝ }
+    ensures { λ a. ⌜ Drawn (validWithCell (now (list .entry)) c (now (out .entry))) (growDrawn (now (list .entry)) c)
+        (now (out .entry)) a (now (out .exit)) ⌝ }
 {
     if out.len() != RESULT_NUMBERS {
         return Answer::Invalid;
@@ -96,7 +101,8 @@ pub fn extra_area(r: Rect, c: Cell) -> Extra
 
 // The list cut by a rectangle.
 pub fn cut(list: &[u32], s: Rect, out: &mut [u32]) -> Answer
-    ensures { λ a. ⌜ Drawn (validWithRect (now (list .entry)) s (now (out .entry))) (cutDrawn (now (list .entry)) s) (now (out .entry)) a (now (out .exit)) ⌝ }
+    ensures { λ a. ⌜ Drawn (validWithRect (now (list .entry)) s (now (out .entry))) (cutDrawn (now (list .entry)) s)
+        (now (out .entry)) a (now (out .exit)) ⌝ }
 {
     if out.len() != RESULT_NUMBERS {
         return Answer::Invalid;
@@ -118,7 +124,9 @@ pub fn cut(list: &[u32], s: Rect, out: &mut [u32]) -> Answer
 
 // Refines the first n rectangles of a list in a working list, and writes the result.
 fn refine_in(list: &[u32], n: usize, work: &mut [u32], out: &mut [u32]) -> usize
-    requires { ⌜ (4 * n ≤ length (now list)) × (4 * n ≤ length (now work)) × (4 * n ≤ length (now out)) ⌝ }
+    requires { ⌜ 4 * n ≤ length (now list) ⌝ }
+    requires { ⌜ 4 * n ≤ length (now work) ⌝ }
+    requires { ⌜ 4 * n ≤ length (now out) ⌝ }
     ensures { λ m. ⌜ RefinedInto (now (list .entry)) n (now (out .entry)) m (now (out .exit)) ⌝ }
     ensures { λ _. ⌜ length (now (work .exit)) ≡ length (now (work .entry)) ⌝ }
 {
@@ -130,7 +138,8 @@ fn refine_in(list: &[u32], n: usize, work: &mut [u32], out: &mut [u32]) -> usize
 
 // The list refined; a short one in a short working list, which is sooner cleared.
 pub fn refine(list: &[u32], out: &mut [u32]) -> Answer
-    ensures { λ a. ⌜ Drawn (validAlone (now (list .entry)) (now (out .entry))) (refineDrawn (now (list .entry))) (now (out .entry)) a (now (out .exit)) ⌝ }
+    ensures { λ a. ⌜ Drawn (validAlone (now (list .entry)) (now (out .entry))) (refineDrawn (now (list .entry)))
+        (now (out .entry)) a (now (out .exit)) ⌝ }
 {
     if out.len() != RESULT_NUMBERS {
         return Answer::Invalid;

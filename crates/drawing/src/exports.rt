@@ -39,7 +39,8 @@ fn report(a: Answer, written: &mut u32) -> u32
 
 #[no_mangle]
 pub extern "C" fn lintzoger_refine(list: &[u32], result: &mut [u32], written: &mut u32) -> u32
-    ensures { λ r. ⌜ Exported (validAlone (now (list .entry)) (now (result .entry))) (refineDrawn (now (list .entry))) (now (result .entry)) (now (written .entry)) r (now (result .exit)) (now (written .exit)) ⌝ }
+    ensures { λ r. ⌜ Exported (validAlone (now (list .entry)) (now (result .entry))) (refineDrawn (now (list .entry)))
+        (now (result .entry)) (now (written .entry)) r (now (result .exit)) (now (written .exit)) ⌝ }
 {
     let a = refine(list, result);
     report(a, written)
@@ -81,7 +82,9 @@ pub extern "C" fn lintzoger_cut(
     result: &mut [u32],
     written: &mut u32,
 ) -> u32
-    ensures { λ r. ⌜ Exported (validWithRect (now (list .entry)) (rectOf llx lly urx ury) (now (result .entry))) (cutDrawn (now (list .entry)) (rectOf llx lly urx ury)) (now (result .entry)) (now (written .entry)) r (now (result .exit)) (now (written .exit)) ⌝ }
+    ensures { λ r. ⌜ Exported (validWithRect (now (list .entry)) (rectOf llx lly urx ury) (now (result .entry)))
+        (cutDrawn (now (list .entry)) (rectOf llx lly urx ury)) (now (result .entry)) (now (written .entry)) r
+        (now (result .exit)) (now (written .exit)) ⌝ }
 {
     let a = cut(list, Rect { llx, lly, urx, ury }, result);
     report(a, written)
@@ -97,7 +100,9 @@ pub extern "C" fn lintzoger_common(
     result: &mut [u32],
     written: &mut u32,
 ) -> u32
-    ensures { λ r. ⌜ Exported (validWithRect (now (list .entry)) (rectOf llx lly urx ury) (now (result .entry))) (commonDrawn (now (list .entry)) (rectOf llx lly urx ury)) (now (result .entry)) (now (written .entry)) r (now (result .exit)) (now (written .exit)) ⌝ }
+    ensures { λ r. ⌜ Exported (validWithRect (now (list .entry)) (rectOf llx lly urx ury) (now (result .entry)))
+        (commonDrawn (now (list .entry)) (rectOf llx lly urx ury)) (now (result .entry)) (now (written .entry)) r
+        (now (result .exit)) (now (written .exit)) ⌝ }
 {
     let a = common(list, Rect { llx, lly, urx, ury }, result);
     report(a, written)
@@ -111,7 +116,9 @@ pub extern "C" fn lintzoger_grow(
     result: &mut [u32],
     written: &mut u32,
 ) -> u32
-    ensures { λ r. ⌜ Exported (validWithCell (now (list .entry)) (cellOf x y) (now (result .entry))) (growDrawn (now (list .entry)) (cellOf x y)) (now (result .entry)) (now (written .entry)) r (now (result .exit)) (now (written .exit)) ⌝ }
+    ensures { λ r. ⌜ Exported (validWithCell (now (list .entry)) (cellOf x y) (now (result .entry)))
+        (growDrawn (now (list .entry)) (cellOf x y)) (now (result .entry)) (now (written .entry)) r
+        (now (result .exit)) (now (written .exit)) ⌝ }
 {
     let a = grow(list, Cell { x, y }, result);
     report(a, written)
@@ -125,7 +132,8 @@ pub extern "C" fn lintzoger_contains(
     has: &mut u32,
     compared: &mut u32,
 ) -> u32
-    ensures { λ r. ⌜ ContainsExported (containsAnswer (now (polygon .entry)) (cellOf x y)) (now (has .entry)) (now (compared .entry)) r (now (has .exit)) (now (compared .exit)) ⌝ }
+    ensures { λ r. ⌜ ContainsExported (containsAnswer (now (polygon .entry)) (cellOf x y)) (now (has .entry))
+        (now (compared .entry)) r (now (has .exit)) (now (compared .exit)) ⌝ }
 {
     match contains(polygon, Cell { x, y }) {
         Contains::Tested(t) => {
@@ -139,7 +147,8 @@ pub extern "C" fn lintzoger_contains(
 
 #[no_mangle]
 pub extern "C" fn lintzoger_wkb(polygon: &[u32], out: &mut [u8], length: &mut u32) -> u32
-    ensures { λ r. ⌜ WkbExported (now (polygon .entry)) (now (out .entry)) (now (length .entry)) r (now (out .exit)) (now (length .exit)) ⌝ }
+    ensures { λ r. ⌜ WkbExported (now (polygon .entry)) (now (out .entry)) (now (length .entry)) r (now (out .exit))
+        (now (length .exit)) ⌝ }
 {
     match write_wkb(polygon, out) {
         Wkb::Bytes(n) => {
@@ -161,8 +170,12 @@ pub extern "C" fn lintzoger_extra_area(
     y: u32,
     extra: &mut u64,
 ) -> u32
-    ensures { λ r. ⌜ r ≡ extraNumber (extraOf (validExtra (rectOf llx lly urx ury) (cellOf x y)) (extraDrawn (rectOf llx lly urx ury) (cellOf x y))) ⌝ }
-    ensures { λ _. ⌜ now (extra .exit) ≡ extraReported (extraOf (validExtra (rectOf llx lly urx ury) (cellOf x y)) (extraDrawn (rectOf llx lly urx ury) (cellOf x y))) (now (extra .entry)) ⌝ }
+    ensures { λ r. ⌜ r ≡ extraNumber
+        (extraOf (validExtra (rectOf llx lly urx ury) (cellOf x y))
+        (extraDrawn (rectOf llx lly urx ury) (cellOf x y))) ⌝ }
+    ensures { λ _. ⌜ now (extra .exit)
+        ≡ extraReported (extraOf (validExtra (rectOf llx lly urx ury) (cellOf x y))
+        (extraDrawn (rectOf llx lly urx ury) (cellOf x y))) (now (extra .entry)) ⌝ }
 {
     match extra_area(Rect { llx, lly, urx, ury }, Cell { x, y }) {
         Extra::Area(n) => {

@@ -23,7 +23,8 @@ use geometry::put_rects;
 
 // The list cut by a polygon's rectangles, one after another.
 fn cut_into(list: &[u32], polygon: &[u32], out: &mut [u32]) -> Answer
-    ensures { λ a. ⌜ Drawn (validWithPolygon (now (list .entry)) (now (polygon .entry)) (now (out .entry))) (cutPolygonDrawn (now (list .entry)) (now (polygon .entry))) (now (out .entry)) a (now (out .exit)) ⌝ }
+    ensures { λ a. ⌜ Drawn (validWithPolygon (now (list .entry)) (now (polygon .entry)) (now (out .entry)))
+        (cutPolygonDrawn (now (list .entry)) (now (polygon .entry))) (now (out .entry)) a (now (out .exit)) ⌝ }
 {
     if out.len() != RESULT_NUMBERS {
         return Answer::Invalid;
@@ -62,7 +63,8 @@ fn removed_from(list: &[u32], polygon: &[u32]) -> u64
 
 // The list cut by a polygon's rectangles, and the number of cells removed, which is counted for an accepted cut only.
 pub fn cut_by_polygon(list: &[u32], polygon: &[u32], out: &mut [u32]) -> PolygonCut
-    ensures { λ a. ⌜ PolygonCutDrawn (now (list .entry)) (now (polygon .entry)) (now (out .entry)) a (now (out .exit)) ⌝ }
+    ensures { λ a. ⌜ PolygonCutDrawn (now (list .entry)) (now (polygon .entry)) (now (out .entry)) a
+        (now (out .exit)) ⌝ }
 {
     match cut_into(list, polygon, out) {
         Answer::Wrote(rects) => PolygonCut::Wrote {

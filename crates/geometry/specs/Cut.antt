@@ -27,7 +27,8 @@ yFloor r s = record { llx = overlap r s .llx; lly = r .lly; urx = overlap r s .u
 
 -- the four pieces, 'in this order and leaving out empty ones'
 unfoldable pub pieces : Rect → Rect → List Rect
-pieces r s = unlessEmpty (xCeiling r s) ++ unlessEmpty (xFloor r s) ++ unlessEmpty (yCeiling r s) ++ unlessEmpty (yFloor r s)
+pieces r s = unlessEmpty (xCeiling r s) ++ unlessEmpty (xFloor r s) ++ unlessEmpty (yCeiling r s)
+    ++ unlessEmpty (yFloor r s)
 
 -- 'if they share no cell, the list is R alone. Else' the pieces
 unfoldable pub cut : Rect → Rect → List Rect

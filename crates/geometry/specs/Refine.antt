@@ -76,8 +76,8 @@ firstJoin l = firstFrom (hasPartner l) 0 (length l)
 abbrev pub joined : List Rect → ℕ → ℕ → List Rect
 joined l i j = dropped (set l i (union (getD l i noRect) (getD l j noRect))) j
 
--- One step: 'Drop the first rectangle contained in another ... If there is none, take the first i, then the first j > i, ...'.
--- A list to which neither applies stays as it is.
+-- One step: 'Drop the first rectangle contained in another ... If there is none, take the first i, then the first j >
+-- i, ...'. A list to which neither applies stays as it is.
 unfoldable pub refineStep : List Rect → List Rect
 refineStep l =
     cond (ltb (firstContained l) (length l)) (dropped l (firstContained l))
@@ -88,7 +88,7 @@ unfoldable pub refineSteps : ℕ → List Rect → List Rect
 refineSteps zero l = l
 refineSteps (suc n) l = refineSteps n (refineStep l)
 
--- 'repeats this until neither applies'. Each step that applies shortens the list, so as many steps as it is long are enough
--- (the law refine-done: no further step applies to the result).
+-- 'repeats this until neither applies'. Each step that applies shortens the list, so as many steps as it is long are
+-- enough (the law refine-done: no further step applies to the result).
 unfoldable pub refine : List Rect → List Rect
 refine l = refineSteps (length l) l

@@ -26,7 +26,8 @@ fn put_common(list: &mut [u32], n: usize, r: Rect, s: Rect) -> usize
 
 // Writes the common parts of r and the polygon's rectangles behind the first n rectangles.
 fn put_common_with(list: &mut [u32], n: usize, r: Rect, p: Polygon) -> usize
-    requires { ⌜ (4 * n + 64 ≤ length (now list)) × (p .count ≤ 16) ⌝ }
+    requires { ⌜ 4 * n + 64 ≤ length (now list) ⌝ }
+    requires { ⌜ p .count ≤ 16 ⌝ }
     ensures { λ m. ⌜ Appended (now (list .entry)) n (commonWith (rectsOf p) r) 16 (now (list .exit)) m ⌝ }
 {
     let k = p.count;
@@ -42,8 +43,11 @@ fn put_common_with(list: &mut [u32], n: usize, r: Rect, p: Polygon) -> usize
 
 // Writes the common parts of the first n rectangles of a list and the polygon's to another list.
 pub fn common_parts(list: &[u32], n: usize, p: Polygon, out: &mut [u32]) -> Count
-    requires { ⌜ (4 * n ≤ length (now list)) × (p .count ≤ 16) × (1088 ≤ length (now out)) ⌝ }
-    ensures { λ c. ⌜ Written (now (out .entry)) (commonLimited (rectsIn (now (list .entry)) n) (rectsOf p)) c (now (out .exit)) ⌝ }
+    requires { ⌜ 4 * n ≤ length (now list) ⌝ }
+    requires { ⌜ p .count ≤ 16 ⌝ }
+    requires { ⌜ 1088 ≤ length (now out) ⌝ }
+    ensures { λ c. ⌜ Written (now (out .entry)) (commonLimited (rectsIn (now (list .entry)) n) (rectsOf p)) c
+        (now (out .exit)) ⌝ }
 {
     let mut m = 0;
     let mut i = 0;

@@ -60,8 +60,10 @@ fn put_cut(list: &mut [u32], n: usize, r: Rect, s: Rect) -> usize
 
 // Writes the first n rectangles of a list, cut by s, to another list.
 pub fn cut_list(list: &[u32], n: usize, s: Rect, out: &mut [u32]) -> Count
-    requires { ⌜ (4 * n ≤ length (now list)) × (1088 ≤ length (now out)) ⌝ }
-    ensures { λ c. ⌜ Written (now (out .entry)) (atMost mostPieces (cutList (rectsIn (now (list .entry)) n) s)) c (now (out .exit)) ⌝ }
+    requires { ⌜ 4 * n ≤ length (now list) ⌝ }
+    requires { ⌜ 1088 ≤ length (now out) ⌝ }
+    ensures { λ c. ⌜ Written (now (out .entry)) (atMost mostPieces (cutList (rectsIn (now (list .entry)) n) s)) c
+        (now (out .exit)) ⌝ }
 {
     let mut m = 0;
     let mut i = 0;
@@ -94,8 +96,11 @@ pub fn any_shares(list: &[u32], n: usize, s: Rect) -> bool
 
 // Cuts the first n rectangles of a list by s in place; the spare list holds the pieces on the way.
 fn cut_once(list: &mut [u32], n: usize, s: Rect, spare: &mut [u32]) -> Count
-    requires { ⌜ (n ≤ 256) × (1088 ≤ length (now list)) × (1088 ≤ length (now spare)) ⌝ }
-    ensures { λ c. ⌜ Written (now (list .entry)) (atMost mostPieces (cutList (rectsIn (now (list .entry)) n) s)) c (now (list .exit)) ⌝ }
+    requires { ⌜ n ≤ 256 ⌝ }
+    requires { ⌜ 1088 ≤ length (now list) ⌝ }
+    requires { ⌜ 1088 ≤ length (now spare) ⌝ }
+    ensures { λ c. ⌜ Written (now (list .entry)) (atMost mostPieces (cutList (rectsIn (now (list .entry)) n) s)) c
+        (now (list .exit)) ⌝ }
     ensures { λ _. ⌜ length (now (spare .exit)) ≡ length (now (spare .entry)) ⌝ }
 {
     if any_shares(list, n, s) {
@@ -110,8 +115,12 @@ fn cut_once(list: &mut [u32], n: usize, s: Rect, spare: &mut [u32]) -> Count
 
 // Cuts the first n rectangles of a list by the polygon's rectangles, one after another, in place.
 pub fn cut_polygon(list: &mut [u32], n: usize, p: Polygon, spare: &mut [u32]) -> Count
-    requires { ⌜ (n ≤ 256) × (p .count ≤ 16) × (1088 ≤ length (now list)) × (1088 ≤ length (now spare)) ⌝ }
-    ensures { λ c. ⌜ Written (now (list .entry)) (cutLimited (rectsIn (now (list .entry)) n) (rectsOf p)) c (now (list .exit)) ⌝ }
+    requires { ⌜ n ≤ 256 ⌝ }
+    requires { ⌜ p .count ≤ 16 ⌝ }
+    requires { ⌜ 1088 ≤ length (now list) ⌝ }
+    requires { ⌜ 1088 ≤ length (now spare) ⌝ }
+    ensures { λ c. ⌜ Written (now (list .entry)) (cutLimited (rectsIn (now (list .entry)) n) (rectsOf p)) c
+        (now (list .exit)) ⌝ }
     ensures { λ _. ⌜ length (now (spare .exit)) ≡ length (now (spare .entry)) ⌝ }
 {
     let k = p.count;
@@ -120,10 +129,10 @@ pub fn cut_polygon(list: &mut [u32], n: usize, p: Polygon, spare: &mut [u32]) ->
     while i < k {
         let s = p.rects[i];
         let c = cut_once(list, m, s, spare);
-        let Count::Rects(left) = c else {
+        let Count::Rects(remaining) = c else {
             return Count::Over;
         };
-        m = left;
+        m = remaining;
         i += 1;
     }
     Count::Rects(m)

@@ -38,7 +38,8 @@ pub fn put_rects(list: &mut [u32], n: usize, source: &[u32], from: usize, e: usi
     requires { ⌜ from ≤ e ⌝ }
     requires { ⌜ 4 * e ≤ length (now source) ⌝ }
     requires { ⌜ 4 * (n + (e - from)) ≤ length (now list) ⌝ }
-    ensures { λ m. ⌜ Appended (now (list .entry)) n (drop from (rectsIn (now (source .entry)) e)) (e - from) (now (list .exit)) m ⌝ }
+    ensures { λ m. ⌜ Appended (now (list .entry)) n (drop from (rectsIn (now (source .entry)) e)) (e - from)
+        (now (list .exit)) m ⌝ }
 {
     let mut m = n;
     let mut i = from;
@@ -53,7 +54,8 @@ pub fn put_rects(list: &mut [u32], n: usize, source: &[u32], from: usize, e: usi
 
 // Copies the first n numbers of a list to the start of another.
 pub fn copy(from: &[u32], n: usize, to: &mut [u32])
-    requires { ⌜ (n ≤ length (now from)) × (n ≤ length (now to)) ⌝ }
+    requires { ⌜ n ≤ length (now from) ⌝ }
+    requires { ⌜ n ≤ length (now to) ⌝ }
     ensures { λ _. ⌜ now (to .exit) ≡ take n (now (from .entry)) ++ drop n (now (to .entry)) ⌝ }
 {
     let mut i = 0;

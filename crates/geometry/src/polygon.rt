@@ -32,7 +32,8 @@ impl Polygon {
 
     // The polygon of the first n rectangles of a list of numbers.
     pub fn load(list: &[u32], n: usize) -> Polygon
-        requires { ⌜ (n ≤ 16) × (4 * n ≤ length (now list)) ⌝ }
+        requires { ⌜ n ≤ 16 ⌝ }
+        requires { ⌜ 4 * n ≤ length (now list) ⌝ }
         ensures { λ p. ⌜ PolygonOf (rectsIn (now (list .entry)) n) p ⌝ }
     {
         let none = Rect {
@@ -56,7 +57,8 @@ impl Polygon {
 
     // Writes the polygon's rectangles to the start of a list of numbers.
     pub fn store(self, list: &mut [u32])
-        requires { ⌜ (self .count ≤ 16) × (64 ≤ length (now list)) ⌝ }
+        requires { ⌜ self .count ≤ 16 ⌝ }
+        requires { ⌜ 64 ≤ length (now list) ⌝ }
         ensures { λ _. ⌜ Appended (now (list .entry)) 0 (rectsOf self) 16 (now (list .exit)) (self .count) ⌝ }
     {
         let n = self.count;

@@ -94,7 +94,8 @@ impl Rect {
 
     // The number of its cells.
     pub fn area(self) -> u64
-        requires { ⌜ (self .llx ≤ self .urx) × (self .lly ≤ self .ury) ⌝ }
+        requires { ⌜ self .llx ≤ self .urx ⌝ }
+        requires { ⌜ self .lly ≤ self .ury ⌝ }
         ensures { λ r. ⌜ r ≡ area self ⌝ }
     {
         ((self.urx - self.llx) as u64) * ((self.ury - self.lly) as u64)
@@ -102,7 +103,8 @@ impl Rect {
 
     // The smallest rectangle with this one's cells and the cell.
     pub fn grow(self, c: Cell) -> Rect
-        requires { ⌜ (c .x ≤ 65535) × (c .y ≤ 65535) ⌝ }
+        requires { ⌜ c .x ≤ 65535 ⌝ }
+        requires { ⌜ c .y ≤ 65535 ⌝ }
         ensures { λ r. ⌜ r ≡ grown self c ⌝ }
     {
         Rect {

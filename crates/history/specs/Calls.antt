@@ -1,4 +1,5 @@
--- Calls on lent memory, lists of them, and the record. Document 01: 'What demand 3 says of a list is one claim about the whole list'.
+-- Calls on lent memory, lists of them, and the record. Document 01: 'What demand 3 says of a list is one claim about
+-- the whole list'.
 -- docs/RULES.md 3.13, 6.1, 6.2, 6.4, 6.17, 9.1
 use Prim.Native.Nat.{ℕ, _+_, _*_}
 use mathlib.Core.Bool.{Bool, true, false, cond}
@@ -12,8 +13,8 @@ use Rattle.plane.specs.Lines.{CellEntry}
 use Rattle.plane.specs.Fanout.{indexSpace, indexWindow}
 use Rattle.answers.specs.declared.reply.Reply.{Reply}
 
--- 'insertions, removals, clears and queries', each 'call's kind, its arguments other than lent lists': any coordinates and windows,
--- also those that are refused
+-- 'insertions, removals, clears and queries', each 'call's kind, its arguments other than lent lists': any coordinates
+-- and windows, also those that are refused
 abbrev pub IndexCall : Type 0
 IndexCall = Call indexSpace indexWindow
 
@@ -23,8 +24,8 @@ pub record Performed : Type 0 where
   -- the index it was handed, and as it was left
   pub before : List ℕ
   pub after : List ℕ
-  -- the list lent besides, and as it was left: the work area of an insertion or the result list of a window query, of any length and
-  -- content; the other calls use none
+  -- the list lent besides, and as it was left: the work area of an insertion or the result list of a window query, of
+  -- any length and content; the other calls use none
   pub lent : List ℕ
   pub at-exit : List ℕ
   -- the number and the values returned
@@ -58,8 +59,8 @@ unfoldable pub Linked : List ℕ → List Performed → List ℕ → Type 0
 Linked m [] m′ = m′ ≡ m
 Linked m (d ∷ ds) m′ = (d .before ≡ m) × Linked (d .after) ds m′
 
--- The record after one more call. It 'is fed each call's kind, its arguments other than lent lists, and whether it was accepted; it never
--- looks at the memory'.
+-- The record after one more call. It 'is fed each call's kind, its arguments other than lent lists, and whether it was
+-- accepted; it never looks at the memory'.
 abbrev pub fed : List CellEntry → IndexCall → Bool → List CellEntry
 fed r k b = recorded r k b
 

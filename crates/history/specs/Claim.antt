@@ -40,7 +40,8 @@ EachWith P r (d ∷ ds) =
 abbrev pub heldOf : Reply → Option ℕ
 heldOf t = nth (t .values) 0
 
--- 'Wherever a call reports the number of entries held, that is the record's length after the call.' r is the record after it.
+-- 'Wherever a call reports the number of entries held, that is the record's length after the call.' r is the record
+-- after it.
 abbrev pub Reports : Performed → List CellEntry → Type 0
 Reports d r = accepted (d .reply) ≡ true → isChange (d .call) ≡ true → heldOf (d .reply) ≡ some (length r)
 
@@ -48,8 +49,8 @@ Reports d r = accepted (d .reply) ≡ true → isChange (d .call) ≡ true → h
 abbrev pub visitsOf : Reply → ℕ
 visitsOf t = getD (t .values) 1 0
 
--- On a memory that holds an index, these visits of a cell are 'exactly the number of nodes whose polygon has its cell, and they are at most
--- the height'.
+-- On a memory that holds an index, these visits of a cell are 'exactly the number of nodes whose polygon has its cell,
+-- and they are at most the height'.
 pub record VisitsExact (m : List ℕ) (c : Cell) (visits : ℕ) : Type 0 where
   pub index : PlaneIndex
   pub reads : reading fanout m ≡ some index
@@ -72,8 +73,8 @@ pub record NearestExact (m : List ℕ) (c : Cell) (r : List CellEntry) (t : Repl
   pub entry : CellEntry
   pub visits : ℕ
   pub reply : t .values ≡ entry .cell .x ∷ entry .cell .y ∷ entry .tag ∷ squared c (entry .cell) ∷ visits ∷ []
-  -- 'the entry nearest a given cell, by (dx)² + (dy)², ties to the smaller x, then the smaller y': one of r, and none of
-  -- r is nearer
+  -- 'the entry nearest a given cell, by (dx)² + (dy)², ties to the smaller x, then the smaller y': one of r, and none
+  -- of r is nearer
   pub nearest : IsNearest indexSpace c r entry
   pub index : PlaneIndex
   pub reads : reading fanout m ≡ some index
@@ -110,21 +111,24 @@ pub record HistoryClaim (N : ℕ) (ds : List Performed) (m : List ℕ) : Type 0 
       → nth (polygonsAt indexSpace d index) j ≡ some p → nth (polygonsAt indexSpace d index) k ≡ some q
       → polygonHas c p ≡ true → polygonHas c q ≡ true → j ≡ k
   -- "every child stays within its parent"
-  pub within : All (λ e. (c : Cell) → polygonHas c (e .below) ≡ true → polygonHas c (e .parent) ≡ true) (edges indexSpace index)
+  pub within : All (λ e. (c : Cell) → polygonHas c (e .below) ≡ true → polygonHas c (e .parent) ≡ true)
+      (edges indexSpace index)
   -- "and all leaves are equally deep"
   pub deep : All (λ k. suc k ≡ height indexSpace index) (leafDepths indexSpace index)
-  -- "The entries held are exactly those accepted since the last clear and not removed since, as document 01's record gives them.": as many
-  -- pass any test in the tree as in the record, and no cell is held twice
+  -- "The entries held are exactly those accepted since the last clear and not removed since, as document 01's record
+  -- gives them.": as many pass any test in the tree as in the record, and no cell is held twice
   pub entries-same : Bag (entries indexSpace index) (recordFrom [] ds)
-  pub entries-once : (c : Cell) → countOf (ofCell indexSpace c) (entries indexSpace index) ≡ cond (holds indexSpace c index) 1 0
+  pub entries-once : (c : Cell) → countOf (ofCell indexSpace c) (entries indexSpace index)
+      ≡ cond (holds indexSpace c index) 1 0
   -- "Each is in exactly one leaf"
-  pub one-leaf : (c : Cell) → countOf (leafHolds indexSpace c) (leaves indexSpace index) ≡ cond (holds indexSpace c index) 1 0
+  pub one-leaf : (c : Cell) → countOf (leafHolds indexSpace c) (leaves indexSpace index)
+      ≡ cond (holds indexSpace c index) 1 0
   -- "and the polygon of that leaf has its cell."
   pub covers : All (leafCovers indexSpace) (leaves indexSpace index)
   -- "Wherever a call reports the number of entries held, that is the record's length after the call."
   pub reported : EachWith Reports [] ds
-  -- "Every accepted point query, in such a list .., reports as visits exactly the number of nodes whose polygon has its cell, and they are
-  -- at most the height."
+  -- "Every accepted point query, in such a list .., reports as visits exactly the number of nodes whose polygon has
+  -- its cell, and they are at most the height."
   pub visits : All (λ d. PointVisits (d .call) (d .before) (d .reply)) ds
   -- Request A.6: an accepted insertion tells, behind the entries held, the total that siblings removed, by the
   -- definition
@@ -132,6 +136,6 @@ pub record HistoryClaim (N : ℕ) (ds : List Performed) (m : List ℕ) : Type 0 
   -- Request A.1: an accepted nearest query tells an entry of the record at that call, none of the record is nearer, and
   -- 'Visits are at most the number of nodes.'
   pub nearest : EachWith TellsNearest [] ds
-  -- Request A.11: an accepted emptiness query tells whether no entry of the record at that call is in the window, and its
-  -- visits 'never exceed those of the window query'
+  -- Request A.11: an accepted emptiness query tells whether no entry of the record at that call is in the window, and
+  -- its visits 'never exceed those of the window query'
   pub emptiness : EachWith TellsEmpty [] ds

@@ -1,5 +1,5 @@
--- A call that was made, by the contract of its function: the answer is the one that crates/index/specs defines for the memory handed,
--- whatever that holds.
+-- A call that was made, by the contract of its function: the answer is the one that crates/index/specs defines for the
+-- memory handed, whatever that holds.
 use mathlib.Core.Path.{_≡_}
 use Rattle.geometry.specs.declared.rect.Cell.{Cell}
 use Rattle.geometry.specs.declared.rect.Rect.{Rect}

@@ -19,8 +19,8 @@ use Rattle.answers.specs.Answers.{matchesIn}
 use Rattle.answers.specs.declared.reply.Reply.{Reply}
 use Rattle.history.specs.Calls.{IndexCall, Performed, accepted, withRoom}
 
--- What an emptiness query of w replied on a memory m that holds an index, where r are the entries held: 'a yes or no for a
--- window', 1 or 0, and 'The visits reported'.
+-- What an emptiness query of w replied on a memory m that holds an index, where r are the entries held: 'a yes or no
+-- for a window', 1 or 0, and 'The visits reported'.
 pub record EmptyExact (m : List ℕ) (w : Rect) (r : List CellEntry) (t : Reply) : Type 0 where
   pub empty : Bool
   pub visits : ℕ
@@ -49,8 +49,8 @@ EmptyBy (emptyCall w) m t r = accepted t ≡ true → EmptyExact m w r t
 abbrev pub TellsEmpty : Performed → List CellEntry → Type 0
 TellsEmpty d r = EmptyBy (d .call) (d .before) (d .reply) r
 
--- What an emptiness query replied, t, and what a window query of the same memory and window replied, u, whatever the memory,
--- the window and the result list.
+-- What an emptiness query replied, t, and what a window query of the same memory and window replied, u, whatever the
+-- memory, the window and the result list.
 pub record EmptyAsWindow (t u : Reply) : Type 0 where
   -- it refuses as the window query does, but for 9, 'list shorter than 3 × matches'
   pub number : t .number ≡ withRoom (u .number)

@@ -13,8 +13,8 @@ use Rattle.plane.specs.Fanout.{fanout, indexSpace, indexRoot, PlaneIndex}
 use Rattle.answers.specs.declared.reply.Reply.{Reply}
 use Rattle.history.specs.Calls.{IndexCall, accepted}
 
--- What an insertion of c replied on a memory m that holds an index: the entries held, and 'the total removed by siblings,
--- summed over all levels', of the tree before it.
+-- What an insertion of c replied on a memory m that holds an index: the entries held, and 'the total removed by
+-- siblings, summed over all levels', of the tree before it.
 pub record RemovedExact (m : List ℕ) (c : Cell) (t : Reply) : Type 0 where
   pub index : PlaneIndex
   pub reads : reading fanout m ≡ some index

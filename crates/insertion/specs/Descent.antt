@@ -65,7 +65,8 @@ pub record Reached (n : ℕ) (path m : List ℕ) (c : Cell) (path' : List ℕ) :
   pub linked : Linked n path' m
   pub unsplit : (j : ℕ) → j ≤ n → lineOn path' j ≡ 0
   pub ways : (j : ℕ) → j ≤ n → (t : Payload)
-      → descend indexSpace j (polygonOn path' j) (itemsAt j m (partOn path' j)) (entryOf c t) ≡ some (wayAt j path' m (entryOf c t))
+      → descend indexSpace j (polygonOn path' j) (itemsAt j m (partOn path' j)) (entryOf c t)
+      ≡ some (wayAt j path' m (entryOf c t))
 
 -- Step 2 refused: 7.
 pub record Stopped (n : ℕ) (path m : List ℕ) (c : Cell) : Type 0 where

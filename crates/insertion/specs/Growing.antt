@@ -28,7 +28,8 @@ use Rattle.insertion.specs.Descent.{Linked}
 unfoldable pub grownItems : (n : ℕ) → List ℕ → List ℕ → CellEntry → List (Item indexSpace n)
 grownItems zero path m e = wayAt zero path m e
 grownItems (suc n) path m e =
-    set (rowAt n m (partOn path (suc n))) (placeOn path (suc n)) (record { poly = polygonOn path n; child = grownItems n path m e })
+    set (rowAt n m (partOn path (suc n))) (placeOn path (suc n))
+    (record { poly = polygonOn path n; child = grownItems n path m e })
 
 -- the node with its polygon as grown
 abbrev pub grownNode : (n : ℕ) → List ℕ → List ℕ → CellEntry → Item indexSpace (suc n)
@@ -65,7 +66,8 @@ pub record Growing (n : ℕ) (path m : List ℕ) : Type 0 where
 
 -- The node on the path at a level, which read as b with its subtree in the parts from lo on, reads as the definition
 -- has it, with as many nodes; m′ is as m beside its subtree.
-pub record GrownNode (n : ℕ) (path m : List ℕ) (e : CellEntry) (m′ : List ℕ) (lo : ℕ) (b : Item indexSpace (suc n)) : Type 0 where
+pub record GrownNode (n : ℕ) (path m : List ℕ) (e : CellEntry) (m′ : List ℕ) (lo : ℕ)
+    (b : Item indexSpace (suc n)) : Type 0 where
   pub reads : readNode fanout n m′ lo (partOn path n) ≡ some (grownNode n path m e)
   pub as-many : nodes indexSpace (suc n) (grownNode n path m e) ≡ nodes indexSpace (suc n) b
   pub beside : Beside m lo (partOn path n) m′

@@ -25,7 +25,8 @@ pub record GoodPath (n : ℕ) (path m : List ℕ) (c : Cell) : Type 0 where
   pub linked : Linked n path m
   pub grid : onGrid c ≡ true
   pub ways : (j : ℕ) → j ≤ n → (t : Payload)
-      → descend indexSpace j (polygonOn path j) (itemsAt j m (partOn path j)) (entryOf c t) ≡ some (wayAt j path m (entryOf c t))
+      → descend indexSpace j (polygonOn path j) (itemsAt j m (partOn path j)) (entryOf c t)
+      ≡ some (wayAt j path m (entryOf c t))
   pub goods : (j : ℕ) → j ≤ n → (t : Payload) → GoodWay indexSpace j (wayAt j path m (entryOf c t))
 
 -- A good path none of whose nodes is split so far.

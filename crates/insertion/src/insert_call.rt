@@ -23,7 +23,8 @@ fn insert_in_tree(m: &mut [u32], work: &mut [u32], level: u32, root: u32, e: Ent
     requires { ⌜ TreeIn (now m) level root ⌝ }
     requires { ⌜ length (now work) ≡ length (now m) ⌝ }
     requires { ⌜ onGrid (e .cell) ≡ true ⌝ }
-    ensures { λ r. ⌜ InsertDone (now (m .entry)) (now (work .entry)) (treeEntry e) (now (m .exit)) (now (work .exit)) r ⌝ }
+    ensures { λ r. ⌜ InsertDone (now (m .entry)) (now (work .entry)) (treeEntry e) (now (m .exit))
+        (now (work .exit)) r ⌝ }
 {
     if is_held(m, level, root, e.cell) {
         return Inserted::Held;
@@ -38,7 +39,8 @@ fn insert_opened(m: &mut [u32], work: &mut [u32], opened: Opened, e: Entry) -> I
     requires { ⌜ OpenedAs (now m) opened ⌝ }
     requires { ⌜ length (now work) ≡ length (now m) ⌝ }
     requires { ⌜ onGrid (e .cell) ≡ true ⌝ }
-    ensures { λ r. ⌜ InsertDone (now (m .entry)) (now (work .entry)) (treeEntry e) (now (m .exit)) (now (work .exit)) r ⌝ }
+    ensures { λ r. ⌜ InsertDone (now (m .entry)) (now (work .entry)) (treeEntry e) (now (m .exit))
+        (now (work .exit)) r ⌝ }
 {
     match opened {
         Opened::NoSoundTree => {
@@ -57,7 +59,8 @@ fn insert_opened(m: &mut [u32], work: &mut [u32], opened: Opened, e: Entry) -> I
 
 // Inserts an entry; the work area is as long as the index.
 pub fn insert(m: &mut [u32], work: &mut [u32], e: Entry) -> Inserted
-    ensures { λ r. ⌜ InsertCall (now (m .entry)) (now (work .entry)) (treeEntry e) (now (m .exit)) (now (work .exit)) r ⌝ }
+    ensures { λ r. ⌜ InsertCall (now (m .entry)) (now (work .entry)) (treeEntry e) (now (m .exit))
+        (now (work .exit)) r ⌝ }
 {
     insert_known(m, work, false, e)
 }
@@ -65,7 +68,8 @@ pub fn insert(m: &mut [u32], work: &mut [u32], e: Entry) -> Inserted
 // The same; a memory that is known to read as an index is not tested.
 pub fn insert_known(m: &mut [u32], work: &mut [u32], known: bool, e: Entry) -> Inserted
     requires { ⌜ Known (now m) known ⌝ }
-    ensures { λ r. ⌜ InsertCall (now (m .entry)) (now (work .entry)) (treeEntry e) (now (m .exit)) (now (work .exit)) r ⌝ }
+    ensures { λ r. ⌜ InsertCall (now (m .entry)) (now (work .entry)) (treeEntry e) (now (m .exit))
+        (now (work .exit)) r ⌝ }
 {
     if !is_index_length(m) {
         return Inserted::WrongLength;

@@ -1,4 +1,5 @@
--- A node by value: the count of its items and their numbers, as a part has them. Loaded from a part, with one item more or less, stored to a part.
+-- A node by value: the count of its items and their numbers, as a part has them. Loaded from a part, with one item
+-- more or less, stored to a part.
 use Prim.Native.Nat.{ℕ, _+_, _*_, _-_}
 use mathlib.Core.List.{List, _++_, flatMap}
 use mathlib.Core.Path.{_≡_}

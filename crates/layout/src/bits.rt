@@ -20,7 +20,8 @@ pub fn bits_set(m: &[u32]) -> u32
 
 // Whether part k is in use.
 pub fn in_use(m: &[u32], k: u32) -> bool
-    requires { ⌜ (8 ≤ length (now m)) × (k < 256) ⌝ }
+    requires { ⌜ 8 ≤ length (now m) ⌝ }
+    requires { ⌜ k < 256 ⌝ }
     ensures { λ b. ⌜ b ≡ inUse (now (m .entry)) k ⌝ }
 {
     let w = m[(k / 32) as usize];

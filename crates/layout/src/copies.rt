@@ -11,7 +11,8 @@ use geometry::copy;
 
 // Copies a part to the part next of the work area.
 pub fn copy_part(p: &[u32], work: &mut [u32], next: u32)
-    requires { ⌜ IsPart (now p) × PartRoom (now work) next ⌝ }
+    requires { ⌜ IsPart (now p) ⌝ }
+    requires { ⌜ PartRoom (now work) next ⌝ }
     ensures { λ _. ⌜ PartPut (now (work .entry)) next (now (p .entry)) (now (work .exit)) ⌝ }
 {
     let a = HEAD + PART * (next as usize);
@@ -21,7 +22,8 @@ pub fn copy_part(p: &[u32], work: &mut [u32], next: u32)
 
 // Copies a part with another node in it: the polygon is kept.
 fn copy_over(p: &[u32], node: Node, part: &mut [u32])
-    requires { ⌜ IsPart (now p) × IsPart (now part) ⌝ }
+    requires { ⌜ IsPart (now p) ⌝ }
+    requires { ⌜ IsPart (now part) ⌝ }
     ensures { λ _. ⌜ now (part .exit) ≡ withNode (now (p .entry)) node ⌝ }
 {
     copy(p, PART, part);
@@ -30,7 +32,8 @@ fn copy_over(p: &[u32], node: Node, part: &mut [u32])
 
 // Copies a part to the part next of the work area, with another node in it.
 pub fn copy_node(p: &[u32], node: Node, work: &mut [u32], next: u32)
-    requires { ⌜ IsPart (now p) × PartRoom (now work) next ⌝ }
+    requires { ⌜ IsPart (now p) ⌝ }
+    requires { ⌜ PartRoom (now work) next ⌝ }
     ensures { λ _. ⌜ PartPut (now (work .entry)) next (withNode (now (p .entry)) node) (now (work .exit)) ⌝ }
 {
     let a = HEAD + PART * (next as usize);

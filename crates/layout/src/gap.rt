@@ -5,7 +5,8 @@ ghost use Rattle.layout.specs.Gap.{MovedDown};
 
 // Gives each number from `from` to before `end` the value that stands w places behind it.
 pub fn move_down(list: &mut [u32], w: usize, from: usize, end: usize)
-    requires { ⌜ (from ≤ end) × (end + w ≤ length (now list)) ⌝ }
+    requires { ⌜ from ≤ end ⌝ }
+    requires { ⌜ end + w ≤ length (now list) ⌝ }
     ensures { λ _. ⌜ MovedDown w from end (now (list .entry)) (now (list .exit)) ⌝ }
 {
     let mut at = from;

@@ -1,4 +1,5 @@
-// The layout of an index's memory: the one crate whose code knows where each number stands. All others deal in nodes and part numbers.
+// The layout of an index's memory: the one crate whose code knows where each number stands. All others deal in nodes
+// and part numbers.
 mod bits;
 mod copies;
 mod empty;

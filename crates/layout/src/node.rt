@@ -20,12 +20,12 @@ use crate::reading::part_at;
 use geometry::Cell;
 use geometry::copy;
 
-// The numbers of a node's entries or branches, as a part has them, zeros behind them. There is room for nine entries, which a
-// leaf has before it is split.
+// The numbers of a node's entries or branches, as a part has them, zeros behind them. There is room for nine entries,
+// which a leaf has before it is split.
 pub type Items = [u32; ITEM_NUMBERS];
 
-// How many entries or branches a node has, and their numbers. A node's polygon is the one its branch gives (document 01): it
-// is not part of the value, and is read where it stands.
+// How many entries or branches a node has, and their numbers. A node's polygon is the one its branch gives (document
+// 01): it is not part of the value, and is read where it stands.
 pub struct Node {
     pub count: u32,
     pub items: Items,
@@ -85,7 +85,8 @@ impl Node {
 
     // A leaf without its i-th entry: the later ones move down.
     pub fn without_entry(self, i: usize) -> Node
-        requires { ⌜ (i < self .count) × (self .count ≤ 8) ⌝ }
+        requires { ⌜ i < self .count ⌝ }
+        requires { ⌜ self .count ≤ 8 ⌝ }
         ensures { λ n. ⌜ ItemOut 3 i self n ⌝ }
     {
         let n = self.count as usize;
@@ -99,7 +100,8 @@ impl Node {
 
     // A routing node without its i-th child.
     pub fn without_child(self, i: usize) -> Node
-        requires { ⌜ (i < self .count) × (self .count ≤ 8) ⌝ }
+        requires { ⌜ i < self .count ⌝ }
+        requires { ⌜ self .count ≤ 8 ⌝ }
         ensures { λ n. ⌜ ItemOut 1 i self n ⌝ }
     {
         let n = self.count as usize;

@@ -37,10 +37,12 @@ fn counts_fit(p: &[u32]) -> bool
     items <= FANOUT
 }
 
-// Whether the numbers behind the rectangles are zero. Nearly all polygons have one rectangle: there the length is constant.
+// Whether the numbers behind the rectangles are zero. Nearly all polygons have one rectangle: there the length is
+// constant.
 fn zero_behind_rects(p: &[u32]) -> bool
     requires { ⌜ NodePart (now p) ⌝ }
-    ensures { λ b. ⌜ b ≡ allZero (take (64 - 4 * rectCount (now (p .entry))) (drop (2 + 4 * rectCount (now (p .entry))) (now (p .entry)))) ⌝ }
+    ensures { λ b. ⌜ b ≡ allZero (take (64 - 4 * rectCount (now (p .entry)))
+        (drop (2 + 4 * rectCount (now (p .entry))) (now (p .entry)))) ⌝ }
 {
     let n = rect_count(p) as usize;
     if n == 1 {
@@ -52,7 +54,8 @@ fn zero_behind_rects(p: &[u32]) -> bool
 
 // Whether the numbers behind the rectangles and behind the items, of w numbers each, are zero.
 fn rest_zero(p: &[u32], w: usize) -> bool
-    requires { ⌜ NodePart (now p) × (w ≤ 3) ⌝ }
+    requires { ⌜ NodePart (now p) ⌝ }
+    requires { ⌜ w ≤ 3 ⌝ }
     ensures { λ b. ⌜ b ≡ restZero w (now (p .entry)) ⌝ }
 {
     // no items reach beyond 90: a constant length
@@ -69,7 +72,8 @@ fn rest_zero(p: &[u32], w: usize) -> bool
 
 // Whether part k is a node's, whose items take w numbers each: in use, with counts and unused numbers that fit.
 pub fn node_fits(m: &[u32], k: u32, w: usize) -> bool
-    requires { ⌜ IndexLength (now m) × (w ≤ 3) ⌝ }
+    requires { ⌜ IndexLength (now m) ⌝ }
+    requires { ⌜ w ≤ 3 ⌝ }
     ensures { λ b. ⌜ b ≡ nodeFits fanout w (now (m .entry)) k ⌝ }
 {
     if part_count(m) <= k {
@@ -87,7 +91,8 @@ pub fn node_fits(m: &[u32], k: u32, w: usize) -> bool
 
 // Whether part k is in use or all zero.
 fn used_or_zero(m: &[u32], k: u32) -> bool
-    requires { ⌜ IndexLength (now m) × (k < partsOf (now m)) ⌝ }
+    requires { ⌜ IndexLength (now m) ⌝ }
+    requires { ⌜ k < partsOf (now m) ⌝ }
     ensures { λ b. ⌜ b ≡ inUse (now (m .entry)) k || allZero (part (now (m .entry)) k) ⌝ }
 {
     if in_use(m, k) {

@@ -48,7 +48,8 @@ pub fn item_count(p: &[u32]) -> u32
 
 // The cell of the i-th entry of a leaf.
 pub fn entry_cell(p: &[u32], i: usize) -> Cell
-    requires { ⌜ IsPart (now p) × (i < 8) ⌝ }
+    requires { ⌜ IsPart (now p) ⌝ }
+    requires { ⌜ i < 8 ⌝ }
     ensures { λ c. ⌜ c ≡ entryIn (now (p .entry)) i .cell ⌝ }
 {
     let at = ITEMS + ENTRY * i;
@@ -60,7 +61,8 @@ pub fn entry_cell(p: &[u32], i: usize) -> Cell
 
 // The i-th child of a routing node, by its part number.
 fn child(p: &[u32], i: usize) -> u32
-    requires { ⌜ IsPart (now p) × (i < 8) ⌝ }
+    requires { ⌜ IsPart (now p) ⌝ }
+    requires { ⌜ i < 8 ⌝ }
     ensures { λ j. ⌜ j ≡ childIn (now (p .entry)) i ⌝ }
 {
     p[ITEMS + i]
@@ -68,7 +70,8 @@ fn child(p: &[u32], i: usize) -> u32
 
 // The children of a routing node, by their part numbers.
 pub fn children(p: &[u32]) -> &[u32]
-    requires { ⌜ IsPart (now p) × (itemCount (now p) ≤ 62) ⌝ }
+    requires { ⌜ IsPart (now p) ⌝ }
+    requires { ⌜ itemCount (now p) ≤ 62 ⌝ }
     ensures { λ l. ⌜ now l ≡ childrenIn (now (p .entry)) ⌝ }
 {
     let end = ITEMS + (p[ITEM_COUNT] as usize);
@@ -85,7 +88,8 @@ pub fn count_at(m: &[u32], k: u32) -> u32
 
 // The i-th child of the routing node at part k.
 pub fn child_at(m: &[u32], k: u32, i: usize) -> u32
-    requires { ⌜ PartIn (now m) k × (i < 8) ⌝ }
+    requires { ⌜ PartIn (now m) k ⌝ }
+    requires { ⌜ i < 8 ⌝ }
     ensures { λ j. ⌜ j ≡ childAt (now (m .entry)) k i ⌝ }
 {
     child(part_at(m, k), i)

@@ -22,7 +22,8 @@ use geometry::copy;
 
 // Writes the rectangles of a polygon, and zeros behind them.
 fn store_rects(list: &mut [u32], p: Polygon)
-    requires { ⌜ (length (now list) ≡ 126) × (p .count ≤ 16) ⌝ }
+    requires { ⌜ length (now list) ≡ 126 ⌝ }
+    requires { ⌜ p .count ≤ 16 ⌝ }
     ensures { λ _. ⌜ RectsStored p (now (list .exit)) ⌝ }
 {
     let end = 4 * p.count;
@@ -42,7 +43,8 @@ pub fn store_items(part: &mut [u32], node: Node)
 
 // Writes a node with its polygon to its part; every other number is zero.
 fn store_node(part: &mut [u32], p: Polygon, node: Node)
-    requires { ⌜ IsPart (now part) × (p .count ≤ 16) ⌝ }
+    requires { ⌜ IsPart (now part) ⌝ }
+    requires { ⌜ p .count ≤ 16 ⌝ }
     ensures { λ _. ⌜ now (part .exit) ≡ nodePart (rectsOf p) (node .count) (node .items) ⌝ }
 {
     store_rects(&mut part[RECTS..], p);
@@ -52,8 +54,10 @@ fn store_node(part: &mut [u32], p: Polygon, node: Node)
 
 // Writes a node with its polygon to the part next of the work area.
 pub fn put_node(work: &mut [u32], next: u32, p: Polygon, node: Node)
-    requires { ⌜ PartRoom (now work) next × (p .count ≤ 16) ⌝ }
-    ensures { λ _. ⌜ PartPut (now (work .entry)) next (nodePart (rectsOf p) (node .count) (node .items)) (now (work .exit)) ⌝ }
+    requires { ⌜ PartRoom (now work) next ⌝ }
+    requires { ⌜ p .count ≤ 16 ⌝ }
+    ensures { λ _. ⌜ PartPut (now (work .entry)) next (nodePart (rectsOf p) (node .count) (node .items))
+        (now (work .exit)) ⌝ }
 {
     let a = HEAD + PART * (next as usize);
     let e = a + PART;

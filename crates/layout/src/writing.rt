@@ -13,23 +13,26 @@ use geometry::copy;
 
 // The j-th word of bits where the first n parts are in use.
 fn bits_word(n: u32, j: u32) -> u32
-    requires { ⌜ (n ≤ 256) × (j < 8) ⌝ }
+    requires { ⌜ n ≤ 256 ⌝ }
+    requires { ⌜ j < 8 ⌝ }
     ensures { λ r. ⌜ r ≡ bitsWord n j ⌝ }
 {
     let from = 32 * j;
     if n <= from {
         return 0;
     }
-    let left = n - from;
-    if 32 <= left {
+    let remaining = n - from;
+    if 32 <= remaining {
         return 4294967295;
     }
-    (1 << left) - 1
+    (1 << remaining) - 1
 }
 
 // Writes the first 64 numbers of an index whose first parts are in use, the last of them the root's.
 fn put_head(head: &mut [u32], parts: u32, height: u32)
-    requires { ⌜ (length (now head) ≡ 64) × (1 ≤ parts) × (parts ≤ 256) ⌝ }
+    requires { ⌜ length (now head) ≡ 64 ⌝ }
+    requires { ⌜ 1 ≤ parts ⌝ }
+    requires { ⌜ parts ≤ 256 ⌝ }
     ensures { λ _. ⌜ now (head .exit) ≡ headNumbers parts height ⌝ }
 {
     fill_zeros(head);
@@ -47,7 +50,10 @@ fn put_head(head: &mut [u32], parts: u32, height: u32)
 
 // Writes the first parts of the work area to the index, which has no others then.
 pub fn put_tree(m: &mut [u32], work: &[u32], parts: u32, height: u32)
-    requires { ⌜ (1 ≤ parts) × (parts ≤ 256) × (64 + 128 * parts ≤ length (now m)) × (length (now work) ≡ length (now m)) ⌝ }
+    requires { ⌜ 1 ≤ parts ⌝ }
+    requires { ⌜ parts ≤ 256 ⌝ }
+    requires { ⌜ 64 + 128 * parts ≤ length (now m) ⌝ }
+    requires { ⌜ length (now work) ≡ length (now m) ⌝ }
     ensures { λ _. ⌜ now (m .exit) ≡ written (length (now (m .entry))) parts height (now (work .entry)) ⌝ }
 {
     let end = HEAD + PART * (parts as usize);

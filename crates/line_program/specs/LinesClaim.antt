@@ -1,5 +1,5 @@
--- Demand 3 for the lines of a session: the calls that the lines made are a list of which the claim holds, and what was printed is what these
--- calls answered.
+-- Demand 3 for the lines of a session: the calls that the lines made are a list of which the claim holds, and what was
+-- printed is what these calls answered.
 -- docs/RULES.md 9.4, 9.7, 9.9
 use Prim.Native.Nat.{ℕ}
 use mathlib.Core.Bool.{cond}
@@ -32,10 +32,10 @@ callsOf Other = []
 unfoldable pub listedOf : Reply → ℕ
 listedOf t = cond (eqb (t .number) 0) (getD (t .values) 0 0) 0
 
--- what is printed for a call of a kind, by what it answered and left in its list: 'I, R and C print 0 and entries held.
--- P prints 1 or 0, visits, then the tag if held. S prints matches and visits, then an E line per entry'. A.6, of the total
--- removed by siblings: 'The line program prints it after the entries held in an accepted `I` line'. No line makes a
--- nearest query or an emptiness query.
+-- what is printed for a call of a kind, by what it answered and left in its list: 'I, R and C print 0 and entries
+-- held. P prints 1 or 0, visits, then the tag if held. S prints matches and visits, then an E line per entry'. A.6, of
+-- the total removed by siblings: 'The line program prints it after the entries held in an accepted `I` line'. No line
+-- makes a nearest query or an emptiness query.
 abbrev pub textBy : IndexCall → Performed → List ℕ
 textBy (insertCall e) d = heldText letterI (d .reply)
 textBy (removeCall c) d = heldText letterR (d .reply)
@@ -48,8 +48,10 @@ textBy (emptyCall w) d = []
 -- Commands one after another, the calls they made and the text they printed. 'Other lines .. print `?`'.
 pub data Printed : List Command → List Performed → List ℕ → Type 0 where
   nothing : Printed [] [] []
-  other : {cs : List Command} {ds : List Performed} {text : List ℕ} → Printed cs ds text → Printed (Other ∷ cs) ds (otherText ++ text)
-  called : {c : Command} {cs : List Command} {ds : List Performed} {text : List ℕ} (d : Performed) → callsOf c ≡ d .call ∷ [] → Printed cs ds text
+  other : {cs : List Command} {ds : List Performed} {text : List ℕ} → Printed cs ds text
+      → Printed (Other ∷ cs) ds (otherText ++ text)
+  called : {c : Command} {cs : List Command} {ds : List Performed} {text : List ℕ} (d : Performed)
+      → callsOf c ≡ d .call ∷ [] → Printed cs ds text
       → Printed (c ∷ cs) (d ∷ ds) (textBy (d .call) d ++ text)
 
 -- The commands, from a fresh memory of N parts, left the lists b and printed the text.

@@ -1,4 +1,5 @@
--- One line of the program `bench` answered: its command is carried out by the call of that name, and what the call answered is printed.
+-- One line of the program `bench` answered: its command is carried out by the call of that name, and what the call
+-- answered is printed.
 -- docs/RULES.md 9.4, 9.6
 use Prim.Native.Nat.{ℕ, _+_, _*_}
 use mathlib.Core.List.{List}

@@ -33,13 +33,15 @@ OnePiece s = splitAt lineFeed s ≡ s ∷ []
 -- Commands were carried out one after another, which printed their texts one behind another.
 pub data Ran : List Command → Lent → Lent → List ℕ → Type 0 where
   none : {a : Lent} → Ran [] a a []
-  first : {c : Command} {cs : List Command} {a d : Lent} {ts : List ℕ} (b : Lent) (t : List ℕ) → CarriedOut c a b t → Ran cs b d ts → Ran (c ∷ cs) a d (t ++ ts)
+  first : {c : Command} {cs : List Command} {a d : Lent} {ts : List ℕ} (b : Lent) (t : List ℕ) → CarriedOut c a b t
+      → Ran cs b d ts → Ran (c ∷ cs) a d (t ++ ts)
 
--- The whole lines of the input from a place on were answered, up to the place next: whatever follows the input, its commands from that
--- place on are those that were carried out, then those from next on.
+-- The whole lines of the input from a place on were answered, up to the place next: whatever follows the input, its
+-- commands from that place on are those that were carried out, then those from next on.
 pub record LinesAnswered (input : List ℕ) (from : ℕ) (a b : Lent) (out' : List ℕ) (r : Progress) : Type 0 where
   pub commands : List Command
-  pub read : (more : List ℕ) → commandsOf (drop from input ++ more) ≡ commands ++ commandsOf (drop (r .next) input ++ more)
+  pub read : (more : List ℕ) → commandsOf (drop from input ++ more) ≡ commands
+      ++ commandsOf (drop (r .next) input ++ more)
   pub ran : Ran commands a b (take (r .written) out')
   pub fits : r .written ≤ length out'
   pub forward : from ≤ r .next
@@ -47,8 +49,9 @@ pub record LinesAnswered (input : List ℕ) (from : ℕ) (a b : Lent) (out' : Li
   pub onward : r .done ≡ false → from < r .next
   pub rest : r .done ≡ true → OnePiece (drop (r .next) input)
 
--- Calls of answer_lines and answer_line one after another, from the lists a on, each handed the lists that the last one left: the commands
--- they carried out, the lists they left, and the answers that each put at the start of its out, one behind another.
+-- Calls of answer_lines and answer_line one after another, from the lists a on, each handed the lists that the last
+-- one left: the commands they carried out, the lists they left, and the answers that each put at the start of its out,
+-- one behind another.
 pub data Session : List Command → Lent → Lent → List ℕ → Type 0 where
   start : {a : Lent} → Session [] a a []
   lines : {cs : List Command} {a b d : Lent} {text input out' : List ℕ} {from : ℕ} {r : Progress} → Session cs a b text

@@ -31,8 +31,10 @@ pub fn respond(
     at: usize,
     known: bool,
 ) -> usize
-    requires { ⌜ (at + (64 + 12 * length (now list)) ≤ length (now out)) × Known (now m) known ⌝ }
-    ensures { λ next. ⌜ Responded (now (line .entry)) (lent (now (m .entry)) (now (work .entry)) (now (list .entry))) (lent (now (m .exit)) (now (work .exit)) (now (list .exit))) (now (out .entry)) at (now (out .exit)) next ⌝ }
+    requires { ⌜ at + (64 + 12 * length (now list)) ≤ length (now out) ⌝ }
+    requires { ⌜ Known (now m) known ⌝ }
+    ensures { λ next. ⌜ Responded (now (line .entry)) (lent (now (m .entry)) (now (work .entry)) (now (list .entry)))
+        (lent (now (m .exit)) (now (work .exit)) (now (list .exit))) (now (out .entry)) at (now (out .exit)) next ⌝ }
 {
     let command = parse(line);
     match command {
@@ -77,7 +79,8 @@ pub fn answer_line(
     at: usize,
 ) -> usize
     requires { ⌜ at + (64 + 12 * length (now list)) ≤ length (now out) ⌝ }
-    ensures { λ next. ⌜ Responded (now (line .entry)) (lent (now (m .entry)) (now (work .entry)) (now (list .entry))) (lent (now (m .exit)) (now (work .exit)) (now (list .exit))) (now (out .entry)) at (now (out .exit)) next ⌝ }
+    ensures { λ next. ⌜ Responded (now (line .entry)) (lent (now (m .entry)) (now (work .entry)) (now (list .entry)))
+        (lent (now (m .exit)) (now (work .exit)) (now (list .exit))) (now (out .entry)) at (now (out .exit)) next ⌝ }
 {
     respond(line, m, work, list, out, at, false)
 }

@@ -28,8 +28,12 @@ pub fn answer_lines(
     list: &mut [u32],
     out: &mut [u8],
 ) -> Progress
-    requires { ⌜ (from ≤ length (now input)) × (length (now list) ≤ 65536) × (64 + 12 * length (now list) ≤ length (now out)) ⌝ }
-    ensures { λ r. ⌜ LinesAnswered (now (input .entry)) from (lent (now (m .entry)) (now (work .entry)) (now (list .entry))) (lent (now (m .exit)) (now (work .exit)) (now (list .exit))) (now (out .exit)) r ⌝ }
+    requires { ⌜ from ≤ length (now input) ⌝ }
+    requires { ⌜ length (now list) ≤ 65536 ⌝ }
+    requires { ⌜ 64 + 12 * length (now list) ≤ length (now out) ⌝ }
+    ensures { λ r. ⌜ LinesAnswered (now (input .entry)) from
+        (lent (now (m .entry)) (now (work .entry)) (now (list .entry)))
+        (lent (now (m .exit)) (now (work .exit)) (now (list .exit))) (now (out .exit)) r ⌝ }
 {
     let room = out.len() - (64 + 12 * list.len());
     let mut next = from;
@@ -57,7 +61,8 @@ pub fn answer_lines(
 // Moves the bytes of the input between two places to its start; answers how many. Of a line over 80
 // bytes it keeps 81, since such lines are all answered alike.
 pub fn keep_rest(input: &mut [u8], from: usize, to: usize) -> usize
-    requires { ⌜ (from ≤ to) × (to ≤ length (now input)) ⌝ }
+    requires { ⌜ from ≤ to ⌝ }
+    requires { ⌜ to ≤ length (now input) ⌝ }
     ensures { λ r. ⌜ Kept (now (input .entry)) from to (now (input .exit)) r ⌝ }
 {
     let n = kept_length(to - from);

@@ -1,5 +1,5 @@
--- What the forms of the calls for C promise: document 01's number is returned, and the values of the answer are stored, each in its place;
--- a value that the answer has not leaves its place as it was.
+-- What the forms of the calls for C promise: document 01's number is returned, and the values of the answer are
+-- stored, each in its place; a value that the answer has not leaves its place as it was.
 -- docs/RULES.md 7.6
 use Prim.Native.Nat.{ℕ}
 use mathlib.Core.List.{List}
@@ -43,13 +43,15 @@ pub record PointExported (m : List ℕ) (c : Cell) (held visits tag : ℕ) (n he
   pub visits-is : visits' ≡ stored (pointReply (pointAnswer m c)) 1 visits
   pub tag-is : tag' ≡ stored (pointReply (pointAnswer m c)) 2 tag
 
-pub record WindowExported (m : List ℕ) (w : Rect) (list : List ℕ) (matches visits : ℕ) (n : ℕ) (list' : List ℕ) (matches' visits' : ℕ) : Type 0 where
+pub record WindowExported (m : List ℕ) (w : Rect) (list : List ℕ) (matches visits : ℕ) (n : ℕ) (list' : List ℕ)
+    (matches' visits' : ℕ) : Type 0 where
   pub number : n ≡ windowReply (windowAnswer m w (length list)) .number
   pub list-is : list' ≡ windowList m w list
   pub matches-is : matches' ≡ stored (windowReply (windowAnswer m w (length list))) 0 matches
   pub visits-is : visits' ≡ stored (windowReply (windowAnswer m w (length list))) 1 visits
 
-pub record NearestExported (m : List ℕ) (c : Cell) (x y tag distance visits n x' y' tag' distance' visits' : ℕ) : Type 0 where
+pub record NearestExported (m : List ℕ) (c : Cell)
+    (x y tag distance visits n x' y' tag' distance' visits' : ℕ) : Type 0 where
   pub number : n ≡ nearestReply (nearestAnswer m c) .number
   pub near-x-is : x' ≡ stored (nearestReply (nearestAnswer m c)) 0 x
   pub near-y-is : y' ≡ stored (nearestReply (nearestAnswer m c)) 1 y

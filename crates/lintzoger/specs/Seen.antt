@@ -1,5 +1,5 @@
--- What the caller of a call for C sees: the number that it returned, and those values in the caller's places that go with the number. A refused
--- call stores nothing, but for the matches of 9.
+-- What the caller of a call for C sees: the number that it returned, and those values in the caller's places that go
+-- with the number. A refused call stores nothing, but for the matches of 9.
 -- docs/RULES.md 7.6
 use Prim.Native.Nat.{ℕ}
 use mathlib.Core.Bool.{cond}

@@ -61,7 +61,8 @@ pub extern "C" fn lintzoger_insert(
 
 #[no_mangle]
 pub extern "C" fn lintzoger_remove(index: &mut [u32], x: u32, y: u32, held: &mut u32) -> u32
-    ensures { λ r. ⌜ RemoveExported (now (index .entry)) (cellOf x y) (now (held .entry)) r (now (index .exit)) (now (held .exit)) ⌝ }
+    ensures { λ r. ⌜ RemoveExported (now (index .entry)) (cellOf x y) (now (held .entry)) r (now (index .exit))
+        (now (held .exit)) ⌝ }
 {
     let answer = remove(index, Cell { x, y });
     match answer {
@@ -162,7 +163,8 @@ pub extern "C" fn lintzoger_nearest(
     visits: &mut u32,
 ) -> u32
     ensures { λ r. ⌜ NearestExported (now (index .entry)) (cellOf x y)
-        (now («near_x» .entry)) (now («near_y» .entry)) (now (tag .entry)) (now (distance .entry)) (now (visits .entry)) r
+        (now («near_x» .entry)) (now («near_y» .entry)) (now (tag .entry)) (now (distance .entry))
+        (now (visits .entry)) r
         (now («near_x» .exit)) (now («near_y» .exit)) (now (tag .exit)) (now (distance .exit)) (now (visits .exit)) ⌝ }
 {
     let answer = nearest(index, Cell { x, y });

@@ -1,5 +1,6 @@
--- The image of a tree: a memory of N parts that reads as that tree. Document 01: 'Each sound tree of at most N nodes has an accepted image.'
--- Which parts the nodes take is left free; this image takes the first ones, in depth-first order, a node after its children.
+-- The image of a tree: a memory of N parts that reads as that tree. Document 01: 'Each sound tree of at most N nodes
+-- has an accepted image.' Which parts the nodes take is left free; this image takes the first ones, in depth-first
+-- order, a node after its children.
 -- docs/RULES.md 3.17
 use Prim.Native.Nat.{ℕ, zero, suc, _+_, _*_, _-_, _^_, min}
 use mathlib.Core.List.{List, [], _∷_, _++_, map, flatMap}
@@ -28,7 +29,8 @@ nodePart p count items = length p ∷ count ∷ (padded 64 (numbersOf p) ++ padd
 unfoldable pub bitsWord : ℕ → ℕ → ℕ
 bitsWord used j = 2 ^ min 32 (used - 32 * j) - 1
 
--- the first 64 numbers: a bit for each of the first `used` parts, the height and the root's part, which is the last used
+-- the first 64 numbers: a bit for each of the first `used` parts, the height and the root's part, which is the last
+-- used
 unfoldable pub headNumbers : ℕ → ℕ → List ℕ
 headNumbers used height = padded 64 (map (bitsWord used) (upFrom 0 8) ++ (height ∷ (used - 1) ∷ []))
 

@@ -48,8 +48,9 @@ unfoldable pub allZero : List ℕ → Bool
 allZero [] = true
 allZero (a ∷ l) = eqb a 0 && allZero l
 
--- A node's part: number 0 is the count of its polygon's rectangles, number 1 that of its entries or branches, from 2 on stand the
--- rectangles, and from 66 on the entries (x, y, tag) of a leaf or the children's part numbers of a routing node.
+-- A node's part: number 0 is the count of its polygon's rectangles, number 1 that of its entries or branches, from 2
+-- on stand the rectangles, and from 66 on the entries (x, y, tag) of a leaf or the children's part numbers of a
+-- routing node.
 abbrev pub rectCount : List ℕ → ℕ
 rectCount p = getD p 0 0
 
@@ -80,11 +81,13 @@ childrenIn p = take (itemCount p) (drop 66 p)
 
 -- 'Unused numbers are zero': of a part whose items take w numbers each
 unfoldable pub restZero : ℕ → List ℕ → Bool
-restZero w p = allZero (take (64 - 4 * rectCount p) (drop (2 + 4 * rectCount p) p)) && allZero (drop (66 + w * itemCount p) p)
+restZero w p = allZero (take (64 - 4 * rectCount p) (drop (2 + 4 * rectCount p) p))
+    && allZero (drop (66 + w * itemCount p) p)
 
 -- the counts of a part: 'a list of 1 to 16 rectangles', '1 to 8 entries', '1 to 8 branches' (8 is the fanout)
 unfoldable pub countsFit : ℕ → List ℕ → Bool
-countsFit fanout p = leb 1 (rectCount p) && leb (rectCount p) mostOfPolygon && leb 1 (itemCount p) && leb (itemCount p) fanout
+countsFit fanout p = leb 1 (rectCount p) && leb (rectCount p) mostOfPolygon && leb 1 (itemCount p)
+    && leb (itemCount p) fanout
 
 -- the part k is one of the memory's, in use, and its counts and unused numbers are right
 unfoldable pub nodeFits : ℕ → ℕ → List ℕ → ℕ → Bool

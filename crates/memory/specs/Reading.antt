@@ -14,8 +14,9 @@ use Rattle.plane.specs.Plane.{planeSpace}
 use Rattle.memory.specs.Layout.{partsOf, isIndexLength, part, bitsSet, heightIn, rootIn, allZero, itemCount, polygonIn, entriesIn, childrenIn, nodeFits, othersZero}
 use Rattle.memory.specs.SoundTest.{soundTest}
 
--- The branches of a node at part hi, by their part numbers: read lo k reads the one at part k, whose subtree has the parts from lo up to
--- k. Parts rise in depth-first order, a node after its children (docs/LAYOUT.md), so no part is reached twice.
+-- The branches of a node at part hi, by their part numbers: read lo k reads the one at part k, whose subtree has the
+-- parts from lo up to k. Parts rise in depth-first order, a node after its children (docs/LAYOUT.md), so no part is
+-- reached twice.
 unfoldable pub readRow : {B : Type 0} → (ℕ → ℕ → Option B) → ℕ → ℕ → List ℕ → Option (List B)
 readRow read lo hi [] = some []
 readRow read lo hi (k ∷ ks) =

@@ -1,5 +1,5 @@
--- The test for 'Sound' on a tree that was read: each clause of Sound as a test. The theorems sound-tested and test-of-sound say that it
--- passes exactly where the tree is sound.
+-- The test for 'Sound' on a tree that was read: each clause of Sound as a test. The theorems sound-tested and
+-- test-of-sound say that it passes exactly where the tree is sound.
 -- docs/RULES.md 2.6, 3.7, 3.15
 use Prim.Native.Nat.{ℕ, zero, suc}
 use mathlib.Core.Bool.{Bool, _&&_, not}
@@ -28,7 +28,8 @@ module _ (fanout : ℕ) where
   apartTest zero e f = not (planeSpace fanout .same (e .cell) (f .cell))
   apartTest (suc n) b c = apart (b .poly) (c .poly)
 
-  -- an item of a node with the polygon p: 'a leaf's polygon contains its entries'; 'a child's cells lie among its parent's'
+  -- an item of a node with the polygon p: 'a leaf's polygon contains its entries'; 'a child's cells lie among its
+  -- parent's'
   unfoldable pub itemTest : (n : ℕ) → List Rect → Item (planeSpace fanout) n → Bool
   itemTest zero p e = anyHas p (e .cell)
   itemTest (suc n) p b =
@@ -38,5 +39,6 @@ module _ (fanout : ℕ) where
   -- the whole tree: 'The root's polygon is one rectangle'
   unfoldable pub soundTest : Tree (planeSpace fanout) → Bool
   soundTest t =
-      eqb (length (t .root)) 1 && allValid (t .root) && countTest (t .items) && allPass (itemTest (t .level) (t .root)) (t .items)
+      eqb (length (t .root)) 1 && allValid (t .root) && countTest (t .items)
+      && allPass (itemTest (t .level) (t .root)) (t .items)
       && pairsPass (apartTest (t .level)) (t .items)

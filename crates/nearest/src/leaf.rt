@@ -17,7 +17,8 @@ pub fn nearest_in_leaf(p: &[u32], c: Cell, met: Near) -> Near
     requires { ⌜ All (λ e. onGrid (e .cell) ≡ true) (entriesIn (now p) (itemCount (now p))) ⌝ }
     requires { ⌜ onGrid c ≡ true ⌝ }
     requires { ⌜ GoodNear c met ⌝ }
-    ensures { λ r. ⌜ r ≡ nearBy c (nearestAmong c (bestOf met) (entriesIn (now (p .entry)) (itemCount (now (p .entry))))) (met .visits) ⌝ }
+    ensures { λ r. ⌜ r ≡ nearBy c (nearestAmong c (bestOf met)
+        (entriesIn (now (p .entry)) (itemCount (now (p .entry))))) (met .visits) ⌝ }
 {
     let leaf = Node::load(p);
     let n = leaf.count as usize;

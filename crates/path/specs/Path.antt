@@ -1,7 +1,8 @@
--- The path of an insertion, from the root down to the leaf that gets the entry, in a lent list: some numbers for each level, a level being
--- the number of steps down to the leaf. Number 0 is the part of the node on the path, number 1 the place of the branch gone to among its
--- branches, number 2 the line that splits the node (0 where it is not split), number 3 the count of its polygon's rectangles, as grown in
--- this insertion, and from number 4 on stand the rectangles, at most 16.
+-- The path of an insertion, from the root down to the leaf that gets the entry, in a lent list: some numbers for each
+-- level, a level being the number of steps down to the leaf. Number 0 is the part of the node on the path, number 1
+-- the place of the branch gone to among its branches, number 2 the line that splits the node (0 where it is not
+-- split), number 3 the count of its polygon's rectangles, as grown in this insertion, and from number 4 on stand the
+-- rectangles, at most 16.
 use Prim.Native.Nat.{ℕ, _+_, _*_, _≤_}
 use mathlib.Core.List.{List}
 use lib.ListN.{length, drop, getD}

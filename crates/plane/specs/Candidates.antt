@@ -33,7 +33,13 @@ cellExtent c = record { minX = c .x; maxX = c .x; minY = c .y; maxY = c .y }
 
 -- the extent of two groups of entries together
 unfoldable pub joinExtents : Extent → Extent → Extent
-joinExtents a b = record { minX = min (a .minX) (b .minX); maxX = max (a .maxX) (b .maxX); minY = min (a .minY) (b .minY); maxY = max (a .maxY) (b .maxY) }
+joinExtents a b = record {
+  minX = min (a .minX) (b .minX);
+  maxX = max (a .maxX) (b .maxX);
+  minY = min (a .minY)
+      (b .minY);
+  maxY = max (a .maxY) (b .maxY);
+}
 
 -- a branch with this extent holds entries on the side
 abbrev pub extentOn : Side Line → Extent → Bool

@@ -62,6 +62,7 @@ planeSpace fanout = spaceOf (plane fanout)
 unfoldable pub cellRect : Cell → Rect
 cellRect c = record { llx = c .x; lly = c .y; urx = c .x + 1; ury = c .y + 1 }
 
--- 'The root's polygon is one rectangle': 'an empty index gets a leaf with that cell alone', and 'The root's rectangle grows to the cell'
+-- 'The root's polygon is one rectangle': 'an empty index gets a leaf with that cell alone', and 'The root's rectangle
+-- grows to the cell'
 abbrev pub planeRoot : (fanout : ℕ) → Root (planeSpace fanout)
 planeRoot fanout = rootOf (plane fanout) cellRect

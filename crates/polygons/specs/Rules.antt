@@ -1,5 +1,5 @@
--- The rules of lists of rectangles, over any rectangles: they look at a rectangle only through its own rules, which are their first argument.
--- The geometry's rules and the tree's are both instances of these.
+-- The rules of lists of rectangles, over any rectangles: they look at a rectangle only through its own rules, which
+-- are their first argument. The geometry's rules and the tree's are both instances of these.
 -- docs/RULES.md 2.6, 2.10, 2.13, 2.14, 2.32, 4.5, 4.6, 4.9, 4.15, 4.26, 5.14
 use Prim.Native.Nat.{ℕ}
 use mathlib.Core.Bool.{Bool, _&&_, not}
@@ -30,8 +30,9 @@ removedBy count has l p = count (λ c. unionHas has l c && unionHas has p c)
 abbrev pub cutPieces : {A : Type 0} → (A → A → List A) → List A → A → List A
 cutPieces cut l s = flatMap (λ r. cut r s) l
 
--- 'Cutting by a polygon applies its rectangles one after another', none as soon as the list is 'over 256 after a single cut'. Insertion's step 2:
--- 'cut the grown one by every sibling's polygon in order', 'pieces over 256 after a cut by one rectangle'.
+-- 'Cutting by a polygon applies its rectangles one after another', none as soon as the list is 'over 256 after a
+-- single cut'. Insertion's step 2: 'cut the grown one by every sibling's polygon in order', 'pieces over 256 after a
+-- cut by one rectangle'.
 unfoldable pub cutEach : {A : Type 0} → (A → A → List A) → List A → List A → Option (List A)
 cutEach cut l [] = some l
 cutEach cut l (s ∷ p) = bind (atMost mostPieces (cutPieces cut l s)) λ m. cutEach cut m p
@@ -43,7 +44,8 @@ commonsWith common p r = flatMap (common r) p
 abbrev pub commons : {A : Type 0} → (A → A → List A) → List A → List A → List A
 commons common l p = flatMap (commonsWith common p) l
 
--- 'clips the polygon's rectangles to each side, in order': clip gives the part of one rectangle, none where that is empty
+-- 'clips the polygon's rectangles to each side, in order': clip gives the part of one rectangle, none where that is
+-- empty
 abbrev pub clipEach : {A : Type 0} → (A → List A) → List A → List A
 clipEach clip p = flatMap clip p
 

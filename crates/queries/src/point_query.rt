@@ -58,7 +58,8 @@ fn point_in_leaf(p: &[u32], c: Cell, visits: u32) -> Found
 // without a child that has the cell.
 pub fn point_below(m: &[u32], level: u32, lo: u32, k: u32, c: Cell) -> Found
     requires { ⌜ SoundWalk level (now m) lo k ⌝ }
-    ensures { λ r. ⌜ r ≡ found (heldBelow c level (now (m .entry)) lo k) (visitsBelow (hasTest c) level (now (m .entry)) lo k) ⌝ }
+    ensures { λ r. ⌜ r ≡ found (heldBelow c level (now (m .entry)) lo k)
+        (visitsBelow (hasTest c) level (now (m .entry)) lo k) ⌝ }
 {
     let mut remaining = level;
     let mut from = lo;

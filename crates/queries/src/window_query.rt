@@ -51,7 +51,8 @@ fn count_leaf(p: &[u32], w: Rect) -> u32
 // walk enters only children whose polygon shares a cell with the window.
 pub fn count_below(m: &[u32], level: u32, lo: u32, k: u32, w: Rect) -> Matched
     requires { ⌜ Walkable level (now m) lo k ⌝ }
-    ensures { λ r. ⌜ r ≡ matched (matchesBelow w level (now (m .entry)) lo k) (visitsBelow (meetsTest w) level (now (m .entry)) lo k) ⌝ }
+    ensures { λ r. ⌜ r ≡ matched (matchesBelow w level (now (m .entry)) lo k)
+        (visitsBelow (meetsTest w) level (now (m .entry)) lo k) ⌝ }
 {
     if level == 0 {
         let matches = count_leaf(part_at(m, k), w);
@@ -82,7 +83,8 @@ pub fn count_below(m: &[u32], level: u32, lo: u32, k: u32, w: Rect) -> Matched
 // answers the next place.
 fn write_leaf(p: &[u32], w: Rect, list: &mut [u32], at: usize) -> usize
     requires { ⌜ LeafRoom (now p) w (now list) at ⌝ }
-    ensures { λ r. ⌜ Listed (now (list .entry)) at (leafEntries (insideTest w) (now (p .entry))) (now (list .exit)) r ⌝ }
+    ensures { λ r. ⌜ Listed (now (list .entry)) at (leafEntries (insideTest w) (now (p .entry)))
+        (now (list .exit)) r ⌝ }
 {
     let leaf = Node::load(p);
     let n = leaf.count as usize;

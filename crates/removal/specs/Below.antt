@@ -1,4 +1,5 @@
--- Removal below a node of the memory: 'takes the entry out, closes the gap, removes an emptied leaf and emptied nodes above'.
+-- Removal below a node of the memory: 'takes the entry out, closes the gap, removes an emptied leaf and emptied nodes
+-- above'.
 use Prim.Native.Nat.{ℕ, suc, _+_, _≤_}
 use mathlib.Core.Bool.{Bool, true, false}
 use mathlib.Core.List.{List, [], _∷_}
@@ -59,13 +60,15 @@ pub record Removable (n : ℕ) (m : List ℕ) (lo k : ℕ) (c : Cell) : Type 0 w
   pub unused : othersZero m (partsOf m) ≡ true
   pub holds : any (ofCell indexSpace c) (held indexSpace (suc n) (path .walk .node)) ≡ true
 
--- The cell's entry was removed below the node at part k, which gave m′; left says whether the node is left. It reads as what the
--- definition leaves of it. The bits set fall with the nodes, parts not in use are zero, and all else is as it was.
+-- The cell's entry was removed below the node at part k, which gave m′; left says whether the node is left. It reads
+-- as what the definition leaves of it. The bits set fall with the nodes, parts not in use are zero, and all else is as
+-- it was.
 pub record RemovedBelow (n : ℕ) (m : List ℕ) (lo k : ℕ) (c : Cell) (m′ : List ℕ) (left : Bool) : Type 0 where
   pub node : Item indexSpace (suc n)
   pub before : readNode fanout n m lo k ≡ some node
   pub remaining-is : left ≡ notEmpty (nodeRemaining n c node)
   pub after : (b : Item indexSpace (suc n)) → nodeRemaining n c node ≡ b ∷ [] → readNode fanout n m′ lo k ≡ some b
-  pub bits : bitsSet m′ + nodes indexSpace (suc n) node ≡ bitsSet m + total (nodes indexSpace (suc n)) (nodeRemaining n c node)
+  pub bits : bitsSet m′ + nodes indexSpace (suc n) node
+      ≡ bitsSet m + total (nodes indexSpace (suc n)) (nodeRemaining n c node)
   pub unused : othersZero m′ (partsOf m′) ≡ true
   pub beside : Beside m lo k m′

@@ -47,8 +47,8 @@ unfoldable pub callsIn : List ℕ → ℕ → List IndexCall
 callsIn l zero = []
 callsIn l (suc n) = callsIn l n ++ (callOf (codedAt l n) ∷ [])
 
--- The i-th call can be made: it is there and of a known kind, its part is one of a lent list of that length, and there is room for its
--- answer.
+-- The i-th call can be made: it is there and of a known kind, its part is one of a lent list of that length, and there
+-- is room for its answer.
 unfoldable pub callFits : List ℕ → ℕ → ℕ → ℕ → Bool
 callFits l i lent answers =
     ltb i (length l / 7)

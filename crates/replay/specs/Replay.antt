@@ -13,12 +13,19 @@ use Rattle.history.specs.Contract.{ByContract}
 use Rattle.answers.specs.Numbers.{withSeven}
 use Rattle.replay.specs.Replies.{replyNumbers, putReply}
 
--- The i-th call of the list l was made on the index m, which left m′, with its part of p lent, which left p′, and its answer was stored in
--- a, which gave a′.
+-- The i-th call of the list l was made on the index m, which left m′, with its part of p lent, which left p′, and its
+-- answer was stored in a, which gave a′.
 pub record MadeOne (l : List ℕ) (i : ℕ) (m p a m′ p′ a′ : List ℕ) : Type 0 where
   pub reply : Reply
   pub at-exit : List ℕ
-  pub kept : ByContract (record { call = callOf (codedAt l i); before = m; after = m′; lent = partFor l i p; at-exit = at-exit; reply = reply })
+  pub kept : ByContract (record {
+    call = callOf (codedAt l i);
+    before = m;
+    after = m′;
+    lent = partFor l i p;
+    at-exit = at-exit;
+    reply = reply;
+  })
   pub list : p′ ≡ partBack l i p at-exit
   pub answers : a′ ≡ putReply a i (withSeven reply)
   pub memory-length : length m′ ≡ length m
@@ -34,8 +41,8 @@ Lends l i p (d ∷ ds) p′ = (d .lent ≡ partFor l i p) × Lends l (suc i) (pa
 abbrev pub answerNumbers : Performed → List ℕ
 answerNumbers d = replyNumbers (withSeven (d .reply))
 
--- The first n calls of the list l were made on the index m, which left m′, with parts of p lent, which left p′, and their answers were
--- stored in a, which gave a′.
+-- The first n calls of the list l were made on the index m, which left m′, with parts of p lent, which left p′, and
+-- their answers were stored in a, which gave a′.
 pub record Replayed (l m p a : List ℕ) (n : ℕ) (m′ p′ a′ : List ℕ) : Type 0 where
   -- the calls made
   pub made : List Performed

@@ -25,7 +25,8 @@ use layout::rects;
 
 // Whether the polygon at part j is inside the one at part k.
 fn child_inside(m: &[u32], k: u32, j: u32) -> bool
-    requires { ⌜ PolygonPart (now m) k × PolygonPart (now m) j ⌝ }
+    requires { ⌜ PolygonPart (now m) k ⌝ }
+    requires { ⌜ PolygonPart (now m) j ⌝ }
     ensures { λ b. ⌜ b ≡ insideOf (polygonIn (part (now (m .entry)) k)) (polygonIn (part (now (m .entry)) j)) ⌝ }
 {
     let p = part_at(m, k);
@@ -40,7 +41,8 @@ fn child_inside(m: &[u32], k: u32, j: u32) -> bool
 
 // Whether the polygons at parts i and j share no cell.
 fn parts_apart(m: &[u32], i: u32, j: u32) -> bool
-    requires { ⌜ PolygonPart (now m) i × PolygonPart (now m) j ⌝ }
+    requires { ⌜ PolygonPart (now m) i ⌝ }
+    requires { ⌜ PolygonPart (now m) j ⌝ }
     ensures { λ b. ⌜ b ≡ partsApart (now (m .entry)) i j ⌝ }
 {
     let p = part_at(m, i);
@@ -55,8 +57,10 @@ fn parts_apart(m: &[u32], i: u32, j: u32) -> bool
 
 // Whether the polygon of the i-th of some parts shares no cell with the later ones'.
 fn none_meets(m: &[u32], ks: &[u32], i: usize) -> bool
-    requires { ⌜ PolygonParts (now m) (now ks) × (i < length (now ks)) ⌝ }
-    ensures { λ b. ⌜ b ≡ allPass (partsApart (now (m .entry)) (getD (now (ks .entry)) i 0)) (drop (i + 1) (now (ks .entry))) ⌝ }
+    requires { ⌜ PolygonParts (now m) (now ks) ⌝ }
+    requires { ⌜ i < length (now ks) ⌝ }
+    ensures { λ b. ⌜ b ≡ allPass (partsApart (now (m .entry)) (getD (now (ks .entry)) i 0))
+        (drop (i + 1) (now (ks .entry))) ⌝ }
 {
     let k = ks[i];
     let mut j = i + 1;
@@ -86,7 +90,8 @@ fn siblings_apart(m: &[u32], ks: &[u32]) -> bool
 
 // Whether part k is a node's, whose items take w numbers each, and its rectangles are valid.
 fn head_fits(m: &[u32], k: u32, w: usize) -> bool
-    requires { ⌜ IndexLength (now m) × (w ≤ 3) ⌝ }
+    requires { ⌜ IndexLength (now m) ⌝ }
+    requires { ⌜ w ≤ 3 ⌝ }
     ensures { λ b. ⌜ b ≡ nodeFits fanout w (now (m .entry)) k && allValid (polygonIn (part (now (m .entry)) k)) ⌝ }
 {
     if !node_fits(m, k, w) {
@@ -117,7 +122,8 @@ fn check_leaf(m: &[u32], k: u32) -> u32
 // The number of nodes of the subtree at part k, whose leaves lie `level` steps below it and whose parts are those
 // from lo on, where it reads and is sound in itself; 0 otherwise.
 pub fn check_node(m: &[u32], level: u32, lo: u32, k: u32) -> u32
-    requires { ⌜ IndexLength (now m) × (lo ≤ k) ⌝ }
+    requires { ⌜ IndexLength (now m) ⌝ }
+    requires { ⌜ lo ≤ k ⌝ }
     ensures { λ r. ⌜ r ≡ checkedAt level (now (m .entry)) lo k ⌝ }
 {
     if level == 0 {

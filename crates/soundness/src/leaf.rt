@@ -16,7 +16,8 @@ use layout::rects;
 // Whether the polygon of a leaf's part contains its entries.
 pub fn entries_inside(p: &[u32]) -> bool
     requires { ⌜ NodePart (now p) ⌝ }
-    ensures { λ b. ⌜ b ≡ allPass (itemTest fanout 0 (polygonIn (now (p .entry)))) (entriesIn (now (p .entry)) (itemCount (now (p .entry)))) ⌝ }
+    ensures { λ b. ⌜ b ≡ allPass (itemTest fanout 0 (polygonIn (now (p .entry))))
+        (entriesIn (now (p .entry)) (itemCount (now (p .entry)))) ⌝ }
 {
     let n = rect_count(p) as usize;
     let count = item_count(p) as usize;
@@ -31,11 +32,14 @@ pub fn entries_inside(p: &[u32]) -> bool
     true
 }
 
-// Whether none of the entries behind the i-th of n has its cell. All eight places are compared, so that the lengths of the
-// loops are constants; the count is asked only where two are equal, since the places behind it are zeros.
+// Whether none of the entries behind the i-th of n has its cell. All eight places are compared, so that the lengths of
+// the loops are constants; the count is asked only where two are equal, since the places behind it are zeros.
 fn none_like(p: &[u32], n: usize, i: usize) -> bool
-    requires { ⌜ (i < n) × (n ≤ 8) × IsPart (now p) ⌝ }
-    ensures { λ b. ⌜ b ≡ allPass (apartTest fanout 0 (entryIn (now (p .entry)) i)) (drop (i + 1) (entriesIn (now (p .entry)) n)) ⌝ }
+    requires { ⌜ i < n ⌝ }
+    requires { ⌜ n ≤ 8 ⌝ }
+    requires { ⌜ IsPart (now p) ⌝ }
+    ensures { λ b. ⌜ b ≡ allPass (apartTest fanout 0 (entryIn (now (p .entry)) i))
+        (drop (i + 1) (entriesIn (now (p .entry)) n)) ⌝ }
 {
     let c = entry_cell(p, i);
     let mut j = i + 1;

@@ -33,7 +33,8 @@ pub record FullLeaf (es : List CellEntry) : Type 0 where
 
 -- r is the number of the leaf's line, whatever the tag of the new entry
 abbrev pub LeafLineIs : List ℕ → Cell → ℕ → Type 0
-LeafLineIs p c r = (t : Payload) → FullLeaf (entriesOf p ++ (entryOf c t ∷ [])) → LineIs r (leafLine (entriesOf p ++ (entryOf c t ∷ [])))
+LeafLineIs p c r = (t : Payload) → FullLeaf (entriesOf p ++ (entryOf c t ∷ []))
+    → LineIs r (leafLine (entriesOf p ++ (entryOf c t ∷ [])))
 
 -- The sums s with one more cell c fit 64 bits.
 pub record SmallSums (s : Sums) (c : Cell) : Type 0 where

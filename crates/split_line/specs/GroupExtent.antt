@@ -1,5 +1,5 @@
--- The extent of entries: the smallest rectangle with their cells. The entries meant are those below a node of a memory that are on every
--- side of a list.
+-- The extent of entries: the smallest rectangle with their cells. The entries meant are those below a node of a memory
+-- that are on every side of a list.
 use Prim.Native.Nat.{ℕ, _+_}
 use mathlib.Core.Bool.{true, cond}
 use mathlib.Core.List.{List}
@@ -21,7 +21,8 @@ use Rattle.split_line.specs.declared.extent.GroupExtent.{GroupExtent}
 unfoldable pub extentRect : Extent → Rect
 extentRect a = record { llx = a .minX; lly = a .minY; urx = a .maxX + 1; ury = a .maxY + 1 }
 
--- the smallest rectangle with the cells of some entries; of none, the rectangle of the cell (0, 0), at which no rule looks
+-- the smallest rectangle with the cells of some entries; of none, the rectangle of the cell (0, 0), at which no rule
+-- looks
 unfoldable pub extentRectOf : List CellEntry → Rect
 extentRectOf es = extentRect (extentOf es)
 

@@ -26,18 +26,22 @@ pub record GridNode (n : ℕ) (m : List ℕ) (lo k : ℕ) : Type 0 where
   pub walk : Walkable n m lo k
   pub grid : OnGrid (entriesAt n m lo k)
 
--- the extents of the entries below the node at part k, with one at the cell c, that are on a side; a tag does not matter
+-- the extents of the entries below the node at part k, with one at the cell c, that are on a side; a tag does not
+-- matter
 unfoldable pub sideExtent : ℕ → List ℕ → ℕ → ℕ → Side Line → Cell → Rect
-sideExtent n m lo k s c = extentRectOf (keep (entryOn indexSpace s) (entriesAt n m lo k ++ (entryOf c somePayload ∷ [])))
+sideExtent n m lo k s c = extentRectOf
+    (keep (entryOn indexSpace s) (entriesAt n m lo k ++ (entryOf c somePayload ∷ [])))
 
 -- the extents of the groups of the branch at part k: of two where it was split, else of one
 unfoldable pub branchExtents : ℕ → List ℕ → ℕ → ℕ → Bool → ℕ → Cell → List Rect
 branchExtents n m lo k halved below c =
-    cond halved (sideExtent n m lo k (left (numberedLine below)) c ∷ sideExtent n m lo k (right (numberedLine below)) c ∷ [])
+    cond halved (sideExtent n m lo k (left (numberedLine below)) c ∷ sideExtent n m lo k
+    (right (numberedLine below)) c ∷ [])
     (extentRectOf (entriesAt n m lo k) ∷ [])
 
 -- A branch whose extents fit into the list l from the at-th place on.
-pub record BranchHere (n : ℕ) (m : List ℕ) (lo k : ℕ) (halved : Bool) (below : ℕ) (c : Cell) (l : List ℕ) (at : ℕ) : Type 0 where
+pub record BranchHere (n : ℕ) (m : List ℕ) (lo k : ℕ) (halved : Bool) (below : ℕ) (c : Cell) (l : List ℕ)
+    (at : ℕ) : Type 0 where
   pub branch : GridNode n m lo k
   pub line : below < 131072
   pub cell : onGrid c ≡ true

@@ -1,5 +1,5 @@
--- Document 01, 'The line', 'Routing node': the entries that the branches of a node hold whose branch at a place was split, the new entry
--- among them.
+-- Document 01, 'The line', 'Routing node': the entries that the branches of a node hold whose branch at a place was
+-- split, the new entry among them.
 use Prim.Native.Nat.{ℕ, zero, suc, _+_, _≤_, _<_}
 use mathlib.Core.Bool.{true}
 use mathlib.Core.List.{List, [], _∷_, _++_, map, flatMap}
@@ -63,4 +63,5 @@ pub record LineFits (gs : List (List CellEntry)) : Type 0 where
 -- r is the number of the node's line, whatever the tag of the new entry
 abbrev pub NodeLineIs : List ℕ → ℕ → ℕ → ℕ → ℕ → ℕ → Cell → ℕ → Type 0
 NodeLineIs m level lo k place below c r =
-    (t : Payload) → LineFits (groupsAt level m lo k place below (entryOf c t)) → LineIs r (nodeLine fanout (groupsAt level m lo k place below (entryOf c t)))
+    (t : Payload) → LineFits (groupsAt level m lo k place below (entryOf c t))
+    → LineIs r (nodeLine fanout (groupsAt level m lo k place below (entryOf c t)))

@@ -1,5 +1,5 @@
-// The line of a routing node, from the extents of its branches: only lines just behind an extreme coordinate of a branch are tried. The
-// extents are rectangles in a list, four numbers each.
+// The line of a routing node, from the extents of its branches: only lines just behind an extreme coordinate of a
+// branch are tried. The extents are rectangles in a list, four numbers each.
 ghost use mathlib.Core.Path.{_≡_};
 ghost use mathlib.Core.Bool.{true};
 ghost use Prim.Native.Nat.{_<_, _≤_};
@@ -27,7 +27,9 @@ struct Counts {
 impl Counts {
     // With one more branch.
     fn add(self, before: bool, behind: bool) -> Counts
-        requires { ⌜ (self .lefts ≤ 8) × (self .rights ≤ 8) × (self .both ≤ 8) ⌝ }
+        requires { ⌜ self .lefts ≤ 8 ⌝ }
+        requires { ⌜ self .rights ≤ 8 ⌝ }
+        requires { ⌜ self .both ≤ 8 ⌝ }
         ensures { λ r. ⌜ r ≡ addedCounts self before behind ⌝ }
     {
         if before {
@@ -122,7 +124,8 @@ fn count_sides(extents: &[u32], n: usize, line: Line) -> Counts
     counts
 }
 
-// The least key so far after the line was tried: the key counts the branches on both sides first, then the place of the line.
+// The least key so far after the line was tried: the key counts the branches on both sides first, then the place of
+// the line.
 fn try_line(extents: &[u32], n: usize, line: Line, key: u32) -> u32
     requires { ⌜ TriedLine (now extents) n line ⌝ }
     ensures { λ r. ⌜ r ≡ tried fanout (extentsIn (now (extents .entry)) n) key line ⌝ }
@@ -140,7 +143,8 @@ fn try_line(extents: &[u32], n: usize, line: Line, key: u32) -> u32
 
 // The least key so far after the four lines behind the extremes of the i-th branch were tried.
 fn try_branch(extents: &[u32], n: usize, i: usize, key: u32) -> u32
-    requires { ⌜ ExtentList (now extents) n × (i < n) ⌝ }
+    requires { ⌜ ExtentList (now extents) n ⌝ }
+    requires { ⌜ i < n ⌝ }
     ensures { λ r. ⌜ r ≡ triedAt (now (extents .entry)) n i key ⌝ }
 {
     let r = rect_at(extents, i);

@@ -98,7 +98,8 @@ fn extent_in_leaf(p: &[u32], sides: &[u32]) -> GroupExtent
     extent
 }
 
-// The extent of the entries below the node at part k that are on every side; the node's subtree has the parts from lo on.
+// The extent of the entries below the node at part k that are on every side; the node's subtree has the parts from lo
+// on.
 pub fn extent_under(m: &[u32], level: u32, lo: u32, k: u32, sides: &[u32]) -> GroupExtent
     requires { ⌜ NodeExtent level (now m) lo k (now sides) ⌝ }
     ensures { λ r. ⌜ r ≡ groupExtent (keptUnder (now (sides .entry)) level (now (m .entry)) lo k) ⌝ }

@@ -53,8 +53,8 @@ fn leaf_sums(p: &[u32], c: Cell) -> Sums
     sums.add(c)
 }
 
-// The number of the line that splits the leaf with one more entry, at the cell c: just behind the mean of the coordinates in the dimension
-// where they spread more, x on a tie.
+// The number of the line that splits the leaf with one more entry, at the cell c: just behind the mean of the
+// coordinates in the dimension where they spread more, x on a tie.
 pub fn leaf_line(p: &[u32], c: Cell) -> u32
     requires { ⌜ LeafHere (now p) c ⌝ }
     ensures { λ r. ⌜ LeafLineIs (now (p .entry)) c r ⌝ }

@@ -32,7 +32,8 @@ fn whole_extent(m: &[u32], level: u32, lo: u32, k: u32) -> Rect
 
 // The extents of those of them, with one at the cell c, that are on the side.
 fn side_extent(m: &[u32], level: u32, lo: u32, k: u32, side: u32, c: Cell) -> Rect
-    requires { ⌜ GridNode level (now m) lo k × (onGrid c ≡ true) ⌝ }
+    requires { ⌜ GridNode level (now m) lo k ⌝ }
+    requires { ⌜ onGrid c ≡ true ⌝ }
     ensures { λ r. ⌜ r ≡ sideExtent level (now (m .entry)) lo k (sideOf side) c ⌝ }
 {
     let sides = [side];
@@ -43,8 +44,8 @@ fn side_extent(m: &[u32], level: u32, lo: u32, k: u32, side: u32, c: Cell) -> Re
     extent.rect
 }
 
-// Writes the extents of the branch at part k from the at-th place of the list on: of both its halves where it was split at the line `below`;
-// answers the next place.
+// Writes the extents of the branch at part k from the at-th place of the list on: of both its halves where it was
+// split at the line `below`; answers the next place.
 fn put_branch(
     m: &[u32],
     level: u32,
@@ -57,7 +58,8 @@ fn put_branch(
     at: usize,
 ) -> usize
     requires { ⌜ BranchHere level (now m) lo k halved below c (now list) at ⌝ }
-    ensures { λ r. ⌜ Appended (now (list .entry)) at (branchExtents level (now (m .entry)) lo k halved below c) 2 (now (list .exit)) r ⌝ }
+    ensures { λ r. ⌜ Appended (now (list .entry)) at (branchExtents level (now (m .entry)) lo k halved below c) 2
+        (now (list .exit)) r ⌝ }
 {
     if halved {
         let left = side_extent(m, level, lo, k, left_side(below), c);
@@ -82,7 +84,8 @@ fn put_extents(
     c: Cell,
     list: &mut [u32],
 ) -> usize
-    requires { ⌜ NodeHere (now m) level lo k place below c × (length (now list) ≡ 36) ⌝ }
+    requires { ⌜ NodeHere (now m) level lo k place below c ⌝ }
+    requires { ⌜ length (now list) ≡ 36 ⌝ }
     ensures { λ r. ⌜ GroupExtents (now (m .entry)) level lo k place below c (now (list .exit)) r ⌝ }
 {
     let node = node_at(m, k);
@@ -99,7 +102,8 @@ fn put_extents(
     next
 }
 
-// The number of the line that splits the node at part k: its branch at the place was split at the line `below`, and holds the new cell.
+// The number of the line that splits the node at part k: its branch at the place was split at the line `below`, and
+// holds the new cell.
 pub fn node_line(m: &[u32], level: u32, lo: u32, k: u32, place: u32, below: u32, c: Cell) -> u32
     requires { ⌜ NodeHere (now m) level lo k place below c ⌝ }
     ensures { λ r. ⌜ NodeLineIs (now (m .entry)) level lo k place below c r ⌝ }

@@ -1,5 +1,5 @@
-// Lines and their sides as single numbers, so that lists of them can be lent: the line's place in document 01's order of lines, and
-// twice that for its left side, one more for its right side.
+// Lines and their sides as single numbers, so that lists of them can be lent: the line's place in document 01's order
+// of lines, and twice that for its left side, one more for its right side.
 ghost use mathlib.Core.Path.{_≡_};
 ghost use Prim.Native.Nat.{_<_};
 ghost use Rattle.geometry.specs.Clip.{below};

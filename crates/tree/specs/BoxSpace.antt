@@ -33,7 +33,8 @@ spaceOf B = record {
   most = B .most;
 }
 
--- "The root's polygon is one rectangle", and it is that rectangle that grows. cellBox gives the rectangle of one cell alone.
+-- "The root's polygon is one rectangle", and it is that rectangle that grows. cellBox gives the rectangle of one cell
+-- alone.
 abbrev pub rootOf : (B : Boxes) → (B .Cell → B .Box) → Root (spaceOf B)
 rootOf B cellBox = record {
   One = λ p. length p ≡ 1;

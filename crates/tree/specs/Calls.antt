@@ -95,7 +95,8 @@ module _ (S : Space) where
       after i (nearestCall c) = i
       after i (emptyCall w) = i
 
-      -- A list of calls, "each call handed the memory that the last one left": the index after all, and each call's answer.
+      -- A list of calls, "each call handed the memory that the last one left": the index after all, and each call's
+      -- answer.
       unfoldable pub afterAll : Index S → List (Call S Win) → Index S
       afterAll i [] = i
       afterAll i (k ∷ ks) = afterAll (after i k) ks

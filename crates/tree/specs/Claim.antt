@@ -47,8 +47,8 @@ module _ (S : Space) where
       -- the tree is sound and has at most N nodes
       pub sound : Sound S R i
       pub room : nodeCount S i ≤ N
-      -- "The entries held are exactly those .. as document 01's record gives them": every test is passed by as many, and
-      -- each cell is held at most once
+      -- "The entries held are exactly those .. as document 01's record gives them": every test is passed by as many,
+      -- and each cell is held at most once
       pub entries-same : Bag (entries S i) r
       pub entries-once : (c : S .Cell) → countOf (ofCell S c) (entries S i) ≡ cond (holds S c i) 1 0
       -- "no cell lies in the polygons of two different nodes of equal depth"
@@ -86,11 +86,13 @@ module _ (S : Space) where
 
     -- The same for every call of a list, where r is the record before it.
     unfoldable pub ReportedAll : List (EntryOf S) → List (Call S Win) → List (Answer S) → Type 0
-    ReportedAll r (k ∷ ks) (a ∷ more) = Reported a (recorded r k (isAccepted a)) × ReportedAll (recorded r k (isAccepted a)) ks more
+    ReportedAll r (k ∷ ks) (a ∷ more) = Reported a (recorded r k (isAccepted a))
+        × ReportedAll (recorded r k (isAccepted a)) ks more
     ReportedAll r [] more = Unit {0}
     ReportedAll r (k ∷ ks) [] = Unit {0}
 
     -- The claim about a list of calls.
     pub record Claim (R : Root S) (N : ℕ) (ks : List (Call S Win)) : Type 0 where
-      pub index : IndexClaim R N (afterAll S R N Win none ks) (recordOf [] ks (map isAccepted (answers S R N Win none ks)))
+      pub index : IndexClaim R N (afterAll S R N Win none ks)
+          (recordOf [] ks (map isAccepted (answers S R N Win none ks)))
       pub reported : ReportedAll [] ks (answers S R N Win none ks)

@@ -1,4 +1,5 @@
--- Document 01, 'The tree and its memory': "A node's depth is the number of steps from the root down to it; its polygon is the one its branch gives, and the root's is its one rectangle."
+-- Document 01, 'The tree and its memory': "A node's depth is the number of steps from the root down to it; its polygon
+-- is the one its branch gives, and the root's is its one rectangle."
 -- docs/RULES.md 3.5, 5.6, 6.8 to 6.10
 use Prim.Native.Nat.{ℕ, zero, suc}
 use mathlib.Core.List.{List, [], _∷_, _++_, map, flatMap}
@@ -37,7 +38,8 @@ module _ (S : Space) where
   -- Every node below a branch with each of its children, for their polygons.
   unfoldable pub itemEdges : (n : ℕ) → Item S (suc n) → List (Edge (S .Poly))
   itemEdges zero b = []
-  itemEdges (suc n) b = map (λ x. record { parent = b .poly; below = x .poly }) (b .child) ++ flatMap (itemEdges n) (b .child)
+  itemEdges (suc n) b = map (λ x. record { parent = b .poly; below = x .poly }) (b .child)
+      ++ flatMap (itemEdges n) (b .child)
 
   -- The polygons of all nodes.
   abbrev pub polygons : Index S → List (S .Poly)

@@ -12,7 +12,8 @@ use Rattle.tree.specs.Tree.{Tree, Index, nodeCount}
 use Rattle.tree.specs.Split.{split}
 
 module _ (S : Space) where
-  -- Steps 2 to 4 below a node with the polygon p (as grown in this insertion): the one or two branches that take its place; nothing where step 2 refuses.
+  -- Steps 2 to 4 below a node with the polygon p (as grown in this insertion): the one or two branches that take its
+  -- place; nothing where step 2 refuses.
   unfoldable pub insertAt : (n : ℕ) → S .Poly → List (Item S n) → EntryOf S → Option (List (Item S (suc n)))
   -- "The entry goes last in the leaf."
   insertAt zero p es e = some (split S zero p (es ++ (e ∷ [])))
@@ -22,7 +23,8 @@ module _ (S : Space) where
       bind (insertAt n (ch .grown) (ch .old .child) e) λ got.
       some (split S (suc n) p (ch .before ++ (got ++ ch .after)))
 
-  -- What took the root's place becomes the tree. One branch: its node is the root. Two: "A split root gets a new root above, with the old rectangle." (No branch: does not occur.)
+  -- What took the root's place becomes the tree. One branch: its node is the root. Two: "A split root gets a new root
+  -- above, with the old rectangle." (No branch: does not occur.)
   abbrev pub rooted : (n : ℕ) → S .Poly → List (Item S (suc n)) → Tree S
   rooted n p [] = record { level = suc n; root = p; items = [] }
   rooted n p (b ∷ []) = record { level = n; root = p; items = b .child }
@@ -39,7 +41,8 @@ module _ (S : Space) where
   limited N (some t) = cond (leb (nodeCount S (some t)) N) (accepted (some t)) (refused 8)
 
 module _ (S : Space) (R : Root S) where
-  -- Step 1: "The root's rectangle grows to the cell; an empty index gets a leaf with that cell alone." Then steps 2 to 4; nothing where step 2 refuses.
+  -- Step 1: "The root's rectangle grows to the cell; an empty index gets a leaf with that cell alone." Then steps 2 to
+  -- 4; nothing where step 2 refuses.
   unfoldable pub insertTree : Index S → EntryOf S → Option (Tree S)
   insertTree none e = some (record { level = zero; root = R .leafOf (e .cell); items = e ∷ [] })
   insertTree (some t) e =

@@ -59,8 +59,8 @@ module _ (S : Space) (c : S .Cell) where
   enters p none = true
   enters p (some e) = leb (S .minDistance c p) (S .distance c (e .cell))
 
-  -- The walk below a node that it enters: "depth-first with branches in order". A child is tested when the walk comes to
-  -- it, with what was met so far. Of a leaf all entries are looked at.
+  -- The walk below a node that it enters: "depth-first with branches in order". A child is tested when the walk comes
+  -- to it, with what was met so far. Of a leaf all entries are looked at.
   unfoldable pub walkNode : (n : ℕ) → Met → List (Item S n) → Met
   walkNode zero w es = record { best = nearestOf (w .best) es; entered = suc (w .entered) }
   walkNode (suc n) w bs = foldl (λ v b. cond (enters (b .poly) (v .best)) (walkNode n v (b .child)) v) (enter w) bs

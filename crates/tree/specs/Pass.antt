@@ -1,5 +1,5 @@
--- The one pass as code computes it, not stated by document 01: all sides applied at once, lines from the entries in the order of the tree before.
--- That it gives the same is proved in proofs/Pass.
+-- The one pass as code computes it, not stated by document 01: all sides applied at once, lines from the entries in
+-- the order of the tree before. That it gives the same is proved in proofs/Pass.
 use Prim.Native.Nat.{ℕ, zero, suc}
 use mathlib.Core.Bool.{Bool, true, cond, _&&_}
 use mathlib.Core.List.{List, [], _∷_, _++_, map, flatMap}
@@ -24,7 +24,8 @@ module _ (S : Space) where
   -- The entries below a node on the way, before any split.
   unfoldable pub wayHeld : (n : ℕ) → Way S n → List (EntryOf S)
   wayHeld zero es = es
-  wayHeld (suc n) w = flatMap (held S (suc n)) (w .before) ++ (wayHeld n (w .below) ++ flatMap (held S (suc n)) (w .after))
+  wayHeld (suc n) w = flatMap (held S (suc n)) (w .before)
+      ++ (wayHeld n (w .below) ++ flatMap (held S (suc n)) (w .after))
 
   -- The node has no item too many.
   abbrev pub plainFew : List (List (EntryOf S)) → Bool
@@ -37,12 +38,14 @@ module _ (S : Space) where
 
   -- The groups of the one or two branches that take the node's place.
   abbrev pub cutPlain : (n : ℕ) → List (List (EntryOf S)) → List (EntryOf S) → List (List (EntryOf S))
-  cutPlain n gs es = cond (plainFew gs) (es ∷ []) (groupIf S (keep (entryOn S (left (plainLine n gs es))) es) ++ groupIf S (keep (entryOn S (right (plainLine n gs es))) es))
+  cutPlain n gs es = cond (plainFew gs) (es ∷ []) (groupIf S (keep (entryOn S (left (plainLine n gs es))) es)
+      ++ groupIf S (keep (entryOn S (right (plainLine n gs es))) es))
 
   -- The groups of a node on the way, each in the order of the tree before.
   unfoldable pub plain : (n : ℕ) → Way S n → List (List (EntryOf S))
   plain zero es = map (held S zero) es
-  plain (suc n) w = map (held S (suc n)) (w .before) ++ (cutPlain n (plain n (w .below)) (wayHeld n (w .below)) ++ map (held S (suc n)) (w .after))
+  plain (suc n) w = map (held S (suc n)) (w .before)
+      ++ (cutPlain n (plain n (w .below)) (wayHeld n (w .below)) ++ map (held S (suc n)) (w .after))
 
   -- Equal groups but for the order inside them.
   abbrev pub Alike : List (List (EntryOf S)) → List (List (EntryOf S)) → Type 0

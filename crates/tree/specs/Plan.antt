@@ -1,5 +1,5 @@
--- Insertion as code does it, not stated by document 01: first down the path (steps 2 and 3), then all splits (step 4) in one pass.
--- That this gives document 01's insertion is proved in proofs/Emission.
+-- Insertion as code does it, not stated by document 01: first down the path (steps 2 and 3), then all splits (step 4)
+-- in one pass. That this gives document 01's insertion is proved in proofs/Emission.
 use Prim.Native.Nat.{ℕ, zero, suc}
 use mathlib.Core.Bool.{Bool, cond}
 use mathlib.Core.List.{List, [], _∷_, _++_, map, flatMap}
@@ -11,7 +11,8 @@ use Rattle.tree.specs.Space.{Side, left, right, Branch, Space}
 use Rattle.tree.specs.Nodes.{EntryOf, Item, entryOn, held}
 use Rattle.tree.specs.Split.{branchIf, halfItems, split}
 
--- One routing node on the way down: its branches but the chosen one, the polygon that the chosen one gets, and the way below it.
+-- One routing node on the way down: its branches but the chosen one, the polygon that the chosen one gets, and the way
+-- below it.
 pub record Turn (P B W : Type 0) : Type 0 where
   pub before : List B
   pub grown : P
@@ -63,12 +64,14 @@ module _ (S : Space) where
   abbrev pub cutGroups : (n : ℕ) → List (List (EntryOf S)) → List (List (EntryOf S))
   cutGroups n gs =
       cond (fewOf n gs) (flat gs ∷ [])
-      (groupIf (keep (entryOn S (left (lineFor n gs))) (flat gs)) ++ groupIf (keep (entryOn S (right (lineFor n gs))) (flat gs)))
+      (groupIf (keep (entryOn S (left (lineFor n gs))) (flat gs))
+      ++ groupIf (keep (entryOn S (right (lineFor n gs))) (flat gs)))
 
   -- The groups of a node on the way, all below it split.
   unfoldable pub groups : (n : ℕ) → Way n → List (List (EntryOf S))
   groups zero es = map (held S zero) es
-  groups (suc n) w = map (held S (suc n)) (w .before) ++ (cutGroups n (groups n (w .below)) ++ map (held S (suc n)) (w .after))
+  groups (suc n) w = map (held S (suc n)) (w .before)
+      ++ (cutGroups n (groups n (w .below)) ++ map (held S (suc n)) (w .after))
 
   -- Whether a node on the way is not split, and its line.
   abbrev pub few : (n : ℕ) → Way n → Bool
@@ -93,8 +96,10 @@ module _ (S : Space) where
   branchUnder (s ∷ ss) p items = branchIf S (clips (s ∷ ss) p) items
 
   -- One branch under the sides, or one for each side of a line; the new side goes to the front, as it is applied first.
-  abbrev pub cutInto : {A : Type 0} → Bool → S .Line → S .Poly → (List (Side (S .Line)) → List A) → List (Side (S .Line)) → List (Branch (S .Poly) A)
-  cutInto few l p f ss = cond few (branchUnder ss p (f ss)) (branchUnder (left l ∷ ss) p (f (left l ∷ ss)) ++ branchUnder (right l ∷ ss) p (f (right l ∷ ss)))
+  abbrev pub cutInto : {A : Type 0} → Bool → S .Line → S .Poly → (List (Side (S .Line)) → List A)
+      → List (Side (S .Line)) → List (Branch (S .Poly) A)
+  cutInto few l p f ss = cond few (branchUnder ss p (f ss)) (branchUnder (left l ∷ ss) p (f (left l ∷ ss))
+      ++ branchUnder (right l ∷ ss) p (f (right l ∷ ss)))
 
   -- Writing in one pass: the items of a node on the way under the sides of the splits above it.
   unfoldable pub writeRow : (n : ℕ) → List (Side (S .Line)) → Way n → List (Item S n)

@@ -10,7 +10,8 @@ use Rattle.tree.specs.Query.{Window}
 use Rattle.tree.specs.Calls.{Call, insertCall, removeCall, clearCall, pointCall, windowCall, nearestCall, emptyCall}
 
 module _ {S : Space} {Win : Window S} where
-  -- "The record is fed each call's kind, its arguments other than lent lists, and whether it was accepted; it never looks at the memory."
+  -- "The record is fed each call's kind, its arguments other than lent lists, and whether it was accepted; it never
+  -- looks at the memory."
   unfoldable pub recorded : List (EntryOf S) → Call S Win → Bool → List (EntryOf S)
   -- "An accepted insertion puts its entry last."
   recorded r (insertCall e) true = r ++ (e ∷ [])

@@ -10,7 +10,8 @@ use Rattle.tree.specs.Tree.{Index}
 use Rattle.tree.specs.Split.{branchIf}
 
 module _ (S : Space) where
-  -- An item with the entries that pass t: "closes the gap, removes an emptied leaf and emptied nodes above". q says what becomes of a polygon.
+  -- An item with the entries that pass t: "closes the gap, removes an emptied leaf and emptied nodes above". q says
+  -- what becomes of a polygon.
   unfoldable pub prune : (n : ℕ) → (EntryOf S → Bool) → (S .Poly → S .Poly) → Item S n → List (Item S n)
   prune zero t q e = cond (t e) (e ∷ []) []
   prune (suc n) t q b = branchIf S (q (b .poly)) (flatMap (prune n t q) (b .child))

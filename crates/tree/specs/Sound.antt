@@ -1,4 +1,5 @@
--- Document 01, 'The tree and its memory': "Sound means: ..", clause by clause, for the items of one node and all below it.
+-- Document 01, 'The tree and its memory': "Sound means: ..", clause by clause, for the items of one node and all below
+-- it.
 -- docs/RULES.md 3.1, 3.2, 3.7
 use Prim.Native.Nat.{ℕ, zero, suc, _≤_}
 use mathlib.Core.Bool.{true}
@@ -14,7 +15,8 @@ module _ (S : Space) where
   abbrev pub Within : (n : ℕ) → S .Poly → Item S n → Type 0
   Within n p x = (c : S .Cell) → itemHas S n x c ≡ true → S .has p c ≡ true
 
-  -- "siblings share no cell"; "no cell has two entries", said of one leaf's entries: of two leaves it follows, as they share no cell and contain their entries (cell-once in proofs/Leaves).
+  -- "siblings share no cell"; "no cell has two entries", said of one leaf's entries: of two leaves it follows, as they
+  -- share no cell and contain their entries (cell-once in proofs/Leaves).
   abbrev pub Apart : (n : ℕ) → Item S n → Item S n → Type 0
   Apart n x y = (c : S .Cell) → itemHas S n x c ≡ true → itemHas S n y c ≡ true → ⊥
 

@@ -27,7 +27,8 @@ pub record Chosen (P A : Type 0) : Type 0 where
   pub grown : P
   pub after : List (Branch P A)
 
--- What the tree needs of the plane. The tree's rules are stated over any such operations; for document 01 they are those of its rectangles.
+-- What the tree needs of the plane. The tree's rules are stated over any such operations; for document 01 they are
+-- those of its rectangles.
 pub record Space : Type 1 where
   pub Cell : Type 0
   pub Poly : Type 0

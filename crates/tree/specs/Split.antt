@@ -14,7 +14,8 @@ module _ (S : Space) where
   branchIf p [] = []
   branchIf p (x ∷ xs) = record { poly = p; child = x ∷ xs } ∷ []
 
-  -- What is left of an item on one side of a line, one item or none: an entry is on the side or not; the polygon of a branch is clipped, and "Branches are split recursively at the same line".
+  -- What is left of an item on one side of a line, one item or none: an entry is on the side or not; the polygon of a
+  -- branch is clipped, and "Branches are split recursively at the same line".
   unfoldable pub half : (n : ℕ) → Side (S .Line) → Item S n → List (Item S n)
   half zero s e = cond (on S s (e .cell)) (e ∷ []) []
   half (suc n) s b = branchIf (S .clip s (b .poly)) (flatMap (half n s) (b .child))
@@ -32,7 +33,8 @@ module _ (S : Space) where
   abbrev pub halves : (n : ℕ) → S .Line → Item S (suc n) → List (Item S (suc n))
   halves n l b = half (suc n) (left l) b ++ half (suc n) (right l) b
 
-  -- "a node with nine is split at a line": the branches that take the place of a node with the polygon p and these items, one or two.
+  -- "a node with nine is split at a line": the branches that take the place of a node with the polygon p and these
+  -- items, one or two.
   unfoldable pub split : (n : ℕ) → S .Poly → List (Item S n) → List (Item S (suc n))
   split n p items =
       let whole : Item S (suc n) = record { poly = p; child = items } in

@@ -13,7 +13,9 @@ use Rattle.tree.specs.Space.{Branch, Chosen}
 use Rattle.tree.specs.Boxes.{Boxes, Poly, anyHas, extra}
 
 module _ (B : Boxes) where
-  -- The polygon with one rectangle k grown to the cell: "Grow it; cut the grown one ..; replace each piece ..; put the pieces where the chosen rectangle stood; refine." p is the parent's polygon. Nothing where there are pieces over 256, or "the refined polygon over 16".
+  -- The polygon with one rectangle k grown to the cell: "Grow it; cut the grown one ..; replace each piece ..; put the
+  -- pieces where the chosen rectangle stood; refine." p is the parent's polygon. Nothing where there are pieces over
+  -- 256, or "the refined polygon over 16".
   unfoldable pub grownPoly : Poly B → Poly B → Focus (B .Box) → B .Cell → Option (Poly B)
   grownPoly p siblings k c =
       bind (cutEach (B .cut) (B .grow (k .at) c ∷ []) siblings) λ pieces.

@@ -9,8 +9,8 @@ use Rattle.tree.specs.Nodes.{EntryOf, Item, held, nodes}
 use Rattle.tree.specs.Sound.{Count, SoundItems}
 use Rattle.tree.specs.Root.{Root}
 
--- A tree that is not empty, with polygons P: its leaves lie level steps below the root, whose items are of the type I level.
--- So "leaves are equally deep" by its type. No plane stands in it: trees of all fanouts are one type.
+-- A tree that is not empty, with polygons P: its leaves lie level steps below the root, whose items are of the type I
+-- level. So "leaves are equally deep" by its type. No plane stands in it: trees of all fanouts are one type.
 pub record TreeOf (P : Type 0) (I : ℕ → Type 0) : Type 0 where
   pub level : ℕ
   pub root : P

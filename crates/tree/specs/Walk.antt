@@ -1,4 +1,5 @@
--- The walk that code makes for a query: it enters only nodes whose polygon passes a test. Not stated by document 01; proofs/Walk shows that it gives a query's visits and entries.
+-- The walk that code makes for a query: it enters only nodes whose polygon passes a test. Not stated by document 01;
+-- proofs/Walk shows that it gives a query's visits and entries.
 use Prim.Native.Nat.{ℕ, zero, suc, _+_}
 use mathlib.Core.Bool.{Bool, cond}
 use mathlib.Core.List.{List, [], flatMap}

@@ -38,13 +38,14 @@ wayAt (suc n) path m e = record {
   after = drop (placeOn path (suc n) + 1) (rowAt n m (partOn path (suc n)));
 }
 
--- What is written for the node on the path at a level, under sides: the items of its row, and the one or two branches that take
--- its place. It is what the tree's definitions write of the way above where the path has the way's lines.
+-- What is written for the node on the path at a level, under sides: the items of its row, and the one or two branches
+-- that take its place. It is what the tree's definitions write of the way above where the path has the way's lines.
 unfoldable pub rowUnder : (n : ℕ) → List ℕ → List ℕ → CellEntry → List (Side Line) → List (Item indexSpace n)
 rowUnder zero path m e ss = flatMap (deep indexSpace zero ss) (wayAt zero path m e)
 rowUnder (suc n) path m e ss =
     flatMap (deep indexSpace (suc n) ss) (take (placeOn path (suc n)) (rowAt n m (partOn path (suc n))))
-    ++ (cutInto indexSpace (eqb (lineOn path n) 0) (numberedLine (lineOn path n)) (polygonOn path n) (λ ts. rowUnder n path m e ts) ss
+    ++ (cutInto indexSpace (eqb (lineOn path n) 0) (numberedLine (lineOn path n)) (polygonOn path n)
+    (λ ts. rowUnder n path m e ts) ss
     ++ flatMap (deep indexSpace (suc n) ss) (drop (placeOn path (suc n) + 1) (rowAt n m (partOn path (suc n)))))
 
 -- the node itself under sides: no branch where nothing remains, unless there are no sides
@@ -54,7 +55,8 @@ halfUnder n path m e ss = branchUnder indexSpace ss (polygonOn path n) (rowUnder
 -- the one or two branches that take its place
 unfoldable pub cutUnder : (n : ℕ) → List ℕ → List ℕ → CellEntry → List (Side Line) → List (Item indexSpace (suc n))
 cutUnder n path m e ss =
-    cutInto indexSpace (eqb (lineOn path n) 0) (numberedLine (lineOn path n)) (polygonOn path n) (λ ts. rowUnder n path m e ts) ss
+    cutInto indexSpace (eqb (lineOn path n) 0) (numberedLine (lineOn path n)) (polygonOn path n)
+    (λ ts. rowUnder n path m e ts) ss
 
 -- the tree that is written: the root is split or not
 unfoldable pub plannedTree : (n : ℕ) → List ℕ → List ℕ → CellEntry → Tree indexSpace
@@ -63,7 +65,8 @@ plannedTree n path m e =
     (record { level = n; root = polygonOn path n; items = rowUnder n path m e [] })
     (record { level = suc n; root = polygonOn path n; items = cutUnder n path m e [] })
 
--- A level of the path: its node reads in the memory, its polygon has at most 16 rectangles, its line is a line's number or 0.
+-- A level of the path: its node reads in the memory, its polygon has at most 16 rectangles, its line is a line's
+-- number or 0.
 pub record PathNode (n : ℕ) (path m : List ℕ) : Type 0 where
   pub walk : Walkable n m 0 (partOn path n)
   pub room : HasLevel n path
@@ -73,4 +76,5 @@ pub record PathNode (n : ℕ) (path m : List ℕ) : Type 0 where
 -- A path from a level down to the leaf.
 unfoldable pub PathFrom : (n : ℕ) → List ℕ → List ℕ → Type 0
 PathFrom zero path m = PathNode zero path m
-PathFrom (suc n) path m = PathNode (suc n) path m × (placeOn path (suc n) < countAt m (partOn path (suc n))) × PathFrom n path m
+PathFrom (suc n) path m = PathNode (suc n) path m × (placeOn path (suc n) < countAt m (partOn path (suc n)))
+    × PathFrom n path m

@@ -42,7 +42,8 @@ nodeParts ss count = cond (kept ss count) 1 0
 unfoldable pub branchNumbers : List Rect → Node → List ℕ → List ℕ
 branchNumbers p n ss = cond (kept ss (n .count)) (nodePart (clips indexSpace (sidesOf ss) p) (n .count) (n .items)) []
 
--- A node with the polygon p under sides was written to w at part next, if it is kept, which gives w'; r is the next free part.
+-- A node with the polygon p under sides was written to w at part next, if it is kept, which gives w'; r is the next
+-- free part.
 pub record NodeWritten (p : List Rect) (n : Node) (ss w : List ℕ) (next : ℕ) (w' : List ℕ) (r : ℕ) : Type 0 where
   pub next-is : r ≡ next + nodeParts ss (n .count)
   pub written : take (64 + 128 * r) w' ≡ take (64 + 128 * next) w ++ branchNumbers p n ss
@@ -64,11 +65,13 @@ abbrev pub noBranches : ℕ → Branches
 noBranches next = record { next = next; node = nodeOf 0 [] }
 
 -- Some branches were written to w behind those with the top nodes t, which gives w' and the top nodes t'.
-pub record Grows (n : ℕ) (w : List ℕ) (t : Branches) (bs : List (Item indexSpace (suc n))) (w' : List ℕ) (t' : Branches) : Type 0 where
+pub record Grows (n : ℕ) (w : List ℕ) (t : Branches) (bs : List (Item indexSpace (suc n))) (w' : List ℕ)
+    (t' : Branches) : Type 0 where
   pub writes : Writes n w (t .next) bs w' (t' .next)
   pub count-is : t' .node .count ≡ t .node .count + length bs
   -- their top nodes follow the children that the node had
-  pub children : (ks : List ℕ) → t .node ≡ routingOf ks → t' .node ≡ routingOf (ks ++ writeRow (writeNode fanout n) (t .next) bs .roots)
+  pub children : (ks : List ℕ) → t .node ≡ routingOf ks
+      → t' .node ≡ routingOf (ks ++ writeRow (writeNode fanout n) (t .next) bs .roots)
 
 -- what remains under sides of the branches of the node at part k from the a-th to before the b-th
 unfoldable pub rangeUnder : (n : ℕ) → List ℕ → ℕ → ℕ → ℕ → List ℕ → List (Item indexSpace (suc n))
@@ -81,14 +84,18 @@ beforeOn n path m ss = rangeUnder (n - 1) m (partOn path n) 0 (placeOn path n) s
 abbrev pub behindOn : (n : ℕ) → List ℕ → List ℕ → List ℕ → List (Item indexSpace (suc (n - 1)))
 behindOn n path m ss = rangeUnder (n - 1) m (partOn path n) (placeOn path n + 1) (countAt m (partOn path n)) ss
 
--- The last branches of a node were written to w behind those with the top nodes t, and then the node itself, which gives w'.
-pub record RestWritten (n : ℕ) (p : List Rect) (ss : List ℕ) (bs : List (Item indexSpace (suc n))) (w : List ℕ) (t : Branches) (w' : List ℕ) (r : ℕ) : Type 0 where
+-- The last branches of a node were written to w behind those with the top nodes t, and then the node itself, which
+-- gives w'.
+pub record RestWritten (n : ℕ) (p : List Rect) (ss : List ℕ) (bs : List (Item indexSpace (suc n))) (w : List ℕ)
+    (t : Branches) (w' : List ℕ) (r : ℕ) : Type 0 where
   pub mid : List ℕ
   pub all : Branches
   pub branches : Grows n w t bs mid all
   pub top : NodeWritten p (all .node) ss mid (all .next) w' r
 
 -- Those branches and the node fit into w.
-pub record RestRoom (n : ℕ) (ss : List ℕ) (bs : List (Item indexSpace (suc n))) (w : List ℕ) (t : Branches) : Type 0 where
-  pub fits : 64 + 128 * (t .next + total (nodes indexSpace (suc n)) bs + nodeParts ss (t .node .count + length bs)) ≤ length w
+pub record RestRoom (n : ℕ) (ss : List ℕ) (bs : List (Item indexSpace (suc n))) (w : List ℕ)
+    (t : Branches) : Type 0 where
+  pub fits : 64 + 128 * (t .next + total (nodes indexSpace (suc n)) bs + nodeParts ss
+      (t .node .count + length bs)) ≤ length w
   pub small : length w ≤ 32832

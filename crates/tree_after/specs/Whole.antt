@@ -19,5 +19,6 @@ pub record TreeWritten (w : List ℕ) (t : Tree indexSpace) (w' : List ℕ) (r :
   pub parts-is : r .parts ≡ nodeCount indexSpace (some t)
   pub height-is : r .height ≡ suc (t .level)
   -- the parts behind the first 64 numbers, which are as they were
-  pub written : take (64 + 128 * r .parts) w' ≡ take 64 w ++ flatMap (λ p. p) (writeNode fanout (t .level) 0 (top indexSpace t))
+  pub written : take (64 + 128 * r .parts) w' ≡ take 64 w
+      ++ flatMap (λ p. p) (writeNode fanout (t .level) 0 (top indexSpace t))
   pub same-length : length w' ≡ length w

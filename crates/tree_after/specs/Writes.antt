@@ -1,4 +1,5 @@
--- Writing nodes into a work area, append-only: a part for each node, children before their node, in the form of the memory's image.
+-- Writing nodes into a work area, append-only: a part for each node, children before their node, in the form of the
+-- memory's image.
 use Prim.Native.Nat.{ℕ, suc, _+_, _*_, _≤_, min}
 use mathlib.Core.List.{List, [], _++_, flatMap}
 use mathlib.Core.Option.{Option, none, some}
@@ -13,9 +14,11 @@ use Rattle.plane.specs.Fanout.{fanout, indexSpace}
 use Rattle.split_line.specs.Sides.{sidesOf}
 
 -- The nodes of some branches were written to w from part next on, which gives w'; next' is the next free part.
-pub record Writes (n : ℕ) (w : List ℕ) (next : ℕ) (bs : List (Item indexSpace (suc n))) (w' : List ℕ) (next' : ℕ) : Type 0 where
+pub record Writes (n : ℕ) (w : List ℕ) (next : ℕ) (bs : List (Item indexSpace (suc n))) (w' : List ℕ)
+    (next' : ℕ) : Type 0 where
   -- what stood before them is kept, and they follow
-  pub written : take (64 + 128 * next') w' ≡ take (64 + 128 * next) w ++ flatMap (λ p. p) (writeRow (writeNode fanout n) next bs .parts)
+  pub written : take (64 + 128 * next') w' ≡ take (64 + 128 * next) w
+      ++ flatMap (λ p. p) (writeRow (writeNode fanout n) next bs .parts)
   pub next-is : next' ≡ next + total (nodes indexSpace (suc n)) bs
   pub same-length : length w' ≡ length w
 

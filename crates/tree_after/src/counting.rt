@@ -87,8 +87,8 @@ pub fn count_below(m: &[u32], level: u32, lo: u32, k: u32, sides: &[u32]) -> u32
     capped_sum(nodes, 1)
 }
 
-// How many nodes remain of the branches of the node at part k, from one place up to another, with those counted before; level is that of
-// the branches.
+// How many nodes remain of the branches of the node at part k, from one place up to another, with those counted
+// before; level is that of the branches.
 fn count_branches(
     m: &[u32],
     level: u32,
@@ -102,7 +102,8 @@ fn count_branches(
     requires { ⌜ from ≤ to ⌝ }
     requires { ⌜ to ≤ countAt (now m) k ⌝ }
     requires { ⌜ start ≤ countLimit ⌝ }
-    ensures { λ r. ⌜ r ≡ min countLimit (start + counted level (rangeUnder level (now (m .entry)) k from to (now (sides .entry)))) ⌝ }
+    ensures { λ r. ⌜ r ≡ min countLimit
+        (start + counted level (rangeUnder level (now (m .entry)) k from to (now (sides .entry)))) ⌝ }
 {
     let node = node_at(m, k);
     let mut nodes = start;
@@ -119,7 +120,9 @@ fn count_branches(
 // How many nodes remain of the branches before and behind the place of the path at a level.
 pub fn count_others(m: &[u32], path: &[u32], level: u32, sides: &[u32]) -> u32
     requires { ⌜ PathStep level (now path) (now m) ⌝ }
-    ensures { λ r. ⌜ r ≡ min countLimit (counted (level - 1) (beforeOn level (now (path .entry)) (now (m .entry)) (now (sides .entry))) + counted (level - 1) (behindOn level (now (path .entry)) (now (m .entry)) (now (sides .entry)))) ⌝ }
+    ensures { λ r. ⌜ r ≡ min countLimit
+        (counted (level - 1) (beforeOn level (now (path .entry)) (now (m .entry)) (now (sides .entry))) + counted
+        (level - 1) (behindOn level (now (path .entry)) (now (m .entry)) (now (sides .entry)))) ⌝ }
 {
     let n = level as usize;
     let k = part_on(path, n);
@@ -143,7 +146,8 @@ fn count_node(sides: &[u32], nodes: u32) -> u32
 // How many nodes remain of the leaf on the path, with the new entry: one or none.
 fn count_path_leaf(m: &[u32], path: &[u32], sides: &[u32], e: Entry) -> u32
     requires { ⌜ PathNode 0 (now path) (now m) ⌝ }
-    ensures { λ r. ⌜ r ≡ counted 0 (halfUnder 0 (now (path .entry)) (now (m .entry)) (treeEntry e) (sidesOf (now (sides .entry)))) ⌝ }
+    ensures { λ r. ⌜ r ≡ counted 0 (halfUnder 0 (now (path .entry)) (now (m .entry)) (treeEntry e)
+        (sidesOf (now (sides .entry)))) ⌝ }
 {
     let leaf = gather_with(part_at(m, part_on(path, 0)), sides, e);
     if is_kept(sides, leaf.count) {
@@ -156,7 +160,8 @@ fn count_path_leaf(m: &[u32], path: &[u32], sides: &[u32], e: Entry) -> u32
 pub fn count_half(m: &[u32], path: &[u32], level: u32, sides: &[u32], e: Entry) -> u32
     requires { ⌜ PathFrom level (now path) (now m) ⌝ }
     requires { ⌜ length (now sides) + level ≤ 256 ⌝ }
-    ensures { λ r. ⌜ r ≡ counted level (halfUnder level (now (path .entry)) (now (m .entry)) (treeEntry e) (sidesOf (now (sides .entry)))) ⌝ }
+    ensures { λ r. ⌜ r ≡ counted level
+        (halfUnder level (now (path .entry)) (now (m .entry)) (treeEntry e) (sidesOf (now (sides .entry)))) ⌝ }
 {
     if level == 0 {
         return count_path_leaf(m, path, sides, e);
@@ -182,7 +187,8 @@ pub fn count_half(m: &[u32], path: &[u32], level: u32, sides: &[u32], e: Entry) 
 pub fn count_tree(m: &[u32], path: &[u32], level: u32, e: Entry) -> u32
     requires { ⌜ PathFrom level (now path) (now m) ⌝ }
     requires { ⌜ level ≤ 255 ⌝ }
-    ensures { λ r. ⌜ r ≡ min countLimit (nodeCount indexSpace (some (plannedTree level (now (path .entry)) (now (m .entry)) (treeEntry e)))) ⌝ }
+    ensures { λ r. ⌜ r ≡ min countLimit
+        (nodeCount indexSpace (some (plannedTree level (now (path .entry)) (now (m .entry)) (treeEntry e)))) ⌝ }
 {
     let line = line_on(path, level as usize);
     if line == 0 {

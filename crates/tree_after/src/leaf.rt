@@ -66,7 +66,8 @@ pub fn gather(p: &[u32], sides: &[u32]) -> Node
 // The leaf with the entries of a leaf's part and a new one behind them, those on every side.
 pub fn gather_with(p: &[u32], sides: &[u32], e: Entry) -> Node
     requires { ⌜ NodePart (now p) ⌝ }
-    ensures { λ r. ⌜ r ≡ leafOf (keep (onTest (now (sides .entry))) (entriesIn (now (p .entry)) (itemCount (now (p .entry))) ++ (treeEntry e ∷ []))) ⌝ }
+    ensures { λ r. ⌜ r ≡ leafOf (keep (onTest (now (sides .entry)))
+        (entriesIn (now (p .entry)) (itemCount (now (p .entry))) ++ (treeEntry e ∷ []))) ⌝ }
 {
     let remaining = gather(p, sides);
     if on_all(sides, e.cell) {

@@ -1,4 +1,5 @@
-// The tree after an insertion, written into the work area: a part for each node, children before their node, append-only.
+// The tree after an insertion, written into the work area: a part for each node, children before their node,
+// append-only.
 mod counting;
 mod leaf;
 mod node;

@@ -68,12 +68,13 @@ impl Branches {
     }
 }
 
-// Writes what remains of a part's node under the sides to the part next of the work area: its polygon clipped, and the node with the items
-// that remain.
+// Writes what remains of a part's node under the sides to the part next of the work area: its polygon clipped, and the
+// node with the items that remain.
 pub fn put_remaining(p: &[u32], remaining: Node, sides: &[u32], work: &mut [u32], next: u32)
     requires { ⌜ NodePart (now p) ⌝ }
     requires { ⌜ PartRoom (now work) next ⌝ }
-    ensures { λ _. ⌜ PartPut (now (work .entry)) next (remainingPart (now (sides .entry)) (now (p .entry)) remaining) (now (work .exit)) ⌝ }
+    ensures { λ _. ⌜ PartPut (now (work .entry)) next (remainingPart (now (sides .entry)) (now (p .entry)) remaining)
+        (now (work .exit)) ⌝ }
 {
     let whole = Polygon::load(rects(p), rect_count(p) as usize);
     let polygon = clipped(whole, sides);

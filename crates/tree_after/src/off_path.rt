@@ -18,12 +18,14 @@ use layout::copy_part;
 use layout::node_at;
 use layout::part_at;
 
-// Copies the subtree at part k, whose parts are those from lo on, into the parts of the work area from next on; answers the next free part.
-// Only the numbers of a node's children change: they are the parts that the children were copied to.
+// Copies the subtree at part k, whose parts are those from lo on, into the parts of the work area from next on;
+// answers the next free part. Only the numbers of a node's children change: they are the parts that the children were
+// copied to.
 pub fn copy_below(m: &[u32], level: u32, lo: u32, k: u32, work: &mut [u32], next: u32) -> u32
     requires { ⌜ Walkable level (now m) lo k ⌝ }
     requires { ⌜ Room level (now work) next (deepAt level (now m) lo k []) ⌝ }
-    ensures { λ r. ⌜ Writes level (now (work .entry)) next (deepAt level (now (m .entry)) lo k []) (now (work .exit)) r ⌝ }
+    ensures { λ r. ⌜ Writes level (now (work .entry)) next (deepAt level (now (m .entry)) lo k [])
+        (now (work .exit)) r ⌝ }
 {
     if level == 0 {
         copy_part(part_at(m, k), work, next);
@@ -53,7 +55,8 @@ fn write_leaf(p: &[u32], sides: &[u32], work: &mut [u32], next: u32) -> u32
     requires { ⌜ NodePart (now p) ⌝ }
     requires { ⌜ 1 ≤ length (now sides) ⌝ }
     requires { ⌜ Room 0 (now work) next (leafUnder (now sides) (now p)) ⌝ }
-    ensures { λ r. ⌜ Writes 0 (now (work .entry)) next (leafUnder (now (sides .entry)) (now (p .entry))) (now (work .exit)) r ⌝ }
+    ensures { λ r. ⌜ Writes 0 (now (work .entry)) next (leafUnder (now (sides .entry)) (now (p .entry)))
+        (now (work .exit)) r ⌝ }
 {
     let remaining = gather(p, sides);
     if remaining.count == 0 {
@@ -75,7 +78,8 @@ pub fn write_below(
 ) -> u32
     requires { ⌜ Walkable level (now m) lo k ⌝ }
     requires { ⌜ Room level (now work) next (deepAt level (now m) lo k (now sides)) ⌝ }
-    ensures { λ r. ⌜ Writes level (now (work .entry)) next (deepAt level (now (m .entry)) lo k (now (sides .entry))) (now (work .exit)) r ⌝ }
+    ensures { λ r. ⌜ Writes level (now (work .entry)) next (deepAt level (now (m .entry)) lo k (now (sides .entry)))
+        (now (work .exit)) r ⌝ }
 {
     if sides.len() == 0 {
         return copy_below(m, level, lo, k, work, next);
@@ -108,7 +112,8 @@ pub fn write_below(
     free + 1
 }
 
-// Writes what remains under the sides of the branches of the node at part k, from one place up to another; level is that of the branches.
+// Writes what remains under the sides of the branches of the node at part k, from one place up to another; level is
+// that of the branches.
 pub fn write_branches(
     m: &[u32],
     level: u32,
@@ -124,7 +129,8 @@ pub fn write_branches(
     requires { ⌜ to ≤ countAt (now m) k ⌝ }
     requires { ⌜ branches .node .count + to ≤ 9 + from ⌝ }
     requires { ⌜ Room level (now work) (branches .next) (rangeUnder level (now m) k from to (now sides)) ⌝ }
-    ensures { λ r. ⌜ Grows level (now (work .entry)) branches (rangeUnder level (now (m .entry)) k from to (now (sides .entry))) (now (work .exit)) r ⌝ }
+    ensures { λ r. ⌜ Grows level (now (work .entry)) branches
+        (rangeUnder level (now (m .entry)) k from to (now (sides .entry))) (now (work .exit)) r ⌝ }
 {
     let node = node_at(m, k);
     let mut out = branches;

@@ -37,7 +37,9 @@ pub fn write_path_leaf(
 ) -> u32
     requires { ⌜ PathNode 0 (now path) (now m) ⌝ }
     requires { ⌜ Room 0 (now work) next (halfUnder 0 (now path) (now m) (treeEntry e) (sidesOf (now sides))) ⌝ }
-    ensures { λ r. ⌜ Writes 0 (now (work .entry)) next (halfUnder 0 (now (path .entry)) (now (m .entry)) (treeEntry e) (sidesOf (now (sides .entry)))) (now (work .exit)) r ⌝ }
+    ensures { λ r. ⌜ Writes 0 (now (work .entry)) next
+        (halfUnder 0 (now (path .entry)) (now (m .entry)) (treeEntry e) (sidesOf (now (sides .entry))))
+        (now (work .exit)) r ⌝ }
 {
     let leaf = gather_with(part_at(m, part_on(path, 0)), sides, e);
     let p = polygon_on(path, 0);
@@ -55,7 +57,8 @@ fn write_before(
 ) -> Branches
     requires { ⌜ PathStep level (now path) (now m) ⌝ }
     requires { ⌜ Room (level - 1) (now work) next (beforeOn level (now path) (now m) (now sides)) ⌝ }
-    ensures { λ t. ⌜ Grows (level - 1) (now (work .entry)) (noBranches next) (beforeOn level (now (path .entry)) (now (m .entry)) (now (sides .entry))) (now (work .exit)) t ⌝ }
+    ensures { λ t. ⌜ Grows (level - 1) (now (work .entry)) (noBranches next)
+        (beforeOn level (now (path .entry)) (now (m .entry)) (now (sides .entry))) (now (work .exit)) t ⌝ }
 {
     let n = level as usize;
     let k = part_on(path, n);
@@ -64,7 +67,8 @@ fn write_before(
     write_branches(m, level - 1, k, 0, place, sides, work, branches)
 }
 
-// Writes what remains of the branches behind the place of the path at a level, then its node; answers the next free part.
+// Writes what remains of the branches behind the place of the path at a level, then its node; answers the next free
+// part.
 fn write_rest(
     m: &[u32],
     path: &[u32],
@@ -75,8 +79,11 @@ fn write_rest(
 ) -> u32
     requires { ⌜ PathStep level (now path) (now m) ⌝ }
     requires { ⌜ branches .node .count ≤ placeOn (now path) level + 2 ⌝ }
-    requires { ⌜ RestRoom (level - 1) (now sides) (behindOn level (now path) (now m) (now sides)) (now work) branches ⌝ }
-    ensures { λ r. ⌜ RestWritten (level - 1) (polygonOn (now (path .entry)) level) (now (sides .entry)) (behindOn level (now (path .entry)) (now (m .entry)) (now (sides .entry))) (now (work .entry)) branches (now (work .exit)) r ⌝ }
+    requires { ⌜ RestRoom (level - 1) (now sides) (behindOn level (now path) (now m) (now sides))
+        (now work) branches ⌝ }
+    ensures { λ r. ⌜ RestWritten (level - 1) (polygonOn (now (path .entry)) level) (now (sides .entry))
+        (behindOn level (now (path .entry)) (now (m .entry)) (now (sides .entry))) (now (work .entry)) branches
+        (now (work .exit)) r ⌝ }
 {
     let n = level as usize;
     let k = part_on(path, n);
@@ -88,8 +95,8 @@ fn write_rest(
     write_node(p, node, sides, work, all.next)
 }
 
-// Writes what remains under the sides of the node on the path at a level, with all below it and the new entry in its leaf; answers the
-// next free part. A node on the path that is split is written once for each side of its line.
+// Writes what remains under the sides of the node on the path at a level, with all below it and the new entry in its
+// leaf; answers the next free part. A node on the path that is split is written once for each side of its line.
 pub fn write_half(
     m: &[u32],
     path: &[u32],
@@ -102,7 +109,9 @@ pub fn write_half(
     requires { ⌜ PathFrom level (now path) (now m) ⌝ }
     requires { ⌜ length (now sides) + level ≤ 256 ⌝ }
     requires { ⌜ Room level (now work) next (halfUnder level (now path) (now m) (treeEntry e) (sidesOf (now sides))) ⌝ }
-    ensures { λ r. ⌜ Writes level (now (work .entry)) next (halfUnder level (now (path .entry)) (now (m .entry)) (treeEntry e) (sidesOf (now (sides .entry)))) (now (work .exit)) r ⌝ }
+    ensures { λ r. ⌜ Writes level (now (work .entry)) next
+        (halfUnder level (now (path .entry)) (now (m .entry)) (treeEntry e) (sidesOf (now (sides .entry))))
+        (now (work .exit)) r ⌝ }
 {
     if level == 0 {
         return write_path_leaf(m, path, sides, e, work, next);
@@ -132,14 +141,21 @@ pub struct Written {
     pub height: u32,
 }
 
-// Writes the two halves of a root that is split, and a new root on top of them with the same polygon; answers how many parts.
+// Writes the two halves of a root that is split, and a new root on top of them with the same polygon; answers how many
+// parts.
 fn write_split(m: &[u32], path: &[u32], level: u32, e: Entry, work: &mut [u32]) -> u32
     requires { ⌜ PathNode level (now path) (now m) ⌝ }
     requires { ⌜ PathFrom level (now path) (now m) ⌝ }
     requires { ⌜ level ≤ 255 ⌝ }
     requires { ⌜ (lineOn (now path) level ≡ 0 → ⊥) ⌝ }
-    requires { ⌜ RestRoom level [] (cutUnder level (now path) (now m) (treeEntry e) (sidesOf [])) (now work) (noBranches 0) ⌝ }
-    ensures { λ r. ⌜ Writes (suc level) (now (work .entry)) 0 (record { poly = polygonOn (now (path .entry)) level; child = cutUnder level (now (path .entry)) (now (m .entry)) (treeEntry e) [] } ∷ []) (now (work .exit)) r ⌝ }
+    requires { ⌜ RestRoom level [] (cutUnder level (now path) (now m) (treeEntry e) (sidesOf []))
+        (now work) (noBranches 0) ⌝ }
+    ensures { λ r. ⌜ Writes (suc level) (now (work .entry)) 0
+        (record {
+          poly = polygonOn (now (path .entry)) level;
+          child = cutUnder level (now (path .entry))
+              (now (m .entry)) (treeEntry e) [];
+        } ∷ []) (now (work .exit)) r ⌝ }
 {
     let n = level as usize;
     let line = line_on(path, n);
@@ -161,7 +177,8 @@ pub fn write_tree(m: &[u32], path: &[u32], level: u32, e: Entry, work: &mut [u32
     requires { ⌜ PathFrom level (now path) (now m) ⌝ }
     requires { ⌜ level ≤ 255 ⌝ }
     requires { ⌜ TreeRoom (now work) (plannedTree level (now path) (now m) (treeEntry e)) ⌝ }
-    ensures { λ r. ⌜ TreeWritten (now (work .entry)) (plannedTree level (now (path .entry)) (now (m .entry)) (treeEntry e)) (now (work .exit)) r ⌝ }
+    ensures { λ r. ⌜ TreeWritten (now (work .entry))
+        (plannedTree level (now (path .entry)) (now (m .entry)) (treeEntry e)) (now (work .exit)) r ⌝ }
 {
     let line = line_on(path, level as usize);
     if line == 0 {

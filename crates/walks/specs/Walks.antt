@@ -69,8 +69,8 @@ matchesBelow w n m lo k = entriesBelow (meetsTest w) (insideTest w) n m lo k
 unfoldable pub leafEntries : (CellEntry → Bool) → List ℕ → List CellEntry
 leafEntries u p = keep u (entriesIn p (itemCount p))
 
--- A memory of a right length has a node at part k that reads, with its subtree in the parts from lo on. The bounds follow from that (the
--- law walkable).
+-- A memory of a right length has a node at part k that reads, with its subtree in the parts from lo on. The bounds
+-- follow from that (the law walkable).
 pub record Walkable (n : ℕ) (m : List ℕ) (lo k : ℕ) : Type 0 where
   pub right : isIndexLength m ≡ true
   pub from : lo ≤ k

@@ -1,5 +1,5 @@
--- Request A.4, a polygon as Well-Known Binary: 'byte order 1, type 7 (GeometryCollection), the rectangle count, then per
--- rectangle a Polygon (byte order 1, type 3, one ring, five points).'
+-- Request A.4, a polygon as Well-Known Binary: 'byte order 1, type 7 (GeometryCollection), the rectangle count, then
+-- per rectangle a Polygon (byte order 1, type 3, one ring, five points).'
 -- docs/RULES.md 2.29 to 2.31
 use Prim.Native.Nat.{ℕ, _+_, _*_}
 use mathlib.Core.List.{List, [], _∷_, _++_, flatMap}

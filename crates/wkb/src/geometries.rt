@@ -34,7 +34,8 @@ fn put_point(out: &mut [u8], at: usize, x: u32, y: u32)
 // Two points with the same y: a side of the ring.
 fn put_side(out: &mut [u8], at: usize, from: u32, to: u32, y: u32)
     requires { ⌜ at + 32 ≤ length (now out) ⌝ }
-    ensures { λ _. ⌜ now (out .exit) ≡ overwritten (now (out .entry)) at (pointBytes (from, y) ++ pointBytes (to, y)) ⌝ }
+    ensures { λ _. ⌜ now (out .exit)
+        ≡ overwritten (now (out .entry)) at (pointBytes (from, y) ++ pointBytes (to, y)) ⌝ }
 {
     put_point(out, at, from, y);
     put_point(out, at + 16, to, y);
@@ -64,7 +65,8 @@ fn put_polygon(out: &mut [u8], at: usize, r: Rect)
 pub fn put_collection(list: &[u32], n: usize, out: &mut [u8])
     requires { ⌜ 4 * n ≤ length (now list) ⌝ }
     requires { ⌜ 9 + 93 * n ≤ length (now out) ⌝ }
-    ensures { λ _. ⌜ now (out .exit) ≡ overwritten (now (out .entry)) 0 (collectionBytes (rectsIn (now (list .entry)) n)) ⌝ }
+    ensures { λ _. ⌜ now (out .exit)
+        ≡ overwritten (now (out .entry)) 0 (collectionBytes (rectsIn (now (list .entry)) n)) ⌝ }
 {
     put_header(out, 0, 7, n as u64);
     let mut i = 0;

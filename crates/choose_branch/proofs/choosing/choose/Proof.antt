@@ -5,7 +5,7 @@ use Rattle.choose_branch.proofs.choosing.choose.Statement.{statement}
 use Rattle.choose_branch.proofs.choosing.choose.Tie as tie
 
 choose-branch-requires : tie.Need-choose-branch-requires
-choose-branch-requires c κs = (search branches-of, search needs, search needs)
+choose-branch-requires c κs = (search branches-of, (search needs, search needs))
 
 returns : tie.Need-returns
 returns c = search needs

@@ -15,7 +15,7 @@ first-with-requires : tie.Need-first-with-requires
 first-with-requires c κs = search needs
 
 choose-least-requires : tie.Need-choose-least-requires
-choose-least-requires c κs = (search needs, search none-first, search needs, search needs)
+choose-least-requires c κs = (search needs, (search none-first, (search needs, search needs)))
 
 returns : tie.Need-returns
 returns c = search needs

@@ -11,7 +11,7 @@ child-at-requires : tie.Need-child-at-requires
 child-at-requires c κs = search needs
 
 grown-rect-requires : tie.Need-grown-rect-requires
-grown-rect-requires c κs = (search child-polygon, search rect-counted, search needs)
+grown-rect-requires c κs = (search child-polygon, (search rect-counted, search needs))
 
 put-inner-requires : tie.Need-put-inner-requires
 put-inner-requires c κs = (search needs, search needs, search grown-good, search needs, search needs, search needs)
@@ -32,7 +32,7 @@ returns : tie.Need-returns
 returns c = (search grown-over, removed-over _ _)
 
 put-polygon-requires : tie.Need-put-polygon-requires
-put-polygon-requires c κs = (search child-polygon, search rect-counted, search few-of, search counted-room, search needs)
+put-polygon-requires c κs = (search child-polygon, (search rect-counted, (search few-of, (search counted-room, search needs))))
 
 same-length-3 : tie.Need-same-length-3
 same-length-3 c = search needs

@@ -49,7 +49,7 @@ sub-removed c = search left-less
 common-parts-requires : tie.Need-common-parts-requires
 common-parts-requires c κs =
     let f : c .before .before .before .before .before .before .cut .given .0 .0 ≤ 256 = search few-of in
-    (omega arith, search needs, search needs)
+    (omega arith, (search needs, search needs))
 
 same-length-3 : tie.Need-same-length-3
 same-length-3 c = search needs

@@ -19,7 +19,7 @@ cast-put-refined : tie.Need-cast-put-refined
 cast-put-refined c = search needs
 
 put-refined-requires : tie.Need-put-refined-requires
-put-refined-requires c κs = (search rect-below, search count-few, search polygon-few, search needs, search needs, search needs)
+put-refined-requires c κs = (search rect-below, (search count-few, (search polygon-few, (search needs, (search needs, search needs)))))
 
 same-length : tie.Need-same-length
 same-length c = search needs

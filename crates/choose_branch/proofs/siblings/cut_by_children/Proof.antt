@@ -7,10 +7,10 @@ use Rattle.choose_branch.proofs.siblings.cut_by_children.Statement.{sta
 use Rattle.choose_branch.proofs.siblings.cut_by_children.Tie as tie
 
 abbrev Inv-loop : tie.InvT-loop
-Inv-loop m k from to list₀ n spare₀ node left₀ i₀ list spare left i = CuttingBy m k from to list₀ n spare₀ list spare left i
+Inv-loop m k from to list₀ n spare₀ node remaining₀ i₀ list spare remaining i = CuttingBy m k from to list₀ n spare₀ list spare remaining i
 
 abbrev μ-loop : tie.MeasureT-loop
-μ-loop m k from to list₀ n spare₀ node left₀ i₀ list spare left i = to - i
+μ-loop m k from to list₀ n spare₀ node remaining₀ i₀ list spare remaining i = to - i
 
 node-at-requires : tie.Need-node-at-requires Inv-loop μ-loop
 node-at-requires c κs = search needs

@@ -29,7 +29,7 @@ unfolding validWithCell
 returns-3 c = search (bad-third, not-true, not-false)
 
 put-grown-requires : tie.Need-put-grown-requires
-put-grown-requires c κs = let f : length (c .before .before .before .before .before .before .before .before .args .list .now) / 4 ≤ 256 = search (list-few, not-false) in (omega arith, omega arith, search (told, not-false))
+put-grown-requires c κs = let f : length (c .before .before .before .before .before .before .before .before .args .list .now) / 4 ≤ 256 = search (list-few, not-false) in (omega arith, (omega arith, search (told, not-false)))
 
 same-length : tie.Need-same-length
 same-length c = search needs

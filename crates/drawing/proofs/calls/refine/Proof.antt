@@ -38,7 +38,7 @@ slice-aggregate-refine-in-2 : tie.Need-slice-aggregate-refine-in-2
 slice-aggregate-refine-in-2 c = search needs
 
 refine-in-requires-2 : tie.Need-refine-in-requires-2
-refine-in-requires-2 c κs = let f : length (c .before .before .before .before .before .before .before .before .args .list .now) / 4 ≤ 256 = search (list-few, not-false) in (omega arith, omega arith, omega arith)
+refine-in-requires-2 c κs = let f : length (c .before .before .before .before .before .before .before .before .args .list .now) / 4 ≤ 256 = search (list-few, not-false) in (omega arith, (omega arith, omega arith))
 
 same-length-2 : tie.Need-same-length-2
 same-length-2 c = search needs

@@ -50,7 +50,7 @@ slice-aggregate-cut-polygon-2 : tie.Need-slice-aggregate-cut-polygon-2
 slice-aggregate-cut-polygon-2 c = search needs
 
 cut-polygon-requires : tie.Need-cut-polygon-requires
-cut-polygon-requires c κs = let f : length (c .before .before .before .before .before .before .before .before .before .before .before .before .before .before .args .list .now) / 4 ≤ 256 = search (list-few, not-false) in let s : length (c .before .before .before .before .copy .last .1 .1 .0) ≡ 1088 = search (work-long, not-false) in (omega arith, search needs, omega arith, omega arith)
+cut-polygon-requires c κs = let f : length (c .before .before .before .before .before .before .before .before .before .before .before .before .before .before .args .list .now) / 4 ≤ 256 = search (list-few, not-false) in let s : length (c .before .before .before .before .copy .last .1 .1 .0) ≡ 1088 = search (work-long, not-false) in (omega arith, (search needs, (omega arith, omega arith)))
 
 enum-known-c : tie.Need-enum-known-c
 enum-known-c c = search needs

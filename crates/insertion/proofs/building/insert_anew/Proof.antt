@@ -30,7 +30,7 @@ put-tree-requires c κs =
     let written = c .before .before .before .before in
     let left = written .before .before .before .before .before in
     let start = left .before .before .before .before .before .before .before .before in
-    (search put-some, search put-few, put-fit _ _ _ _ (start .pre .0) _ (start .pre .1 .0) _ _ (left .before .count-tree .ensures) _ (left .before .before .before .part-count .ensures) (left .if1 .left) _ (start .pre .1 .1 .0) _ _ (written .write-tree .ensures), put-long _ _ _ _ (start .pre .0) _ (start .pre .1 .0) _ _ (left .before .count-tree .ensures) _ (left .before .before .before .part-count .ensures) (left .if1 .left) _ (start .pre .1 .1 .0) _ _ (written .write-tree .ensures))
+    (search put-some, (search put-few, (put-fit _ _ _ _ (start .pre .0) _ (start .pre .1 .0) _ _ (left .before .count-tree .ensures) _ (left .before .before .before .part-count .ensures) (left .if1 .left) _ (start .pre .1 .1 .0) _ _ (written .write-tree .ensures), put-long _ _ _ _ (start .pre .0) _ (start .pre .1 .0) _ _ (left .before .count-tree .ensures) _ (left .before .before .before .part-count .ensures) (left .if1 .left) _ (start .pre .1 .1 .0) _ _ (written .write-tree .ensures))))
 
 add-t13 : tie.Need-add-t13
 add-t13 c = search held-fits

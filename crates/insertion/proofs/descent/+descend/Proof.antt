@@ -56,7 +56,7 @@ descend-polygon-on-requires : (t : ℕ) → descend-lts.Need-polygon-on-requires
 descend-polygon-on-requires t c κs = search needs
 
 descend-choose-requires : (t : ℕ) → descend-lts.Need-choose-requires (descend-claims t) (descend-at t) descend.Post
-descend-choose-requires t c κs = (search descend-routing, search needs, search needs)
+descend-choose-requires t c κs = (search descend-routing, (search needs, search needs))
 
 descend-enum-known-taken : (t : ℕ) → descend-lts.Need-enum-known-taken (descend-claims t) (descend-at t) descend.Post
 descend-enum-known-taken t c = search needs

@@ -25,7 +25,7 @@ put-node-requires : tie.Need-put-node-requires
 put-node-requires c κs = (search first-room, search needs)
 
 put-tree-requires : tie.Need-put-tree-requires
-put-tree-requires c κs = let s = c .before .before .before .before .before .before .before .before .before .before .before .before .before .before in (omega arith, omega arith, search first-long, first-work (now (s .args .m)) _ _ _ (s .pre .1 .0) (c .before .before .before .before .put-node .ensures))
+put-tree-requires c κs = let s = c .before .before .before .before .before .before .before .before .before .before .before .before .before .before in (omega arith, (omega arith, (search first-long, first-work (now (s .args .m)) _ _ _ (s .pre .1 .0) (c .before .before .before .before .put-node .ensures))))
 
 same-length : tie.Need-same-length
 same-length c = search needs

@@ -10,8 +10,8 @@ mul-from c = search needs
 returns : tie.Need-returns
 returns c = search no-bits
 
-sub-left : tie.Need-sub-left
-sub-left c = search needs
+sub-remaining : tie.Need-sub-remaining
+sub-remaining c = search needs
 
 returns-2 : tie.Need-returns-2
 returns-2 c = search all-bits
@@ -27,4 +27,4 @@ returns-3 c = search low-bits
 
 pub bits-word-spec : {M : Type 1} → statement M
 bits-word-spec =
-    tie.close (tie.spec mul-from returns sub-left returns-2 shl-result sub-result returns-3)
+    tie.close (tie.spec mul-from returns sub-remaining returns-2 shl-result sub-result returns-3)
