@@ -9,24 +9,24 @@ use Rattle.answers.specs.Numbers.{withSeven, insertReply, removeReply, c
 use Rattle.answers.specs.declared.reply.Reply.{Reply}
 use Rattle.answers.specs.declared.answer.Inserted.{Inserted}
 use Rattle.answers.specs.declared.answer.Inserted.the-variants as I
-use Rattle.answers.proofs.answer.Inserted as Inserted'
 use Rattle.answers.specs.declared.answer.Removed.{Removed}
 use Rattle.answers.specs.declared.answer.Removed.the-variants as R
-use Rattle.answers.proofs.answer.Removed as Removed'
 use Rattle.answers.specs.declared.answer.Cleared.{Cleared}
 use Rattle.answers.specs.declared.answer.Cleared.the-variants as C
-use Rattle.answers.proofs.answer.Cleared as Cleared'
 use Rattle.answers.specs.declared.answer.PointFound.{PointFound}
 use Rattle.answers.specs.declared.answer.PointFound.the-variants as P
-use Rattle.answers.proofs.answer.PointFound as PointFound'
 use Rattle.answers.specs.declared.answer.WindowFound.{WindowFound}
 use Rattle.answers.specs.declared.answer.WindowFound.the-variants as W
-use Rattle.answers.proofs.answer.WindowFound as WindowFound'
 use Rattle.answers.specs.declared.answer.NearestFound.{NearestFound}
 use Rattle.answers.specs.declared.answer.NearestFound.the-variants as N
-use Rattle.answers.proofs.answer.NearestFound as NearestFound'
 use Rattle.answers.specs.declared.answer.EmptyFound.{EmptyFound}
 use Rattle.answers.specs.declared.answer.EmptyFound.the-variants as E
+use Rattle.answers.proofs.answer.Inserted as Inserted'
+use Rattle.answers.proofs.answer.Removed as Removed'
+use Rattle.answers.proofs.answer.Cleared as Cleared'
+use Rattle.answers.proofs.answer.PointFound as PointFound'
+use Rattle.answers.proofs.answer.WindowFound as WindowFound'
+use Rattle.answers.proofs.answer.NearestFound as NearestFound'
 use Rattle.answers.proofs.answer.EmptyFound as EmptyFound'
 
 pub insert-case : (a b : Inserted) (r : Reply) → a ≡ b → r ≡ withSeven (insertReply b) → r ≡ withSeven (insertReply a)

@@ -7,17 +7,17 @@ use mathlib.Core.Option.{Option, none, some}
 use mathlib.Core.Path.{_≡_}
 use lib.ListN.{length, replicate}
 use Rattle.geometry.specs.declared.rect.Cell.{Cell}
+use Rattle.geometry.specs.declared.rect.Rect.{Rect}
 use Rattle.tree.specs.Calls.{insertion, removal, outcomeIndex}
 use Rattle.plane.specs.Lines.{CellEntry}
+use Rattle.plane.specs.Fanout.{fanout, indexSpace, indexRoot, PlaneIndex}
 use Rattle.memory.specs.Layout.{partsOf}
 use Rattle.memory.specs.Reading.{reading}
-use Rattle.plane.specs.Fanout.{fanout, indexSpace, indexRoot, PlaneIndex}
 use Rattle.answers.specs.declared.answer.Inserted.{Inserted}
 use Rattle.answers.specs.declared.answer.Inserted.the-variants as I
 use Rattle.answers.specs.declared.answer.Removed.{Removed}
 use Rattle.answers.specs.declared.answer.Removed.the-variants as R
 use Rattle.answers.specs.Answers.{insertAnswer, removeAnswer, windowAnswer, windowList}
-use Rattle.geometry.specs.declared.rect.Rect.{Rect}
 use Rattle.answers.specs.declared.answer.WindowFound.{WindowFound}
 
 -- 'Its promise names the tree after, from the tree before': what the memory reads as after an insertion, from what it

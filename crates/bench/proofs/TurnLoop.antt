@@ -6,13 +6,13 @@ use native.Mathlib.Nat.{sub-zero}
 use native.Mathlib.Omega.{arith}
 use lib.ListN.{length, take, drop, length-take}
 use lib.Seq.{take-nil}
+use Rattle.history.specs.Calls.{freshMemory}
+use Rattle.line_program.specs.Response.{Lent, lent}
+use Rattle.line_program.specs.Stream.{Kept}
 use Rattle.bench.specs.declared.Rest.{Rest}
 use Rattle.bench.specs.declared.Rest.the-variants as R
 use Rattle.bench.specs.declared.Turn.{Turn}
 use Rattle.bench.specs.declared.Turn.the-variants as T
-use Rattle.history.specs.Calls.{freshMemory}
-use Rattle.line_program.specs.Response.{Lent, lent}
-use Rattle.line_program.specs.Stream.{Kept}
 use Rattle.bench.specs.Bounds.{Lengths}
 use Rattle.bench.specs.Served.{Served, Taken, TakenTo, AllServed, FirstServed, LastServed, TurnServed, Claimed}
 use Rattle.bench.proofs.ServedLaws.{none-served, then-served, served-claimed}

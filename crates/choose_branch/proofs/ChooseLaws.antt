@@ -25,8 +25,8 @@ use Rattle.tree.specs.Step2.{grownPoly, extras, chosen, Growth, leastGrowth, ch
 use Rattle.tree.proofs.Any.{any-none}
 use Rattle.tree.proofs.Lists.{all-append, all-map, all-second, all-flatMap, all-of-map, all-head, map-all}
 use Rattle.plane.specs.Plane.{plane}
-use Rattle.plane.proofs.Best.{least-low, least-high}
 use Rattle.plane.specs.Fanout.{fanout}
+use Rattle.plane.proofs.Best.{least-low, least-high}
 use Rattle.walks.specs.Walks.{hasTest}
 use Rattle.choose_branch.specs.Least.{extraIn}
 use Rattle.choose_branch.specs.Pieces.{rectsAll, siblings, focusAt, grownAt, grownRect}

@@ -22,8 +22,8 @@ use Rattle.tree.specs.Lists.{All}
 use Rattle.tree.specs.Nodes.{Item}
 use Rattle.tree.specs.Step2.{choose, removed as treeRemoved}
 use Rattle.plane.specs.Plane.{plane}
-use Rattle.memory.specs.Layout.{part, polygonIn}
 use Rattle.plane.specs.Fanout.{fanout, indexSpace}
+use Rattle.memory.specs.Layout.{part, polygonIn}
 use Rattle.layout.specs.Nodes.{countAt, childAt, PolygonPart}
 use Rattle.walks.specs.Walks.{hasTest}
 use Rattle.choose_branch.specs.declared.choosing.Taken.the-variants as B

@@ -9,11 +9,11 @@ use lib.ListN.{length, drop}
 use Rattle.geometry.specs.declared.rect.Cell.{Cell}
 use Rattle.geometry.specs.declared.rect.Rect.{Rect}
 use Rattle.geometry.specs.Cells.{valid, allValid}
-use Rattle.area.specs.Bounds.{boundsOf}
-use Rattle.area.specs.Lacked.{extraArea}
 use Rattle.geometry.specs.Numbers.{rectAt, rectsIn}
 use Rattle.geometry.proofs.CellLaws.{valid-at}
 use Rattle.geometry.proofs.NumberLaws.{length-rects, rects-at, rects-next, rects-end}
+use Rattle.area.specs.Bounds.{boundsOf}
+use Rattle.area.specs.Lacked.{extraArea}
 use Rattle.memory.specs.Layout.{part, rectCount, polygonIn, rectNumbers}
 use Rattle.layout.specs.Nodes.{countAt, childAt, GoodPolygonPart}
 use Rattle.layout.proofs.NodeLaws.{lent-polygon, polygon-few}

@@ -6,6 +6,7 @@ use mathlib.Core.Option.{Option, none, some, bind}
 use lib.ListN.{length, take, drop, getD}
 use Rattle.polygons.specs.Limits.{mostOfPolygon, mostPieces, atMost}
 use Rattle.polygons.specs.Rules.{commons}
+use Rattle.polygons.proofs.LimitLaws.{at-most-length}
 use Rattle.geometry.specs.declared.rect.Cell.{Cell}
 use Rattle.geometry.specs.declared.rect.Rect.{Rect}
 use Rattle.geometry.specs.Cells.{noRect}
@@ -13,7 +14,6 @@ use Rattle.geometry.specs.Common.{common, commonParts}
 use Rattle.geometry.specs.Cut.{cutLimited, commonLimited}
 use Rattle.geometry.specs.Grow.{grown}
 use Rattle.geometry.specs.Refine.{refine}
-use Rattle.polygons.proofs.LimitLaws.{at-most-length}
 use Rattle.tree.specs.Step2.{grownPoly}
 use Rattle.tree.proofs.Any.{bind-some}
 use Rattle.choose_branch.specs.Pieces.{siblings, innerPieces, replaced, refinedLimited, grownAt}

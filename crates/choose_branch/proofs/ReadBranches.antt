@@ -11,11 +11,11 @@ use Rattle.geometry.proofs.NumberLaws.{length-rects}
 use Rattle.tree.specs.Lists.{All}
 use Rattle.tree.specs.Nodes.{Item}
 use Rattle.tree.proofs.Lists.{all-at}
+use Rattle.plane.specs.Fanout.{fanout, indexSpace}
 use Rattle.memory.specs.Layout.{isIndexLength, part, rectCount, polygonIn, childrenIn}
 use Rattle.memory.specs.Reading.{readRow, readNode}
 use Rattle.memory.proofs.ReadingLaws.{row-none, row-parts, node-parts, node-below, fits-as, children-length}
 use Rattle.memory.proofs.SoundTested.{valid-of-fine}
-use Rattle.plane.specs.Fanout.{fanout, indexSpace}
 use Rattle.layout.specs.Nodes.{countAt, GoodPolygonPart}
 use Rattle.layout.proofs.NodeLaws.{child-in}
 use Rattle.layout.proofs.ReadNodes.{node-polygon}

@@ -5,13 +5,13 @@ use mathlib.Core.List.{List, append-assoc}
 use mathlib.Core.Option.{some}
 use native.Mathlib.Omega.{arith}
 use lib.ListN.{length, drop}
+use Rattle.polygons.proofs.LimitLaws.{at-most-some, at-most-none}
 use Rattle.geometry.specs.declared.rect.Rect.{Rect}
 use Rattle.geometry.specs.declared.cut.Count.the-variants.{Rects, Over}
 use Rattle.geometry.specs.Numbers.{rectsIn, counted, Appended, Written}
 use Rattle.geometry.specs.Refine.{refine}
-use Rattle.refinement.specs.Changes.{Refined}
-use Rattle.polygons.proofs.LimitLaws.{at-most-some, at-most-none}
 use Rattle.geometry.proofs.NumberLaws.{length-rects, rects-take}
+use Rattle.refinement.specs.Changes.{Refined}
 use Rattle.choose_branch.specs.Pieces.{replaced, refinedLimited}
 
 -- the rectangles before the k-th, the pieces, and the rectangles after the k-th

@@ -12,9 +12,9 @@ use Rattle.geometry.specs.declared.polygon.Polygon.{Polygon}
 use Rattle.geometry.specs.Numbers.{rectsOf}
 use Rattle.tree.specs.Lists.{All}
 use Rattle.tree.specs.Nodes.{Item}
+use Rattle.plane.specs.Fanout.{fanout, indexSpace}
 use Rattle.memory.specs.Layout.{isIndexLength}
 use Rattle.memory.specs.Reading.{readNode}
-use Rattle.plane.specs.Fanout.{fanout, indexSpace}
 use Rattle.choose_branch.specs.declared.choosing.Taken.{Taken}
 use Rattle.choose_branch.specs.declared.choosing.Taken.the-variants.{Branch, Over}
 use Rattle.choose_branch.specs.declared.choosing.Choice.{Choice}

@@ -8,8 +8,8 @@ use Rattle.geometry.specs.declared.rect.Rect.{Rect}
 use Rattle.geometry.specs.declared.cut.Count.the-variants.{Rects}
 use Rattle.area.specs.Removed.{removed}
 use Rattle.tree.specs.Nodes.{Item}
-use Rattle.memory.specs.Reading.{readNode}
 use Rattle.plane.specs.Fanout.{fanout, indexSpace}
+use Rattle.memory.specs.Reading.{readNode}
 use Rattle.choose_branch.specs.declared.pieces.Grown.{Grown}
 use Rattle.choose_branch.specs.declared.choosing.Taken.the-variants.{Branch}
 use Rattle.choose_branch.specs.declared.choosing.Choice.{Choice}

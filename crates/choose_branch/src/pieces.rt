@@ -2,15 +2,15 @@
 // in place of the old rectangle.
 ghost use mathlib.Core.Path.{_≡_};
 ghost use mathlib.Core.Bool.{true};
-ghost use mathlib.Core.List.{[]};
-ghost use Prim.Native.Nat.{_≤_, _<_};
+ghost use Prim.Native.Nat.{_<_};
 ghost use lib.ListN.{length, getD};
-ghost use Rattle.geometry.specs.Cells.{onGrid, valid, noRect};
+ghost use Rattle.geometry.specs.Cells.{onGrid, noRect};
 ghost use Rattle.geometry.specs.Grow.{grown};
 ghost use Rattle.geometry.specs.Numbers.{rectsOf, Written};
 ghost use Rattle.memory.specs.Layout.{part, rectCount, polygonIn};
-ghost use Rattle.layout.specs.Nodes.{countAt, PolygonPart};
-ghost use Rattle.choose_branch.specs.Branches.{polygonsIn, Branches};
+ghost use Rattle.layout.specs.Nodes.{PolygonPart};
+ghost use Rattle.choose_branch.specs.Branches.{polygonsIn};
+ghost use Rattle.choose_branch.specs.Cuts.{GrownCut, BranchGrowth};
 ghost use Rattle.choose_branch.specs.Pieces.{siblings, innerPieces, grownAt, grownRect};
 ghost use Rattle.choose_branch.specs.Removed.{RemovedBy};
 use crate::replacing::put_polygon;
@@ -45,8 +45,7 @@ fn put_inner(
     list: &mut [u32],
     out: &mut [u32],
 ) -> Grown
-    requires { ⌜ Branches (now m) k × (place < countAt (now m) k) × (valid g ≡ true) × (p .count ≤ 16)
-        × (1088 ≤ length (now list)) × (1088 ≤ length (now out)) ⌝ }
+    requires { ⌜ GrownCut (now m) k place g p (now list) (now out) ⌝ }
     ensures { λ r. ⌜ Written (now (out .entry))
         (innerPieces (rectsOf p) (siblings (polygonsIn (now (m .entry)) k) place) g) (r .count) (now (out .exit)) ⌝ }
     ensures { λ r. ⌜ RemovedBy g (siblings (polygonsIn (now (m .entry)) k) place) r ⌝ }
@@ -89,9 +88,7 @@ pub fn put_grown(
     list: &mut [u32],
     spare: &mut [u32],
 ) -> Grown
-    requires { ⌜ Branches (now m) k × (place < countAt (now m) k)
-        × (rect < length (getD (polygonsIn (now m) k) place [])) × (p .count ≤ 16) × (onGrid c ≡ true)
-        × (1088 ≤ length (now list)) × (1088 ≤ length (now spare)) ⌝ }
+    requires { ⌜ BranchGrowth (now m) k place rect p c (now list) (now spare) ⌝ }
     ensures { λ r. ⌜ Written (now (list .entry)) (grownAt (rectsOf p) (polygonsIn (now (m .entry)) k) place rect c)
         (r .count) (now (list .exit)) ⌝ }
     ensures { λ r. ⌜ RemovedBy (grownRect (polygonsIn (now (m .entry)) k) place rect c)

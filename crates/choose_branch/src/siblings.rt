@@ -1,11 +1,10 @@
 // Cutting a list of rectangles by the polygons of a node's children.
 ghost use mathlib.Core.Path.{_≡_};
-ghost use Prim.Native.Nat.{_≤_, _<_};
 ghost use lib.ListN.{length, take, drop};
 ghost use Rattle.geometry.specs.Cut.{cutLimited};
 ghost use Rattle.geometry.specs.Numbers.{rectsIn, Written};
-ghost use Rattle.layout.specs.Nodes.{countAt};
-ghost use Rattle.choose_branch.specs.Branches.{polygonsIn, Branches};
+ghost use Rattle.choose_branch.specs.Branches.{polygonsIn};
+ghost use Rattle.choose_branch.specs.Cuts.{ChildrenCut, SiblingsCut};
 ghost use Rattle.choose_branch.specs.Pieces.{rectsAll, siblings};
 use crate::branch::polygon_at;
 use geometry::Count;
@@ -25,8 +24,7 @@ fn cut_by_children(
     n: usize,
     spare: &mut [u32],
 ) -> Count
-    requires { ⌜ Branches (now m) k × (from ≤ to) × (to ≤ countAt (now m) k) × (n ≤ 256) × (1088 ≤ length (now list))
-        × (1088 ≤ length (now spare)) ⌝ }
+    requires { ⌜ ChildrenCut (now m) k from to (now list) n (now spare) ⌝ }
     ensures { λ c. ⌜ Written (now (list .entry))
         (cutLimited (rectsIn (now (list .entry)) n) (rectsAll (drop from (take to (polygonsIn (now (m .entry)) k))))) c
         (now (list .exit)) ⌝ }
@@ -57,8 +55,7 @@ pub fn cut_by_siblings(
     n: usize,
     spare: &mut [u32],
 ) -> Count
-    requires { ⌜ Branches (now m) k × (place < countAt (now m) k) × (n ≤ 256) × (1088 ≤ length (now list))
-        × (1088 ≤ length (now spare)) ⌝ }
+    requires { ⌜ SiblingsCut (now m) k place (now list) n (now spare) ⌝ }
     ensures { λ c. ⌜ Written (now (list .entry))
         (cutLimited (rectsIn (now (list .entry)) n) (siblings (polygonsIn (now (m .entry)) k) place)) c
         (now (list .exit)) ⌝ }

@@ -10,22 +10,22 @@ use denote.Enum.Declared.{tagOf}
 use lib.Dec.{eqb}
 use lib.ListN.{length, getD}
 use Rattle.answers.specs.declared.answer.Inserted.{Inserted}
-use Rattle.answers.proofs.answer.Inserted as Inserted'
 use Rattle.answers.specs.declared.answer.Inserted.the-variants as I
 use Rattle.answers.specs.declared.answer.Removed.{Removed}
-use Rattle.answers.proofs.answer.Removed as Removed'
 use Rattle.answers.specs.declared.answer.Removed.the-variants as R
 use Rattle.answers.specs.declared.answer.Cleared.{Cleared}
-use Rattle.answers.proofs.answer.Cleared as Cleared'
 use Rattle.answers.specs.declared.answer.Cleared.the-variants as C
 use Rattle.answers.specs.declared.answer.PointFound.{PointFound}
-use Rattle.answers.proofs.answer.PointFound as PointFound'
 use Rattle.answers.specs.declared.answer.PointFound.the-variants as P
 use Rattle.answers.specs.declared.answer.WindowFound.{WindowFound}
-use Rattle.answers.proofs.answer.WindowFound as WindowFound'
 use Rattle.answers.specs.declared.answer.WindowFound.the-variants as W
 use Rattle.answers.specs.declared.reply.Reply.{Reply}
 use Rattle.answers.specs.Numbers.{withSeven, insertReply, removeReply, clearReply, pointReply, windowReply}
+use Rattle.answers.proofs.answer.Inserted as Inserted'
+use Rattle.answers.proofs.answer.Removed as Removed'
+use Rattle.answers.proofs.answer.Cleared as Cleared'
+use Rattle.answers.proofs.answer.PointFound as PointFound'
+use Rattle.answers.proofs.answer.WindowFound as WindowFound'
 use Rattle.answers.proofs.ReplyReturns.{seven-number, insert-refused, remove-refused, clear-refused, point-refused}
 use Rattle.commands.specs.Text.{digitsOf, numberText, fieldText, lineText, refusalText, Appended}
 use Rattle.commands.specs.AnswerText.{heldText, foundText, insertText, removeText, clearText, pointText, entriesText, listed, windowText, otherText}

@@ -10,6 +10,9 @@ use lib.Dec.{leb, eqb}
 use lib.ListN.{length, take, drop}
 use lib.Seq.{length-take-le, length-front, take-at}
 use Rattle.polygons.specs.Limits.{mostOfPolygon, mostPieces}
+use Rattle.polygons.proofs.LimitLaws.{at-most-some}
+use Rattle.polygons.proofs.Booleans.{all4}
+use Rattle.polygons.proofs.ListLaws.{length-flatMap}
 use Rattle.geometry.specs.declared.rect.Rect.{Rect}
 use Rattle.geometry.specs.declared.polygon.Polygon.{Polygon}
 use Rattle.geometry.specs.declared.cut.Count.{Count}
@@ -19,12 +22,9 @@ use Rattle.geometry.specs.Common.{commonWith, commonParts}
 use Rattle.geometry.specs.Cut.{cutLimited, commonLimited}
 use Rattle.geometry.specs.Numbers.{rectsIn, rectsOf, numbersOf, counted, Written, PolygonOf}
 use Rattle.geometry.specs.Refine.{refine}
-use Rattle.refinement.specs.Changes.{Refined}
-use Rattle.polygons.proofs.LimitLaws.{at-most-some}
-use Rattle.polygons.proofs.Booleans.{all4}
-use Rattle.polygons.proofs.ListLaws.{length-flatMap}
 use Rattle.geometry.proofs.CommonLaws.{common-with-length}
 use Rattle.geometry.proofs.NumberLaws.{length-rects, rects-prefix, numbers-take}
+use Rattle.refinement.specs.Changes.{Refined}
 use Rattle.drawing.specs.declared.answer.Answer.the-variants.{Wrote, Invalid, TooMany}
 use Rattle.drawing.specs.Arguments.{given, isList, isResult}
 use Rattle.drawing.specs.Answers.{answerOf, resultOf, few, Drawn, RefinedInto}

@@ -9,20 +9,20 @@ use borrow.Author.Tests.{not-true, not-false}
 use Rattle.geometry.specs.declared.rect.Rect.{Rect}
 use Rattle.geometry.specs.Cells.{valid}
 use Rattle.tree.specs.Emptiness.{ToMatch, atStart, walkToMatch}
+use Rattle.plane.specs.Fanout.{fanout, indexSpace, indexWindow}
 use Rattle.memory.specs.Layout.{isIndexLength, part, polygonIn}
 use Rattle.memory.specs.Reading.{reading}
-use Rattle.plane.specs.Fanout.{fanout, indexSpace, indexWindow}
+use Rattle.memory.specs.TreeIn.{TreeIn}
 use Rattle.memory.proofs.ReadingLaws.{read-as}
 use Rattle.answers.specs.declared.answer.EmptyFound.{EmptyFound}
 use Rattle.answers.specs.declared.answer.EmptyFound.the-variants.{Empty, Occupied, WrongLength, Invalid, NoSoundTree}
-use Rattle.soundness.specs.declared.opening.Opened.{Opened}
-use Rattle.soundness.specs.declared.opening.Opened.the-variants as O
 use Rattle.answers.specs.Answers.{emptyEnd, emptyRead, emptyAnswer}
-use Rattle.memory.specs.TreeIn.{TreeIn}
-use Rattle.soundness.specs.Open.{OpenedAs}
 use Rattle.walks.specs.Walks.{meetsTest, insideTest, visitsBelow}
 use Rattle.walks.proofs.TreeWalk.{tree-walkable, root-polygon}
 use Rattle.walks.proofs.WalkRows.{visits-few}
+use Rattle.soundness.specs.declared.opening.Opened.{Opened}
+use Rattle.soundness.specs.declared.opening.Opened.the-variants as O
+use Rattle.soundness.specs.Open.{OpenedAs}
 use Rattle.emptiness.specs.declared.below.Walked.{Walked}
 use Rattle.emptiness.specs.Below.{toMatchFrom, toMatchBelow, walked}
 

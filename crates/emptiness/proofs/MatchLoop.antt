@@ -10,8 +10,8 @@ use Rattle.geometry.specs.declared.rect.Rect.{Rect}
 use Rattle.tree.specs.Emptiness.{ToMatch}
 use Rattle.tree.proofs.Emptiness.{toBranch}
 use Rattle.plane.specs.Lines.{CellEntry}
-use Rattle.memory.specs.Layout.{part, polygonIn, childrenIn}
 use Rattle.plane.specs.Fanout.{indexSpace, indexWindow}
+use Rattle.memory.specs.Layout.{part, polygonIn, childrenIn}
 use Rattle.layout.specs.Nodes.{childAt, countAt}
 use Rattle.walks.specs.Walks.{meetsTest, insideTest, visitsBelow, matchesBelow, Walkable}
 use Rattle.walks.proofs.WalkRows.{RowWalkable}

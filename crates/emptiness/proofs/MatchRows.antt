@@ -11,9 +11,9 @@ use Rattle.tree.specs.Query.{matching}
 use Rattle.tree.specs.Emptiness.{ToMatch, nodeToMatch}
 use Rattle.tree.proofs.Any.{kept-any}
 use Rattle.tree.proofs.Emptiness.{toBranch, stays-found, few-below}
+use Rattle.plane.specs.Fanout.{fanout, indexSpace, indexWindow}
 use Rattle.memory.specs.Layout.{part, polygonIn, childrenIn}
 use Rattle.memory.specs.Reading.{readRow, readNode}
-use Rattle.plane.specs.Fanout.{fanout, indexSpace, indexWindow}
 use Rattle.memory.proofs.ReadingLaws.{leaf-parts, node-parts}
 use Rattle.walks.specs.Walks.{meetsTest, insideTest, visitsBelow, visitsFrom, leafEntries, Walkable}
 use Rattle.walks.proofs.WalkRows.{RowWalkable}

@@ -6,8 +6,8 @@ use mathlib.Core.Option.{Option, none, some}
 use Rattle.geometry.specs.declared.rect.Rect.{Rect}
 use Rattle.tree.specs.Nodes.{Item}
 use Rattle.tree.specs.Emptiness.{ToMatch, nodeToMatch}
-use Rattle.memory.specs.Reading.{readNode}
 use Rattle.plane.specs.Fanout.{fanout, indexSpace, indexWindow}
+use Rattle.memory.specs.Reading.{readNode}
 use Rattle.emptiness.specs.declared.below.Walked.{Walked}
 
 -- the walk below a node, after v others; where nothing reads, nothing is entered

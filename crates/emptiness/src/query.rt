@@ -1,9 +1,9 @@
 // The emptiness query on lent memory.
 ghost use mathlib.Core.Path.{_≡_};
-ghost use Rattle.memory.specs.Reading.{reading};
 ghost use Rattle.plane.specs.Fanout.{fanout};
-ghost use Rattle.answers.specs.Answers.{emptyRead, emptyAnswer};
+ghost use Rattle.memory.specs.Reading.{reading};
 ghost use Rattle.memory.specs.TreeIn.{TreeIn, Known};
+ghost use Rattle.answers.specs.Answers.{emptyRead, emptyAnswer};
 ghost use Rattle.soundness.specs.Open.{OpenedAs};
 use crate::below::match_below;
 use answers::EmptyFound;

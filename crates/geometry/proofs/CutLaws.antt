@@ -11,6 +11,9 @@ use lib.ListN.{length, length-append}
 use Rattle.polygons.specs.Limits.{atMost, mostPieces}
 use Rattle.polygons.specs.Lists.{any}
 use Rattle.polygons.specs.Rules.{cutEach}
+use Rattle.polygons.proofs.LimitLaws.{at-most-or, at-most-length}
+use Rattle.polygons.proofs.Booleans.{is-false, not-both, same, either, both, split-and, neither-of}
+use Rattle.polygons.proofs.ListLaws.{flatMap-append}
 use Rattle.geometry.specs.declared.rect.Cell.{Cell}
 use Rattle.geometry.specs.declared.rect.Rect.{Rect}
 use Rattle.geometry.specs.Cells.{hasCell, nonEmpty, valid, allValid, anyHas}
@@ -18,9 +21,6 @@ use Rattle.geometry.specs.Common.{overlap, unlessEmpty}
 use Rattle.geometry.specs.Cut.{xCeiling, xFloor, yCeiling, yFloor, pieces, cut, cutList, cutAll, cutLimited}
 use Rattle.geometry.specs.Refine.{within}
 use Rattle.geometry.proofs.CellLaws.{In, in-of, of-in, valid-of, Some, some-of, Within, of-within, empty-has-none, has-append, valid-append, has-unless-empty, valid-unless-empty, length-unless-empty, has-flat, valid-flat-of}
-use Rattle.polygons.proofs.LimitLaws.{at-most-or, at-most-length}
-use Rattle.polygons.proofs.Booleans.{is-false, not-both, same, either, both, split-and, neither-of}
-use Rattle.polygons.proofs.ListLaws.{flatMap-append}
 use Rattle.geometry.proofs.CommonLaws.{overlap-cells}
 
 -- every rectangle of the list is contained in r

@@ -10,6 +10,8 @@ use lib.Seq.{length-front, take-at, length-take-le}
 use Rattle.polygons.specs.Limits.{atMost, mostPieces}
 use Rattle.polygons.specs.Lists.{any}
 use Rattle.polygons.specs.Rules.{cutEach}
+use Rattle.polygons.proofs.LimitLaws.{at-most-some}
+use Rattle.polygons.proofs.Booleans.{neither}
 use Rattle.geometry.specs.declared.rect.Rect.{Rect}
 use Rattle.geometry.specs.declared.polygon.Polygon.{Polygon}
 use Rattle.geometry.specs.declared.cut.Count.{Count}
@@ -18,8 +20,6 @@ use Rattle.geometry.specs.Common.{sharesWith}
 use Rattle.geometry.specs.Cut.{cutList, cutLimited}
 use Rattle.geometry.specs.Numbers.{rectsIn, rectsOf, counted, Written}
 use Rattle.geometry.proofs.ArrayLaws.{array-next, array-end}
-use Rattle.polygons.proofs.LimitLaws.{at-most-some}
-use Rattle.polygons.proofs.Booleans.{neither}
 use Rattle.geometry.proofs.CutLaws.{uncut}
 use Rattle.geometry.proofs.NumberLaws.{length-rects, rects-prefix}
 

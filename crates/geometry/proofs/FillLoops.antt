@@ -12,8 +12,8 @@ use Rattle.geometry.specs.declared.polygon.Polygon.{Polygon}
 use Rattle.geometry.specs.declared.cut.Count.the-variants.{Rects, Over}
 use Rattle.geometry.specs.Common.{common, commonWith, commonParts}
 use Rattle.geometry.specs.Cut.{cut, cutList, commonLimited}
-use Rattle.geometry.proofs.CutLaws.{cutBy}
 use Rattle.geometry.specs.Numbers.{rectAt, rectsIn, rectsOf, counted, Appended, Written}
+use Rattle.geometry.proofs.CutLaws.{cutBy}
 use Rattle.geometry.proofs.NumberLaws.{length-rects, rects-next, rects-end}
 use Rattle.geometry.proofs.ArrayLaws.{array-next, array-end}
 

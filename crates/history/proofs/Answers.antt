@@ -17,10 +17,10 @@ use Rattle.tree.specs.Nearest.{nearest, walk}
 use Rattle.tree.specs.Emptiness.{isEmpty, emptyVisits}
 use Rattle.tree.specs.Calls.{insertCall, removeCall, clearCall, pointCall, windowCall, nearestCall, emptyCall, insertion, removal, outcomeAnswer, inserted, reports, answer, pointAnswer as pointFound, nearestEnd as nearestFound}
 use Rattle.plane.specs.Lines.{CellEntry}
+use Rattle.plane.specs.Fanout.{fanout, indexSpace, indexRoot, indexWindow, PlaneIndex}
 use Rattle.memory.specs.Layout.{partsOf, isIndexLength}
 use Rattle.memory.specs.Reading.{reading}
 use Rattle.memory.proofs.ReadingLaws.{parts-are, is-index-length}
-use Rattle.plane.specs.Fanout.{fanout, indexSpace, indexRoot, indexWindow, PlaneIndex}
 use Rattle.answers.specs.Listing.{listWidth}
 use Rattle.answers.specs.Answers.{cellsRemoved, insertEnd, insertRead, insertAnswer, removeEnd, removeRead, removeAnswer, clearAnswer, pointEnd, pointRead, pointAnswer, matchesIn, windowRead, windowAnswer, nearestEnd, nearestRead, nearestAnswer, emptyEnd, emptyRead, emptyAnswer}
 use Rattle.answers.specs.Numbers.{accepts, insertReply, removeReply, clearReply, pointReply, windowReply, nearestReply, emptyReply}

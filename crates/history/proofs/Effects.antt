@@ -13,9 +13,9 @@ use Rattle.tree.specs.Insert.{Outcome, refused, accepted as acceptedAs}
 use Rattle.tree.specs.Query.{windowVisits}
 use Rattle.tree.specs.Calls.{insertCall, removeCall, clearCall, windowCall, insertion, removal, outcomeIndex, after}
 use Rattle.plane.specs.Lines.{CellEntry}
+use Rattle.plane.specs.Fanout.{fanout, indexSpace, indexRoot, indexWindow, PlaneIndex}
 use Rattle.memory.specs.Reading.{reading}
 use Rattle.memory.proofs.ReadingLaws.{is-index-length, zeros-zero, zeros-read}
-use Rattle.plane.specs.Fanout.{fanout, indexSpace, indexRoot, indexWindow, PlaneIndex}
 use Rattle.answers.specs.Listing.{listWidth, listedNumbers}
 use Rattle.answers.specs.Answers.{cellsRemoved, insertEnd, insertAnswer, removeEnd, removeAnswer, cleared, matchesIn, windowRead, windowAnswer, windowWritten, windowList}
 use Rattle.answers.specs.Changes.{insertedIndex, InsertMemory, workAfter, removedIndex, RemoveMemory}

@@ -14,11 +14,11 @@ use Rattle.tree.specs.Query as query
 use Rattle.tree.specs.Emptiness as tree
 use Rattle.tree.proofs.Emptiness.{empty-exact, empty-few}
 use Rattle.plane.specs.Lines.{CellEntry}
+use Rattle.plane.specs.Fanout.{fanout, indexSpace, indexRoot, indexWindow, PlaneIndex}
 use Rattle.plane.proofs.Rects.{plane-space-laws}
 use Rattle.plane.proofs.Windows.{plane-window-laws}
 use Rattle.memory.specs.Layout.{isIndexLength}
 use Rattle.memory.specs.Reading.{reading}
-use Rattle.plane.specs.Fanout.{fanout, indexSpace, indexRoot, indexWindow, PlaneIndex}
 use Rattle.answers.specs.Listing.{listWidth}
 use Rattle.answers.specs.Answers.{matchesIn, windowRead, windowAnswer, emptyEnd, emptyRead, emptyAnswer}
 use Rattle.answers.specs.Numbers.{windowReply, emptyReply}

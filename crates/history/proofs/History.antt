@@ -10,12 +10,12 @@ use Rattle.tree.specs.Record.{recorded, recordOf}
 use Rattle.tree.specs.Calls.{insertCall, removeCall, clearCall, pointCall, windowCall, nearestCall, emptyCall}
 use Rattle.tree.proofs.Claim.{index-claim}
 use Rattle.plane.specs.Lines.{CellEntry}
+use Rattle.plane.specs.Fanout.{fanout, indexSpace, indexRoot, indexWindow, PlaneIndex}
 use Rattle.plane.proofs.Rects.{plane-space-laws}
 use Rattle.plane.proofs.Roots.{plane-root-laws}
 use Rattle.plane.proofs.Steps.{plane-steps}
 use Rattle.plane.proofs.Windows.{plane-window-laws}
 use Rattle.memory.proofs.ReadingLaws.{fresh}
-use Rattle.plane.specs.Fanout.{fanout, indexSpace, indexRoot, indexWindow, PlaneIndex}
 use Rattle.answers.specs.Numbers.{insertReply}
 use Rattle.history.specs.Calls.{IndexCall, Performed, accepted, fed, freshMemory, Linked, recordFrom}
 use Rattle.history.specs.Contract.{ByContractOf, ByContract}

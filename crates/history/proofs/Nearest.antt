@@ -15,10 +15,10 @@ use Rattle.tree.proofs.NearestLeast.{nearest-is, nearest-some}
 use Rattle.tree.proofs.NearestSame.{nearest-same}
 use Rattle.tree.proofs.NearestWalk.{walk-nearest, walk-few}
 use Rattle.plane.specs.Lines.{CellEntry}
+use Rattle.plane.specs.Fanout.{fanout, indexSpace, indexRoot, PlaneIndex}
 use Rattle.plane.proofs.Rects.{plane-space-laws}
 use Rattle.memory.specs.Layout.{isIndexLength}
 use Rattle.memory.specs.Reading.{reading}
-use Rattle.plane.specs.Fanout.{fanout, indexSpace, indexRoot, PlaneIndex}
 use Rattle.answers.specs.Answers.{nearestEnd, nearestRead, nearestAnswer}
 use Rattle.answers.specs.Numbers.{nearestReply}
 use Rattle.answers.specs.declared.answer.NearestFound.the-variants as Near

@@ -11,9 +11,9 @@ use Rattle.tree.specs.Tree.{entries}
 use Rattle.tree.specs.Insert.{Outcome, refused, accepted as acceptedAs}
 use Rattle.tree.specs.Calls.{insertion}
 use Rattle.plane.specs.Lines.{CellEntry}
+use Rattle.plane.specs.Fanout.{fanout, indexSpace, indexRoot, PlaneIndex}
 use Rattle.memory.specs.Layout.{partsOf, isIndexLength}
 use Rattle.memory.specs.Reading.{reading}
-use Rattle.plane.specs.Fanout.{fanout, indexSpace, indexRoot, PlaneIndex}
 use Rattle.answers.specs.Answers.{cellsRemoved, insertEnd, insertRead, insertAnswer}
 use Rattle.answers.specs.Numbers.{insertReply}
 use Rattle.answers.specs.declared.answer.Inserted.the-variants as I

@@ -20,9 +20,9 @@ use Rattle.tree.proofs.Leaves.{cell-once}
 use Rattle.tree.proofs.SameEntries.{same-matches, same-entry}
 use Rattle.tree.proofs.NearestSame.{same-nearest}
 use Rattle.plane.specs.Lines.{CellEntry}
+use Rattle.plane.specs.Fanout.{fanout, indexSpace, indexRoot, indexWindow, PlaneIndex}
 use Rattle.plane.proofs.Rects.{plane-space-laws}
 use Rattle.memory.specs.Reading.{reading}
-use Rattle.plane.specs.Fanout.{fanout, indexSpace, indexRoot, indexWindow, PlaneIndex}
 use Rattle.answers.specs.Answers.{matchesIn, pointEnd, pointRead, pointAnswer, nearestEnd, nearestRead, nearestAnswer, emptyEnd, emptyRead, emptyAnswer}
 use Rattle.answers.specs.Numbers.{pointReply, nearestReply, emptyReply}
 use Rattle.answers.specs.declared.answer.PointFound.the-variants as P

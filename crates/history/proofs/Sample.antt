@@ -19,9 +19,9 @@ use Rattle.tree.specs.Nearest.{orNearer, walkNode}
 use Rattle.tree.specs.Emptiness.{nodeToMatch}
 use Rattle.tree.specs.Order.{comesBefore}
 use Rattle.tree.specs.Remove.{prune}
+use Rattle.tree.specs.Calls.{insertCall, removeCall, clearCall, pointCall, windowCall, nearestCall, emptyCall, answer, after}
 use Rattle.plane.specs.Plane.{cellRect}
 use Rattle.plane.specs.Windows.{meets}
-use Rattle.tree.specs.Calls.{insertCall, removeCall, clearCall, pointCall, windowCall, nearestCall, emptyCall, answer, after}
 use Rattle.plane.specs.Lines.{entryOf}
 use Rattle.plane.specs.Fanout.{PlaneIndex}
 use Rattle.answers.specs.Numbers.{refusal, accepts}

@@ -16,8 +16,8 @@ use Rattle.tree.specs.Lists.{All}
 use Rattle.tree.specs.Tree.{entries}
 use Rattle.tree.specs.Calls.{insertCall, removeCall, clearCall, pointCall, windowCall, nearestCall, emptyCall}
 use Rattle.tree.proofs.Lists.{all-of-map, all-any}
-use Rattle.memory.specs.Reading.{reading}
 use Rattle.plane.specs.Fanout.{fanout, indexSpace, PlaneIndex}
+use Rattle.memory.specs.Reading.{reading}
 use Rattle.layout.specs.Entries.{treeEntry}
 use Rattle.answers.specs.Listing.{listWidth}
 use Rattle.answers.specs.declared.answer.PointFound.{PointFound}
@@ -25,6 +25,27 @@ use Rattle.answers.specs.declared.answer.WindowFound.{WindowFound}
 use Rattle.answers.specs.declared.answer.NearestFound.{NearestFound}
 use Rattle.answers.specs.declared.answer.EmptyFound.{EmptyFound}
 use Rattle.answers.specs.Numbers.{insertReply, removeReply, clearReply, pointReply, windowReply, nearestReply, emptyReply}
+use Rattle.queries.proofs.point as point-fn
+use Rattle.queries.proofs.point.Reads as point
+use Rattle.queries.proofs.point.Kinds as point-kinds
+use Rattle.queries.proofs.window as window-fn
+use Rattle.queries.proofs.window.Reads as window
+use Rattle.queries.proofs.window.Kinds as window-kinds
+use Rattle.nearest.proofs.nearest as nearest-fn
+use Rattle.nearest.proofs.nearest.Reads as nearest
+use Rattle.nearest.proofs.nearest.Kinds as nearest-kinds
+use Rattle.emptiness.proofs.is_empty as empty-fn
+use Rattle.emptiness.proofs.is_empty.Reads as empty
+use Rattle.emptiness.proofs.is_empty.Kinds as empty-kinds
+use Rattle.removal.proofs.clear as clear-fn
+use Rattle.removal.proofs.clear.Reads as clear
+use Rattle.removal.proofs.clear.Kinds as clear-kinds
+use Rattle.removal.proofs.remove as remove-fn
+use Rattle.removal.proofs.remove.Reads as remove
+use Rattle.removal.proofs.remove.Kinds as remove-kinds
+use Rattle.insertion.proofs.insert as insert-fn
+use Rattle.insertion.proofs.insert.Reads as insert
+use Rattle.insertion.proofs.insert.Kinds as insert-kinds
 use Rattle.history.specs.Calls.{Performed, accepted, freshMemory, Linked}
 use Rattle.history.specs.Contract.{ByContract}
 use Rattle.history.specs.Claim.{visitsOf, VisitsExact, NearestExact, HistoryClaim}
@@ -34,27 +55,6 @@ use Rattle.history.proofs.Visits.{point-accepts}
 use Rattle.history.proofs.Windows.{window-accepts}
 use Rattle.history.proofs.Nearest.{nearest-accepts, nearest-on-index}
 use Rattle.history.proofs.Emptiness.{empty-accepts, empty-on-index, empty-as-window as as-window}
-use Rattle.removal.proofs.clear as clear-fn
-use Rattle.removal.proofs.clear.Reads as clear
-use Rattle.removal.proofs.clear.Kinds as clear-kinds
-use Rattle.queries.proofs.point as point-fn
-use Rattle.queries.proofs.point.Reads as point
-use Rattle.queries.proofs.point.Kinds as point-kinds
-use Rattle.queries.proofs.window as window-fn
-use Rattle.queries.proofs.window.Reads as window
-use Rattle.queries.proofs.window.Kinds as window-kinds
-use Rattle.removal.proofs.remove as remove-fn
-use Rattle.removal.proofs.remove.Reads as remove
-use Rattle.removal.proofs.remove.Kinds as remove-kinds
-use Rattle.insertion.proofs.insert as insert-fn
-use Rattle.insertion.proofs.insert.Reads as insert
-use Rattle.insertion.proofs.insert.Kinds as insert-kinds
-use Rattle.nearest.proofs.nearest as nearest-fn
-use Rattle.nearest.proofs.nearest.Reads as nearest
-use Rattle.nearest.proofs.nearest.Kinds as nearest-kinds
-use Rattle.emptiness.proofs.is_empty as empty-fn
-use Rattle.emptiness.proofs.is_empty.Reads as empty
-use Rattle.emptiness.proofs.is_empty.Kinds as empty-kinds
 
 -- A call of `insert`: the index, the work area, the entry.
 pub record Insert : Type 0 where

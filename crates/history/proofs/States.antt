@@ -21,10 +21,10 @@ use Rattle.tree.specs.Record.{recorded}
 use Rattle.tree.specs.Claim.{Reported, OnGrid}
 use Rattle.tree.proofs.Claim.{State, refused-step, call-step}
 use Rattle.plane.specs.Lines.{CellEntry}
+use Rattle.plane.specs.Fanout.{fanout, indexSpace, indexRoot, indexWindow, PlaneIndex}
 use Rattle.plane.proofs.Rects.{plane-space-laws}
 use Rattle.plane.proofs.Roots.{plane-root-laws}
 use Rattle.plane.proofs.Steps.{plane-steps}
-use Rattle.plane.specs.Fanout.{fanout, indexSpace, indexRoot, indexWindow, PlaneIndex}
 use Rattle.answers.specs.Answers.{cellsRemoved}
 use Rattle.answers.specs.declared.reply.Reply.{Reply}
 use Rattle.answers.specs.Numbers.{refusal}

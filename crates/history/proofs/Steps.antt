@@ -7,10 +7,10 @@ use lib.Dec.{eqb}
 use lib.ListN.{length}
 use Rattle.geometry.specs.declared.rect.Cell.{Cell}
 use Rattle.geometry.specs.declared.rect.Rect.{Rect}
-use Rattle.plane.specs.Lines.{CellEntry}
-use Rattle.memory.specs.Reading.{reading}
 use Rattle.tree.specs.Calls.{insertCall, removeCall, clearCall, pointCall, windowCall, nearestCall, emptyCall, answer, after}
+use Rattle.plane.specs.Lines.{CellEntry}
 use Rattle.plane.specs.Fanout.{fanout, PlaneIndex}
+use Rattle.memory.specs.Reading.{reading}
 use Rattle.answers.specs.Changes.{InsertMemory, RemoveMemory}
 use Rattle.answers.specs.declared.reply.Reply.{Reply}
 use Rattle.answers.specs.Numbers.{insertReply, removeReply, windowReply}

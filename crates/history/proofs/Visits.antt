@@ -10,11 +10,11 @@ use Rattle.tree.specs.Tree.{Sound}
 use Rattle.tree.specs.Query.{entryAt, visits}
 use Rattle.tree.proofs.Visits.{visits-height}
 use Rattle.plane.specs.Lines.{CellEntry}
+use Rattle.plane.specs.Fanout.{fanout, indexSpace, indexRoot, PlaneIndex}
 use Rattle.plane.proofs.Rects.{plane-space-laws}
 use Rattle.memory.specs.Layout.{isIndexLength}
 use Rattle.memory.specs.Reading.{reading}
 use Rattle.memory.proofs.ReadingLaws.{read-empty, read-sound}
-use Rattle.plane.specs.Fanout.{fanout, indexSpace, indexRoot, PlaneIndex}
 use Rattle.answers.specs.Answers.{pointEnd, pointRead, pointAnswer}
 use Rattle.answers.specs.declared.reply.Reply.{Reply}
 use Rattle.answers.specs.Numbers.{pointReply}

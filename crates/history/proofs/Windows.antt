@@ -13,8 +13,8 @@ use Rattle.geometry.specs.Cells.{valid}
 use Rattle.tree.specs.Tree.{entries}
 use Rattle.tree.specs.Query.{matching, windowVisits}
 use Rattle.tree.proofs.Counts.{length-keep}
-use Rattle.memory.specs.Reading.{reading}
 use Rattle.plane.specs.Fanout.{fanout, indexSpace, indexWindow, PlaneIndex}
+use Rattle.memory.specs.Reading.{reading}
 use Rattle.answers.specs.Listing.{listWidth, listedNumbers}
 use Rattle.answers.specs.Answers.{matchesIn, windowRead, windowAnswer, windowWritten, windowList}
 use Rattle.answers.specs.declared.reply.Reply.{Reply}

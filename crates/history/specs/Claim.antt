@@ -17,8 +17,8 @@ use Rattle.tree.specs.Nearest.{IsNearest, walk}
 use Rattle.tree.specs.Calls.{insertCall, removeCall, clearCall, pointCall, windowCall, nearestCall, emptyCall}
 use Rattle.tree.specs.Claim.{leafHolds, leafCovers}
 use Rattle.plane.specs.Lines.{CellEntry}
-use Rattle.memory.specs.Reading.{reading}
 use Rattle.plane.specs.Fanout.{fanout, indexSpace, indexRoot, PlaneIndex}
+use Rattle.memory.specs.Reading.{reading}
 use Rattle.answers.specs.declared.reply.Reply.{Reply}
 use Rattle.history.specs.Calls.{IndexCall, Performed, accepted, isChange, fed, recordFrom}
 use Rattle.history.specs.Defined.{AsDefined}

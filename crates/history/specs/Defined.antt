@@ -10,8 +10,8 @@ use lib.Dec.{leb, eqb}
 use lib.ListN.{length, replicate, drop}
 use Rattle.geometry.specs.Cells.{onGrid, valid}
 use Rattle.tree.specs.Calls.{insertCall, removeCall, clearCall, pointCall, windowCall, nearestCall, emptyCall, answer, after, Answer, refusal, inserted, reports, pointAnswer, windowAnswer, nearestAnswer, emptyAnswer}
-use Rattle.memory.specs.Reading.{reading}
 use Rattle.plane.specs.Fanout.{fanout, indexSpace, indexRoot, indexWindow, PlaneIndex}
+use Rattle.memory.specs.Reading.{reading}
 use Rattle.answers.specs.Listing.{listWidth, listedNumbers}
 use Rattle.answers.specs.Answers.{matchesIn}
 use Rattle.answers.specs.Numbers as numbers

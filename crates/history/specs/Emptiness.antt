@@ -13,8 +13,8 @@ use Rattle.tree.specs.Query.{matching, windowVisits}
 use Rattle.tree.specs.Emptiness.{emptyVisits}
 use Rattle.tree.specs.Calls.{insertCall, removeCall, clearCall, pointCall, windowCall, nearestCall, emptyCall}
 use Rattle.plane.specs.Lines.{CellEntry}
-use Rattle.memory.specs.Reading.{reading}
 use Rattle.plane.specs.Fanout.{fanout, indexSpace, indexWindow, PlaneIndex}
+use Rattle.memory.specs.Reading.{reading}
 use Rattle.answers.specs.Answers.{matchesIn}
 use Rattle.answers.specs.declared.reply.Reply.{Reply}
 use Rattle.history.specs.Calls.{IndexCall, Performed, accepted, withRoom}

@@ -8,8 +8,8 @@ use mathlib.Core.Path.{_≡_}
 use Rattle.geometry.specs.declared.rect.Cell.{Cell}
 use Rattle.tree.specs.Calls.{insertCall, removeCall, clearCall, pointCall, windowCall, nearestCall, emptyCall}
 use Rattle.tree.specs.Removed.{removedTotal}
-use Rattle.memory.specs.Reading.{reading}
 use Rattle.plane.specs.Fanout.{fanout, indexSpace, indexRoot, PlaneIndex}
+use Rattle.memory.specs.Reading.{reading}
 use Rattle.answers.specs.declared.reply.Reply.{Reply}
 use Rattle.history.specs.Calls.{IndexCall, accepted}
 

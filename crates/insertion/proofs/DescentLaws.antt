@@ -22,15 +22,15 @@ use Rattle.tree.proofs.Lists.{all-map}
 use Rattle.tree.proofs.Laws.{Laws, Steps, Chose}
 use Rattle.tree.proofs.InsertAt.{Fresh, chose-at, down}
 use Rattle.plane.specs.Lines.{CellEntry, Payload, somePayload, entryOf}
+use Rattle.plane.specs.Fanout.{fanout, indexSpace}
 use Rattle.plane.proofs.Rects.{plane-space-laws}
 use Rattle.plane.proofs.Steps.{plane-steps}
 use Rattle.memory.specs.Layout.{part, childrenIn}
 use Rattle.memory.specs.Reading.{readNode}
 use Rattle.memory.proofs.ReadingLaws.{leaf-parts, node-parts, NodeParts, row-at, row-length, lowAt, node-lower}
-use Rattle.plane.specs.Fanout.{fanout, indexSpace}
 use Rattle.layout.specs.Nodes.{countAt, childAt}
-use Rattle.walks.specs.Walks.{Walkable}
 use Rattle.layout.proofs.NodeLaws.{child-in}
+use Rattle.walks.specs.Walks.{Walkable}
 use Rattle.walks.proofs.WalkRows.{walkable}
 use Rattle.walks.proofs.WalkLoop.{children-count}
 use Rattle.choose_branch.specs.Choose.{Routing, ChosenBranch, ChosenAt, NoneChosen}

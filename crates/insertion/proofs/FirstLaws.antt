@@ -24,6 +24,7 @@ use Rattle.tree.specs.Insert.{refused, accepted, limited, insertTree}
 use Rattle.tree.proofs.Insert.{insert-sound}
 use Rattle.plane.specs.Lines.{CellEntry, Payload, entryOf}
 use Rattle.plane.specs.Plane.{cellRect}
+use Rattle.plane.specs.Fanout.{fanout, indexSpace, indexRoot}
 use Rattle.plane.proofs.Rects.{plane-space-laws}
 use Rattle.plane.proofs.Steps.{plane-steps}
 use Rattle.plane.proofs.Roots.{plane-root-laws}
@@ -33,17 +34,16 @@ use Rattle.memory.specs.Image.{nodePart, writeNode, image}
 use Rattle.memory.proofs.ReadingLaws.{read-empty, IndexLength, index-length}
 use Rattle.memory.proofs.SoundTested.{test-of-sound}
 use Rattle.memory.proofs.ImageLaws.{image-reads, image-length}
-use Rattle.plane.specs.Fanout.{fanout, indexSpace, indexRoot}
+use Rattle.layout.specs.declared.node.Node.{Node}
+use Rattle.layout.specs.Loaded.{nodeOf, leafOf, withEntry}
+use Rattle.layout.specs.Parts.{PartPut, PartRoom}
+use Rattle.layout.specs.Writing.{written}
+use Rattle.layout.proofs.LoadedLaws.{no-entries, entry-more, leaf-part}
+use Rattle.layout.proofs.WritingLaws.{written-image}
 use Rattle.answers.specs.declared.answer.Inserted.the-variants as I
 use Rattle.answers.specs.Answers.{insertEnd, insertRead}
 use Rattle.answers.specs.Changes.{insertedIndex}
-use Rattle.layout.specs.declared.node.Node.{Node}
-use Rattle.layout.specs.Loaded.{nodeOf, leafOf, withEntry}
-use Rattle.layout.proofs.LoadedLaws.{no-entries, entry-more, leaf-part}
-use Rattle.layout.specs.Parts.{PartPut, PartRoom}
-use Rattle.layout.specs.Writing.{written}
 use Rattle.insertion.specs.Insert.{Built}
-use Rattle.layout.proofs.WritingLaws.{written-image}
 
 -- the corner of a cell's rectangle fits
 pub x-room : (c : Cell) → onGrid c ≡ true → Fits w32 (c .x + 1)

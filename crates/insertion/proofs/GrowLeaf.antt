@@ -12,12 +12,12 @@ use Rattle.geometry.specs.Numbers.{rectsOf, PolygonOf}
 use Rattle.tree.specs.Nodes.{nodes}
 use Rattle.tree.proofs.Walk.{leaf-nodes}
 use Rattle.plane.specs.Lines.{CellEntry}
+use Rattle.plane.specs.Fanout.{fanout, indexSpace}
 use Rattle.memory.specs.Layout.{partsOf, part, itemCount, entriesIn}
 use Rattle.memory.specs.Image.{entryNumbers, nodePart}
 use Rattle.memory.specs.Reading.{readNode}
 use Rattle.memory.proofs.PartImage as image
 use Rattle.memory.proofs.ReadingLaws.{FitsAs, leaf-parts, make-leaf, fits-as, index-length, part-length, entries-length}
-use Rattle.plane.specs.Fanout.{fanout, indexSpace}
 use Rattle.layout.specs.declared.node.Node.{Node}
 use Rattle.layout.specs.Loaded.{leafOf, nodeIn, withEntry}
 use Rattle.layout.specs.Nodes.{countAt}

@@ -13,12 +13,12 @@ use Rattle.geometry.specs.Numbers.{rectsOf, PolygonOf}
 use Rattle.tree.specs.Lists.{total}
 use Rattle.tree.specs.Nodes.{Item, nodes}
 use Rattle.plane.specs.Lines.{CellEntry}
+use Rattle.plane.specs.Fanout.{fanout, indexSpace}
 use Rattle.memory.specs.Layout.{partsOf, part, inUse, childrenIn}
 use Rattle.memory.specs.Image.{nodePart}
 use Rattle.memory.specs.Reading.{readNode}
 use Rattle.memory.proofs.PartImage as image
 use Rattle.memory.proofs.ReadingLaws.{NodeParts, FitsAs, node-parts, fits-as, index-length, part-length, lowAt, low-from, low-to, part-below, row-at, row-length, node-lower, frame, change-node}
-use Rattle.plane.specs.Fanout.{fanout, indexSpace}
 use Rattle.layout.specs.declared.node.Node.{Node}
 use Rattle.layout.specs.Beside.{Beside}
 use Rattle.layout.specs.Loaded.{routingOf, nodeIn}

@@ -6,11 +6,11 @@ use mathlib.Core.List.{List}
 use native.Mathlib.Omega.{arith}
 use lib.ListN.{length}
 use Rattle.geometry.specs.declared.rect.Rect.{Rect}
+use Rattle.plane.specs.Fanout.{fanout}
 use Rattle.memory.specs.Layout.{partsOf, part, inUse, bitsSet, polygonIn, nodeFits, othersZero}
 use Rattle.memory.specs.Image.{nodePart}
 use Rattle.memory.proofs.NodeImage.{node-fits}
 use Rattle.memory.proofs.PartImage as image
-use Rattle.plane.specs.Fanout.{fanout}
 use Rattle.layout.specs.Beside.{Beside}
 use Rattle.layout.specs.PartSet.{setPart, UsedPart}
 use Rattle.layout.proofs.BesideLaws.{set-beside, set-unused}

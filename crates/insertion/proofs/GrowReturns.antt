@@ -4,8 +4,8 @@ use mathlib.Core.Path.{_≡_, refl, ap, _∙_}
 use mathlib.Core.List.{List}
 use native.Mathlib.Omega.{arith}
 use lib.ListN.{length}
-use Rattle.memory.specs.Layout.{part}
 use Rattle.plane.specs.Lines.{CellEntry}
+use Rattle.memory.specs.Layout.{part}
 use Rattle.layout.specs.declared.node.Node.{Node}
 use Rattle.layout.specs.Loaded.{nodeIn}
 use Rattle.layout.specs.Nodes.{countAt}

@@ -18,10 +18,10 @@ use Rattle.tree.specs.Plan.{under}
 use Rattle.tree.specs.Tree.{Tree, top, nodeCount, SoundTree}
 use Rattle.tree.proofs.Pass.{under-deep}
 use Rattle.plane.specs.Lines.{CellEntry, Payload, entryOf}
+use Rattle.plane.specs.Fanout.{fanout, indexSpace, indexRoot}
 use Rattle.memory.specs.Reading.{readNode, reading}
 use Rattle.memory.proofs.ReadingLaws.{ReadAs, read-as, make-reading}
 use Rattle.memory.proofs.SoundTested.{test-of-sound}
-use Rattle.plane.specs.Fanout.{fanout, indexSpace, indexRoot}
 use Rattle.layout.specs.Nodes.{countAt}
 use Rattle.layout.proofs.BesideLaws.{right-same, head-same}
 use Rattle.path.specs.Path.{partOn, placeOn, lineOn, polygonOn}

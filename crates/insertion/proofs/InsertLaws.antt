@@ -18,6 +18,7 @@ use Rattle.tree.specs.Calls.{outcomeIndex}
 use Rattle.tree.proofs.Counts.{countOf-every}
 use Rattle.tree.proofs.Insert.{insert-sound, insert-entries}
 use Rattle.plane.specs.Lines.{CellEntry, Payload, somePayload, entryOf}
+use Rattle.plane.specs.Fanout.{fanout, indexSpace, indexRoot}
 use Rattle.plane.proofs.Rects.{plane-space-laws}
 use Rattle.plane.proofs.Steps.{plane-steps}
 use Rattle.plane.proofs.Roots.{plane-root-laws}
@@ -28,27 +29,26 @@ use Rattle.memory.proofs.ReadingLaws.{ReadSound, read-sound, IndexLength, index
 use Rattle.memory.proofs.SoundTested.{test-of-sound}
 use Rattle.memory.proofs.ImageLaws.{image-reads, image-length}
 use Rattle.memory.proofs.NodeImage.{length-node}
-use Rattle.plane.specs.Fanout.{fanout, indexSpace, indexRoot}
+use Rattle.layout.specs.Nodes.{countAt}
+use Rattle.layout.specs.Writing.{written}
+use Rattle.layout.proofs.WritingLaws.{written-image}
 use Rattle.answers.specs.declared.answer.Inserted.{Inserted}
 use Rattle.answers.specs.declared.answer.Inserted.the-variants as I
 use Rattle.answers.specs.Answers.{cellsRemoved, insertEnd, insertRead}
 use Rattle.answers.specs.Changes.{insertedIndex}
 use Rattle.walks.specs.Walks.{Walkable}
+use Rattle.walks.specs.Count.{entriesAt}
 use Rattle.walks.proofs.TreeWalk.{tree-walkable}
+use Rattle.walks.proofs.CountWalk.{held-few, tree-held}
+use Rattle.queries.specs.Held.{heldRead}
+use Rattle.path.specs.Path.{levelNumbers, partOn, lineOn}
 use Rattle.tree_after.specs.declared.on_path.Written.{Written}
 use Rattle.tree_after.specs.Writes.{countLimit}
-use Rattle.path.specs.Path.{levelNumbers, partOn, lineOn}
 use Rattle.tree_after.specs.Path.{PathFrom, plannedTree}
 use Rattle.tree_after.specs.Whole.{TreeRoom, TreeWritten}
-use Rattle.walks.specs.Count.{entriesAt}
-use Rattle.queries.specs.Held.{heldRead}
-use Rattle.walks.proofs.CountWalk.{held-few, tree-held}
-use Rattle.layout.specs.Nodes.{countAt}
-use Rattle.layout.specs.Writing.{written}
 use Rattle.insertion.specs.Planning.{Plannable, FullLevels, PlanMade}
 use Rattle.insertion.specs.Insert.{Inserting, PathReady, PathPlanned, PathRefused, PathFound, Built, BuiltInPlace}
 use Rattle.insertion.specs.Removed.{RemovedIs}
-use Rattle.layout.proofs.WritingLaws.{written-image}
 use Rattle.insertion.specs.Growing.{grownTree, Growing, Grown}
 use Rattle.insertion.proofs.PlanLoop.{plan-start, plan-end}
 use Rattle.insertion.proofs.SplitCount.{none-split}

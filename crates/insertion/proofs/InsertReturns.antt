@@ -10,16 +10,16 @@ use Rattle.geometry.specs.declared.rect.Cell.{Cell}
 use Rattle.geometry.specs.Cells.{onGrid}
 use Rattle.tree.specs.Query.{holds}
 use Rattle.plane.specs.Lines.{CellEntry, Payload, entryOf}
+use Rattle.plane.specs.Fanout.{fanout, indexSpace}
 use Rattle.memory.specs.Layout.{isIndexLength}
 use Rattle.memory.specs.Reading.{reading}
-use Rattle.plane.specs.Fanout.{fanout, indexSpace}
+use Rattle.memory.specs.TreeIn.{TreeIn}
 use Rattle.answers.specs.declared.answer.Inserted.{Inserted}
 use Rattle.answers.specs.declared.answer.Inserted.the-variants as I
-use Rattle.soundness.specs.declared.opening.Opened.{Opened}
-use Rattle.soundness.specs.declared.opening.Opened.the-variants as O
 use Rattle.answers.specs.Answers.{insertEnd, insertRead, insertAnswer}
 use Rattle.answers.specs.Changes.{InsertCall}
-use Rattle.memory.specs.TreeIn.{TreeIn}
+use Rattle.soundness.specs.declared.opening.Opened.{Opened}
+use Rattle.soundness.specs.declared.opening.Opened.the-variants as O
 use Rattle.soundness.specs.Open.{OpenedAs}
 use Rattle.queries.specs.Held.{heldRead}
 use Rattle.insertion.specs.Insert.{Inserting, Built, InsertDone}

@@ -12,30 +12,30 @@ use Rattle.tree.specs.Nodes.{Item, held}
 use Rattle.tree.specs.Plan.{row}
 use Rattle.tree.specs.Pass.{wayHeld}
 use Rattle.tree.proofs.Lists.{all-first, all-flatMap, map-all}
+use Rattle.tree.proofs.GoodWays.{GoodWay}
+use Rattle.tree.proofs.Ways.{way-entries}
+use Rattle.tree.proofs.Bags.{bag-all, bag-sym}
+use Rattle.tree.proofs.SplitGroups.{row-entries}
+use Rattle.tree.proofs.OnePass.{line-row}
 use Rattle.plane.specs.Lines.{CellEntry, leafLine, Payload, somePayload, entryOf, OnGrid}
+use Rattle.plane.specs.Fanout.{fanout, indexSpace}
 use Rattle.plane.proofs.Rects.{plane-space-laws}
 use Rattle.plane.proofs.Steps.{plane-steps}
 use Rattle.memory.specs.Layout.{part}
-use Rattle.plane.specs.Fanout.{fanout, indexSpace}
+use Rattle.layout.specs.Nodes.{countAt}
 use Rattle.walks.specs.Walks.{Walkable}
+use Rattle.walks.specs.Count as count
+use Rattle.walks.specs.Count.{entriesAt}
 use Rattle.walks.proofs.WalkRows.{node-part}
 use Rattle.split_line.specs.FullLeaf.{entriesOf, LeafHere, FullLeaf, LeafLineIs}
 use Rattle.split_line.specs.Groups.{NodeHere, NodeLineIs}
 use Rattle.path.specs.Path.{partOn, placeOn, lineOn, polygonOn}
 use Rattle.tree_after.specs.Path.{wayAt, PathFrom}
-use Rattle.tree.proofs.GoodWays.{GoodWay}
+use Rattle.tree_after.proofs.PathLaws.{path-node}
 use Rattle.insertion.specs.Descent.{itemsAt}
 use Rattle.insertion.specs.Planning.{Full, LineOfLevel}
 use Rattle.insertion.proofs.DescentLaws.{items-are}
-use Rattle.tree.proofs.Ways.{way-entries}
-use Rattle.tree.proofs.Bags.{bag-all, bag-sym}
-use Rattle.tree.proofs.SplitGroups.{row-entries}
-use Rattle.tree.proofs.OnePass.{line-row}
-use Rattle.layout.specs.Nodes.{countAt}
-use Rattle.walks.specs.Count as count
-use Rattle.walks.specs.Count.{entriesAt}
 use Rattle.insertion.proofs.NodePlan.{node-line-is, node-line-fits}
-use Rattle.tree_after.proofs.PathLaws.{path-node}
 use Rattle.insertion.proofs.PathLaws.{path-below}
 use Rattle.insertion.proofs.PlanLoop.{level-length}
 

@@ -20,8 +20,13 @@ use Rattle.tree.specs.Pass.{wayHeld, Alike}
 use Rattle.tree.proofs.Laws.{Laws, Steps, Fit, onSide}
 use Rattle.tree.proofs.Fits.{length-halfItems}
 use Rattle.tree.proofs.OnePass.{groups-is, few-row, line-row}
+use Rattle.tree.proofs.GoodWays.{GoodWay, way-fits}
+use Rattle.tree.proofs.Ways.{Descent, descent, way-entries}
+use Rattle.tree.proofs.Bags.{bag-keep, bag-length, bag-all}
+use Rattle.tree.proofs.SplitGroups.{split-groups, row-entries, alike-mid, alike-all}
 use Rattle.plane.specs.Lines.{CellEntry, holdsOn, nodeLine}
 use Rattle.plane.specs.Candidates.{numberedLine}
+use Rattle.plane.specs.Fanout.{fanout, indexSpace}
 use Rattle.plane.proofs.Rects.{plane-space-laws}
 use Rattle.plane.proofs.Steps.{plane-steps, fits-of-fit}
 use Rattle.plane.proofs.NodeLine.{Fits}
@@ -29,7 +34,7 @@ use Rattle.plane.proofs.Extents.{on-same, count-same, node-same}
 use Rattle.memory.specs.Layout.{part, itemCount, childrenIn}
 use Rattle.memory.specs.Reading.{readNode}
 use Rattle.memory.proofs.ReadingLaws.{node-parts, row-length, children-length, node-below}
-use Rattle.plane.specs.Fanout.{fanout, indexSpace}
+use Rattle.layout.specs.Nodes.{countAt}
 use Rattle.walks.specs.Walks.{Walkable}
 use Rattle.split_line.specs.Groups.{halvesOf, groupsAt, LineFits}
 use Rattle.path.specs.Path.{partOn, placeOn, lineOn, polygonOn}
@@ -37,11 +42,6 @@ use Rattle.tree_after.specs.Path.{rowAt, wayAt}
 use Rattle.tree_after.proofs.RowLaws.{row-of}
 use Rattle.insertion.specs.Descent.{itemsAt}
 use Rattle.insertion.proofs.DescentLaws.{items-are}
-use Rattle.tree.proofs.GoodWays.{GoodWay, way-fits}
-use Rattle.tree.proofs.Ways.{Descent, descent, way-entries}
-use Rattle.tree.proofs.Bags.{bag-keep, bag-length, bag-all}
-use Rattle.tree.proofs.SplitGroups.{split-groups, row-entries, alike-mid, alike-all}
-use Rattle.layout.specs.Nodes.{countAt}
 
 abbrev laws : Laws indexSpace
 laws = plane-space-laws fanout

@@ -8,15 +8,15 @@ use native.Mathlib.Decide.{ℕ-discrete}
 use Rattle.geometry.specs.declared.rect.Cell.{Cell}
 use Rattle.geometry.specs.declared.rect.Rect.{Rect}
 use Rattle.tree.specs.Plan.{Way, descend}
+use Rattle.tree.proofs.GoodWays.{GoodWay}
 use Rattle.plane.specs.Lines.{CellEntry, entryOf}
 use Rattle.plane.specs.Fanout.{indexSpace}
+use Rattle.layout.specs.Nodes.{countAt, childAt}
 use Rattle.walks.specs.Walks.{Walkable}
 use Rattle.path.specs.Path.{partOn, placeOn, lineOn, rectCountOn, polygonOn, FewRects}
 use Rattle.path.specs.Puts.{LinePut}
 use Rattle.path.proofs.SameLaws.{level-kept, few-kept}
 use Rattle.tree_after.specs.Path.{wayAt, PathNode, PathFrom}
-use Rattle.tree.proofs.GoodWays.{GoodWay}
-use Rattle.layout.specs.Nodes.{countAt, childAt}
 use Rattle.insertion.specs.Descent.{itemsAt}
 use Rattle.insertion.specs.Planning.{GoodPath}
 

@@ -6,8 +6,8 @@ use native.Mathlib.Omega.{arith}
 use mir.Syntax.{w32}
 use mir.Val.{Fits}
 use Rattle.geometry.specs.declared.rect.Cell.{Cell}
-use Rattle.memory.proofs.ReadingLaws.{level-range}
 use Rattle.plane.specs.Fanout.{fanout}
+use Rattle.memory.proofs.ReadingLaws.{level-range}
 use Rattle.layout.specs.Nodes.{PartIn}
 use Rattle.path.specs.Path.{partOn, HasLevel}
 use Rattle.tree_after.specs.Path.{PathNode, PathFrom}

@@ -12,22 +12,22 @@ use lib.ListN.{length, length-append}
 use Rattle.geometry.specs.declared.rect.Cell.{Cell}
 use Rattle.tree.specs.Split.{split}
 use Rattle.tree.specs.Plan.{row, few, lineAt}
+use Rattle.tree.proofs.GoodWays.{way-fits}
+use Rattle.tree.proofs.SplitGroups.{split-one, split-two}
+use Rattle.tree.proofs.OnePass.{few-row}
 use Rattle.plane.specs.Candidates.{numberedLine}
+use Rattle.plane.specs.Fanout.{fanout, indexSpace}
+use Rattle.plane.specs.Lines.{Payload, somePayload, entryOf}
 use Rattle.memory.specs.Layout.{part, itemCount, entriesIn}
 use Rattle.memory.proofs.ReadingLaws.{entries-length}
-use Rattle.plane.specs.Fanout.{fanout, indexSpace}
+use Rattle.layout.specs.Nodes.{countAt}
 use Rattle.walks.specs.Walks.{Walkable}
 use Rattle.path.specs.Path.{partOn, lineOn, polygonOn}
 use Rattle.path.specs.Puts.{LinePut}
 use Rattle.tree_after.specs.Path.{wayAt, PathNode, PathFrom}
-use Rattle.insertion.specs.Planning.{GoodPath, Plannable, PlannedAt, FullLevels, AllSplit, SplitBelow, Full, LineOfLevel, PlanMade}
-use Rattle.tree.proofs.GoodWays.{way-fits}
-use Rattle.tree.proofs.SplitGroups.{split-one, split-two}
-use Rattle.plane.specs.Lines.{Payload, somePayload, entryOf}
-use Rattle.tree.proofs.OnePass.{few-row}
-use Rattle.layout.specs.Nodes.{countAt}
-use Rattle.insertion.proofs.NodePlan.{row-length-is}
 use Rattle.tree_after.proofs.PathLaws.{path-node}
+use Rattle.insertion.specs.Planning.{GoodPath, Plannable, PlannedAt, FullLevels, AllSplit, SplitBelow, Full, LineOfLevel, PlanMade}
+use Rattle.insertion.proofs.NodePlan.{row-length-is}
 use Rattle.insertion.proofs.PathLaws.{part-kept, line-kept, way-kept, polygon-kept, path-few, good-kept, path-below}
 
 module _ (level : ℕ) (path m : List ℕ) (c : Cell) (g : GoodPath level path m c) where

@@ -19,14 +19,14 @@ use Rattle.tree.specs.Plan.{Way, descend, row, few, lineAt, cutInto, writeRow, 
 use Rattle.tree.proofs.OnePass.{write-all, few-row}
 use Rattle.tree.proofs.PlanIndex.{insert-by-plan}
 use Rattle.tree.proofs.Pass.{under-deep}
+use Rattle.tree.proofs.GoodWays.{GoodWay, way-fits}
+use Rattle.tree.proofs.SplitGroups.{split-two}
 use Rattle.plane.specs.Lines.{CellEntry}
 use Rattle.plane.specs.Candidates.{numberedLine}
 use Rattle.plane.specs.Fanout.{fanout, indexSpace, indexRoot}
 use Rattle.path.specs.Path.{lineOn, polygonOn}
 use Rattle.tree_after.specs.Path.{wayAt, rowUnder, cutUnder, plannedTree}
-use Rattle.tree.proofs.GoodWays.{GoodWay, way-fits}
 use Rattle.insertion.specs.Planning.{PlannedAt}
-use Rattle.tree.proofs.SplitGroups.{split-two}
 
 -- the branches of a node, by a plan and by the definition
 same-cut : {A : Type 0} (b d : Bool) (k l : Line) (p : List Rect) (f g : List (Side Line) → List A) (ss : List (Side Line)) → b ≡ d → (d ≡ false → k ≡ l) → ((ts : List (Side Line)) → f ts ≡ g ts)

@@ -31,35 +31,35 @@ use Rattle.tree.proofs.Laws.{Laws, Steps}
 use Rattle.tree.proofs.Keeps.{sound-wider}
 use Rattle.tree.proofs.InsertAt.{Fresh}
 use Rattle.tree.proofs.PlanIndex.{insert-by-plan}
+use Rattle.tree.proofs.GoodWays.{GoodWay}
+use Rattle.tree.proofs.Ways.{sound-way}
+use Rattle.tree.proofs.Insert.{nodes-after}
 use Rattle.plane.specs.Lines.{CellEntry, Payload, somePayload, entryOf}
+use Rattle.plane.specs.Fanout.{fanout, indexSpace, indexRoot}
 use Rattle.plane.proofs.Rects.{plane-space-laws}
 use Rattle.plane.proofs.Steps.{plane-steps}
 use Rattle.plane.proofs.Roots.{plane-root-laws}
 use Rattle.memory.specs.Layout.{part, rectCount, rootIn, rectNumbers}
 use Rattle.memory.specs.Reading.{reading}
 use Rattle.memory.proofs.ReadingLaws.{ReadAs, read-as, read-sound}
-use Rattle.plane.specs.Fanout.{fanout, indexSpace, indexRoot}
+use Rattle.layout.specs.Nodes.{PartIn}
 use Rattle.layout.proofs.NodeLaws.{rects-length}
+use Rattle.layout.proofs.ReadNodes.{node-polygon}
 use Rattle.answers.specs.Answers.{cellsRemoved}
 use Rattle.walks.specs.Walks.{Walkable}
-use Rattle.layout.proofs.ReadNodes.{node-polygon}
 use Rattle.walks.proofs.WalkRows.{walkable}
 use Rattle.walks.proofs.TreeWalk.{tree-walkable}
+use Rattle.queries.specs.Held.{heldRead}
 use Rattle.path.specs.Path.{partOn, polygonOn, HasLevel}
 use Rattle.path.specs.Puts.{LevelPut}
 use Rattle.path.proofs.SameLaws.{level-kept}
 use Rattle.tree_after.specs.Path.{wayAt, plannedTree}
-use Rattle.queries.specs.Held.{heldRead}
-use Rattle.tree.proofs.GoodWays.{GoodWay}
 use Rattle.insertion.specs.declared.descent.Descent.{Descent}
 use Rattle.insertion.specs.Descent.{itemsAt, Descending, Kept, Reached, Stopped, Descended}
 use Rattle.insertion.specs.Removed.{RemovedBelow, RemovedFound}
 use Rattle.insertion.specs.Planning.{GoodPath, FullLevels, PlanMade}
 use Rattle.insertion.specs.Insert.{Inserting, PathReady, PathPlanned, PathRefused, PathFound}
 use Rattle.insertion.proofs.DescentLaws.{items-are}
-use Rattle.tree.proofs.Ways.{sound-way}
-use Rattle.tree.proofs.Insert.{nodes-after}
-use Rattle.layout.specs.Nodes.{PartIn}
 use Rattle.insertion.proofs.PlanTree.{planned-insert}
 use Rattle.insertion.proofs.SplitCount.{split-often}
 

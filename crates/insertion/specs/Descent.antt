@@ -12,8 +12,8 @@ use Rattle.tree.specs.Sound.{Count, SoundItems}
 use Rattle.tree.specs.Plan.{descend}
 use Rattle.tree.proofs.InsertAt.{Fresh}
 use Rattle.plane.specs.Lines.{Payload, somePayload, entryOf}
-use Rattle.memory.specs.Reading.{readNode}
 use Rattle.plane.specs.Fanout.{fanout, indexSpace}
+use Rattle.memory.specs.Reading.{readNode}
 use Rattle.layout.specs.Nodes.{childAt}
 use Rattle.walks.specs.Walks.{Walkable}
 use Rattle.path.specs.Path.{partOn, placeOn, lineOn, rectCountOn, polygonOn, HasLevel, FewRects}

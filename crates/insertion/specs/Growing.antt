@@ -10,10 +10,10 @@ use Rattle.geometry.specs.declared.rect.Rect.{Rect}
 use Rattle.tree.specs.Nodes.{Item, nodes}
 use Rattle.tree.specs.Tree.{Tree}
 use Rattle.plane.specs.Lines.{CellEntry}
+use Rattle.plane.specs.Fanout.{fanout, indexSpace}
 use Rattle.memory.specs.Layout.{partsOf, part, inUse, bitsSet, othersZero}
 use Rattle.memory.specs.Image.{nodePart}
 use Rattle.memory.specs.Reading.{readNode}
-use Rattle.plane.specs.Fanout.{fanout, indexSpace}
 use Rattle.layout.specs.declared.node.Node.{Node}
 use Rattle.layout.specs.Beside.{Beside}
 use Rattle.layout.specs.Loaded.{nodeIn, withEntry}

@@ -10,16 +10,16 @@ use Rattle.geometry.specs.Cells.{onGrid}
 use Rattle.tree.specs.Tree.{Tree}
 use Rattle.tree.specs.Insert.{insertTree}
 use Rattle.plane.specs.Lines.{CellEntry, Payload, entryOf}
+use Rattle.plane.specs.Fanout.{fanout, indexSpace, indexRoot}
 use Rattle.memory.specs.Layout.{partsOf, rootIn}
 use Rattle.memory.specs.Reading.{reading}
-use Rattle.plane.specs.Fanout.{fanout, indexSpace, indexRoot}
+use Rattle.memory.specs.TreeIn.{TreeIn}
 use Rattle.answers.specs.declared.answer.Inserted.{Inserted}
 use Rattle.answers.specs.Answers.{insertRead}
 use Rattle.answers.specs.Changes.{InsertMemory, workAfter}
-use Rattle.memory.specs.TreeIn.{TreeIn}
+use Rattle.queries.specs.Held.{heldRead}
 use Rattle.path.specs.Path.{partOn, polygonOn}
 use Rattle.tree_after.specs.Path.{plannedTree}
-use Rattle.queries.specs.Held.{heldRead}
 use Rattle.insertion.specs.Planning.{GoodPath, Plannable}
 
 -- The memory reads as a tree that does not hold the cell, which is on the grid.

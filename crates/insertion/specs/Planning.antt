@@ -9,14 +9,14 @@ use lib.ListN.{length}
 use Rattle.geometry.specs.declared.rect.Cell.{Cell}
 use Rattle.geometry.specs.Cells.{onGrid}
 use Rattle.tree.specs.Plan.{descend, few, lineAt}
+use Rattle.tree.proofs.GoodWays.{GoodWay}
 use Rattle.plane.specs.Lines.{CellEntry, Payload, entryOf}
 use Rattle.plane.specs.Candidates.{numberedLine}
 use Rattle.plane.specs.Fanout.{indexSpace}
+use Rattle.layout.specs.Nodes.{countAt}
 use Rattle.split_line.specs.LineNumber.{LineIs}
 use Rattle.path.specs.Path.{partOn, lineOn, polygonOn}
 use Rattle.tree_after.specs.Path.{wayAt, PathFrom}
-use Rattle.tree.proofs.GoodWays.{GoodWay}
-use Rattle.layout.specs.Nodes.{countAt}
 use Rattle.insertion.specs.Descent.{itemsAt, Linked}
 
 -- A path that is that of the definition from each level on, through sound nodes.

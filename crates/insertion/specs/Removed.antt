@@ -7,8 +7,8 @@ use mathlib.Core.Path.{_≡_}
 use Rattle.geometry.specs.declared.rect.Cell.{Cell}
 use Rattle.tree.specs.Tree.{Tree}
 use Rattle.tree.specs.Removed.{removedAt}
-use Rattle.memory.specs.Reading.{reading}
 use Rattle.plane.specs.Fanout.{fanout, indexSpace}
+use Rattle.memory.specs.Reading.{reading}
 use Rattle.answers.specs.Answers.{cellsRemoved}
 use Rattle.path.specs.Path.{partOn, polygonOn}
 use Rattle.insertion.specs.declared.descent.Descent.{Descent}

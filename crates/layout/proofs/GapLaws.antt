@@ -12,8 +12,8 @@ use Rattle.polygons.proofs.Booleans.{both, split-and}
 use Rattle.geometry.specs.Numbers.{rectAt, rectsIn}
 use Rattle.plane.specs.Lines.{CellEntry}
 use Rattle.memory.specs.Layout.{part, rectCount, itemCount, polygonIn, entryIn, entriesIn, childrenIn, allZero, restZero}
-use Rattle.layout.specs.Nodes.{NodePart}
 use Rattle.memory.proofs.ReadingLaws.{entries-length, zero-at}
+use Rattle.layout.specs.Nodes.{NodePart}
 use Rattle.layout.specs.Gap.{withoutAt, MovedDown, ItemIn, ItemDropped, EntryDropped, BranchDropped}
 use Rattle.layout.specs.declared.node.Node.{Node}
 use Rattle.layout.specs.Loaded.{nodeIn, withNode, ItemOut}

@@ -11,9 +11,9 @@ use lib.Dec.{leb, eqb}
 use lib.ListN.{length, take, drop, length-drop, take-append-drop}
 use lib.Seq.{drop-drop, take-all}
 use Rattle.polygons.proofs.Booleans.{is-false, not-both, neither, both, all4}
+use Rattle.plane.specs.Fanout.{fanout}
 use Rattle.memory.specs.Layout.{partsOf, part, inUse, allZero, othersZero, rectCount, itemCount, countsFit, restZero, nodeFits}
 use Rattle.memory.proofs.ReadingLaws.{IndexLength, part-length, unused-zero}
-use Rattle.plane.specs.Fanout.{fanout}
 use Rattle.layout.specs.Nodes.{NodePart}
 
 -- the counts, tested one after the other

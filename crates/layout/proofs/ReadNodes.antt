@@ -4,10 +4,10 @@ use mathlib.Core.List.{List}
 use mathlib.Core.Option.{some}
 use Prim.Native.Nat.{ℕ, zero, suc}
 use Rattle.tree.specs.Nodes.{Item}
+use Rattle.plane.specs.Fanout.{fanout, indexSpace}
 use Rattle.memory.specs.Layout.{part, polygonIn}
 use Rattle.memory.specs.Reading.{readNode}
 use Rattle.memory.proofs.ReadingLaws.{fits-as, leaf-parts, node-parts}
-use Rattle.plane.specs.Fanout.{fanout, indexSpace}
 use Rattle.layout.specs.Nodes.{PolygonPart}
 
 -- the polygon of a node that was read

@@ -4,10 +4,10 @@ use mathlib.Core.Bool.{Bool}
 use mathlib.Core.List.{List}
 use Rattle.memory.specs.TreeIn.{Reads, Known}
 use Rattle.soundness.proofs.ReadsLaws.{reads-right}
-use Rattle.line_program.proofs.ReadsLaws.{cleared-reads, insert-reads, remove-reads}
 use Rattle.commands.specs.declared.parsing.Command.{Command}
 use Rattle.commands.specs.declared.parsing.Command.the-variants.{Insert, Remove, Point, Window, Clear, Other}
 use Rattle.line_program.specs.Response.{Lent, CarriedOut}
+use Rattle.line_program.proofs.ReadsLaws.{cleared-reads, insert-reads, remove-reads}
 
 -- each command leaves an index where there was one
 carried-reads : (k : Command) (a b : Lent) (text : List ℕ) → CarriedOut k a b text → Reads (a .index) → Reads (b .index)

@@ -8,16 +8,16 @@ use lib.ListN.{length, replicate, length-replicate}
 use Rattle.geometry.specs.declared.rect.Cell.{Cell}
 use Rattle.tree.specs.Calls.{insertion, removal, outcomeIndex}
 use Rattle.plane.specs.Lines.{CellEntry}
+use Rattle.plane.specs.Fanout.{fanout, indexSpace, indexRoot}
 use Rattle.memory.specs.Layout.{partsOf, isIndexLength}
 use Rattle.memory.specs.Reading.{reading}
+use Rattle.memory.specs.TreeIn.{Reads}
 use Rattle.memory.proofs.ReadingLaws.{is-index-length, index-length, zeros-zero, zeros-read}
-use Rattle.plane.specs.Fanout.{fanout, indexSpace, indexRoot}
 use Rattle.answers.specs.declared.answer.Inserted.{Inserted}
 use Rattle.answers.specs.declared.answer.Inserted.the-variants as I
 use Rattle.answers.specs.declared.answer.Removed.{Removed}
 use Rattle.answers.specs.declared.answer.Removed.the-variants as R
 use Rattle.answers.specs.Answers.{cleared}
-use Rattle.memory.specs.TreeIn.{Reads}
 use Rattle.answers.specs.Changes.{insertedIndex, InsertMemory, InsertCall, removedIndex, RemoveMemory, RemoveCall}
 
 -- clearing leaves the empty index

@@ -11,9 +11,9 @@ use lib.ListN.{length}
 use Rattle.geometry.specs.declared.rect.Rect.{Rect}
 use Rattle.geometry.specs.Cells.{valid, cellOf, rectOf}
 use Rattle.plane.specs.Lines.{entryOf}
+use Rattle.plane.specs.Fanout.{fanout, PlaneIndex}
 use Rattle.memory.specs.Layout.{isIndexLength}
 use Rattle.memory.specs.Reading.{reading}
-use Rattle.plane.specs.Fanout.{fanout, PlaneIndex}
 use Rattle.answers.specs.Listing.{listWidth}
 use Rattle.answers.specs.declared.answer.Inserted.{Inserted}
 use Rattle.answers.specs.declared.answer.Removed.{Removed}

@@ -8,10 +8,10 @@ use native.Mathlib.Omega.{arith}
 use native.Mathlib.Decide.{decLe}
 use lib.ListN.{length, getD, take, drop, set, length-set, length-take, length-drop, drop-of-length-le}
 use lib.Seq.{drop-cons, take-suc, take-suc-set, drop-set-lt, getD-drop, drop-drop, take-take, take-all}
+use Rattle.memory.specs.TreeIn.{Known}
 use Rattle.commands.specs.declared.parsing.Command.{Command}
 use Rattle.commands.specs.Split.{piecesBehind, PieceEnd}
 use Rattle.commands.specs.Commands.{commandOf}
-use Rattle.memory.specs.TreeIn.{Known}
 use Rattle.line_program.specs.Response.{Lent, lent, longest, Responded}
 use Rattle.line_program.specs.Stream.{commandsOf, Ran, none, LinesAnswered, Kept}
 use Rattle.line_program.proofs.OpeningLaws.{carried-known}

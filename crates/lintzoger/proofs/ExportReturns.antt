@@ -9,31 +9,31 @@ use Rattle.geometry.specs.declared.rect.Cell.{Cell}
 use Rattle.geometry.specs.declared.rect.Rect.{Rect}
 use Rattle.plane.specs.Lines.{CellEntry}
 use Rattle.answers.specs.declared.answer.Inserted.{Inserted}
-use Rattle.answers.proofs.answer.Inserted as Inserted'
 use Rattle.answers.specs.declared.answer.Inserted.the-variants as I
 use Rattle.answers.specs.declared.answer.Removed.{Removed}
-use Rattle.answers.proofs.answer.Removed as Removed'
 use Rattle.answers.specs.declared.answer.Removed.the-variants as R
 use Rattle.answers.specs.declared.answer.Cleared.{Cleared}
-use Rattle.answers.proofs.answer.Cleared as Cleared'
 use Rattle.answers.specs.declared.answer.Cleared.the-variants as C
 use Rattle.answers.specs.declared.answer.PointFound.{PointFound}
-use Rattle.answers.proofs.answer.PointFound as PointFound'
 use Rattle.answers.specs.declared.answer.PointFound.the-variants as P
 use Rattle.answers.specs.declared.answer.WindowFound.{WindowFound}
-use Rattle.answers.proofs.answer.WindowFound as WindowFound'
 use Rattle.answers.specs.declared.answer.WindowFound.the-variants as W
 use Rattle.answers.specs.declared.answer.NearestFound.{NearestFound}
-use Rattle.answers.proofs.answer.NearestFound as NearestFound'
 use Rattle.answers.specs.declared.answer.NearestFound.the-variants as Near
 use Rattle.answers.specs.declared.answer.EmptyFound.{EmptyFound}
-use Rattle.answers.proofs.answer.EmptyFound as EmptyFound'
 use Rattle.answers.specs.declared.answer.EmptyFound.the-variants as Empty
 use Rattle.answers.specs.declared.reply.Reply.{Reply}
 use Rattle.answers.specs.Numbers.{withSeven, insertReply, removeReply, clearReply, pointReply, windowReply, nearestReply, emptyReply}
-use Rattle.answers.proofs.ReplyReturns.{seven-number, insert-refused, remove-refused, clear-refused, point-refused, window-refused, nearest-refused, empty-refused}
 use Rattle.answers.specs.Changes.{InsertMemory, workAfter, InsertCall, RemoveMemory, RemoveCall}
 use Rattle.answers.specs.Answers.{clearAnswer, cleared, pointAnswer, windowAnswer, windowList, nearestAnswer, emptyAnswer}
+use Rattle.answers.proofs.answer.Inserted as Inserted'
+use Rattle.answers.proofs.answer.Removed as Removed'
+use Rattle.answers.proofs.answer.Cleared as Cleared'
+use Rattle.answers.proofs.answer.PointFound as PointFound'
+use Rattle.answers.proofs.answer.WindowFound as WindowFound'
+use Rattle.answers.proofs.answer.NearestFound as NearestFound'
+use Rattle.answers.proofs.answer.EmptyFound as EmptyFound'
+use Rattle.answers.proofs.ReplyReturns.{seven-number, insert-refused, remove-refused, clear-refused, point-refused, window-refused, nearest-refused, empty-refused}
 use Rattle.lintzoger.specs.Exports.{stored, InsertExported, RemoveExported, ClearExported, PointExported, WindowExported, NearestExported, EmptyExported}
 
 module _ (m w : List ℕ) (e : CellEntry) (held removed : ℕ) (m′ w′ : List ℕ) (a : Inserted)

@@ -13,8 +13,8 @@ use lib.ListN.{length}
 use Rattle.geometry.specs.Cells.{cellOf, rectOf}
 use Rattle.tree.specs.Lists.{All}
 use Rattle.tree.specs.Calls.{insertCall, removeCall, clearCall, pointCall, windowCall, nearestCall, emptyCall}
-use Rattle.plane.specs.Lines.{entryOf}
 use Rattle.tree.proofs.Lists.{all-of-map, all-any}
+use Rattle.plane.specs.Lines.{entryOf}
 use Rattle.answers.specs.Answers.{insertAnswer, removeAnswer, clearAnswer, pointAnswer, windowAnswer, nearestAnswer, emptyAnswer}
 use Rattle.answers.specs.Numbers.{insertReply, removeReply, clearReply, pointReply, windowReply, nearestReply, emptyReply}
 use Rattle.answers.specs.declared.answer.Inserted.{Inserted}

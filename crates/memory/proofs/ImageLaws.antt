@@ -11,11 +11,11 @@ use lib.Dec.{eqb}
 use lib.ListN.{length}
 use Rattle.polygons.proofs.Booleans.{both}
 use Rattle.geometry.specs.Cells.{allValid}
+use Rattle.cover.specs.Tests.{allPass, pairsPass}
 use Rattle.tree.specs.Nodes.{Item, nodes}
 use Rattle.tree.specs.Tree.{Tree, top}
 use Rattle.plane.specs.Plane.{planeSpace}
 use Rattle.memory.specs.Layout.{partsOf, isIndexLength, rootIn, othersZero}
-use Rattle.cover.specs.Tests.{allPass, pairsPass}
 use Rattle.memory.specs.SoundTest.{countTest, apartTest, itemTest, soundTest}
 use Rattle.memory.specs.Reading.{readNode, readTree, restFits, reading}
 use Rattle.memory.specs.Image.{writeNode, image}

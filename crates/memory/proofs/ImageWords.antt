@@ -7,6 +7,7 @@ use Prim.Native.Nat.{ℕ, zero, suc, _+_, _*_, _-_, _^_, _≤_, _<_, min}
 use native.Mathlib.Omega.{arith}
 use lib.ListN.{length, replicate, length-append}
 use lib.Pow.{pow-pos, pow-mono}
+use mathlib.Core.Option.{some}
 use Rattle.polygons.specs.Lists.{any}
 use Rattle.polygons.proofs.Booleans.{either, split-and}
 use Rattle.geometry.specs.declared.rect.Cell.{Cell}
@@ -14,7 +15,7 @@ use Rattle.geometry.specs.declared.rect.Rect.{Rect}
 use Rattle.geometry.specs.Cells.{hasCell, valid, allValid, anyHas}
 use Rattle.geometry.specs.Numbers.{numbersOf}
 use Rattle.geometry.proofs.CellLaws.{OnGrid, grid-of, valid-grid, valid-of}
-use mathlib.Core.Option.{some}
+use Rattle.cover.specs.Tests.{allPass}
 use Rattle.tree.specs.Lists.{total, All}
 use Rattle.tree.specs.Nodes.{Item, held, nodes}
 use Rattle.tree.specs.Tree.{Tree, entries, top}
@@ -22,7 +23,6 @@ use Rattle.tree.proofs.Lists.{all-append, all-map, all-flatMap, flatMap-all}
 use Rattle.plane.specs.Best.{upFrom}
 use Rattle.plane.specs.Lines.{CellEntry}
 use Rattle.plane.specs.Plane.{planeSpace}
-use Rattle.cover.specs.Tests.{allPass}
 use Rattle.memory.specs.SoundTest.{itemTest, soundTest}
 use Rattle.memory.specs.Image.{padded, entryNumbers, nodePart, bitsWord, headNumbers, memoryOf, writeRow, writeNode, image}
 use Rattle.memory.proofs.NodeImage.{NodeOk, item-ok, length-node, some-parts}

@@ -12,13 +12,13 @@ use lib.ListN.{length, length-append}
 use Rattle.polygons.proofs.Booleans.{split-and, all4}
 use Rattle.geometry.specs.declared.rect.Rect.{Rect}
 use Rattle.geometry.specs.Cells.{allValid}
+use Rattle.cover.specs.Tests.{allPass, pairsPass, insideOf}
 use Rattle.tree.specs.Lists.{total, All}
 use Rattle.tree.specs.Nodes.{Item, nodes}
 use Rattle.tree.proofs.Lists.{all-append}
+use Rattle.tree.proofs.Walk.{leaf-nodes}
 use Rattle.plane.specs.Plane.{planeSpace}
 use Rattle.memory.specs.Layout.{partsOf, part, inUse, nodeFits}
-use Rattle.cover.specs.Tests.{allPass, pairsPass, insideOf}
-use Rattle.tree.proofs.Walk.{leaf-nodes}
 use Rattle.memory.specs.SoundTest.{polygonFits, countTest, apartTest, itemTest}
 use Rattle.memory.specs.Reading.{readRow, readNode}
 use Rattle.memory.specs.Image.{nodePart, entryNumbers, writeRow, writeNode}

@@ -5,9 +5,9 @@ use mathlib.Core.Option.{some}
 use mathlib.Core.Bool.{Bool, true}
 use mathlib.Core.Path.{_≡_}
 use Rattle.tree.specs.Tree.{Tree}
+use Rattle.plane.specs.Fanout.{fanout, indexSpace, PlaneIndex}
 use Rattle.memory.specs.Layout.{rootIn}
 use Rattle.memory.specs.Reading.{reading}
-use Rattle.plane.specs.Fanout.{fanout, indexSpace, PlaneIndex}
 
 -- the memory reads as an index: the empty one or a sound tree
 pub record Reads (m : List ℕ) : Type 0 where

@@ -16,21 +16,21 @@ use Rattle.tree.specs.Nearest as N
 use Rattle.tree.proofs.Depth.{top-sound}
 use Rattle.tree.proofs.NearestWalk.{walk-nearest}
 use Rattle.plane.specs.Lines.{CellEntry}
+use Rattle.plane.specs.Fanout.{fanout, indexSpace, indexRoot}
 use Rattle.plane.proofs.Rects.{plane-space-laws}
 use Rattle.memory.specs.Layout.{isIndexLength, rootIn}
 use Rattle.memory.specs.Reading.{reading, readNode}
-use Rattle.plane.specs.Fanout.{fanout, indexSpace, indexRoot}
+use Rattle.memory.specs.TreeIn.{TreeIn}
 use Rattle.memory.proofs.ReadingLaws.{read-as, read-sound}
 use Rattle.answers.specs.declared.answer.NearestFound.{NearestFound}
 use Rattle.answers.specs.declared.answer.NearestFound.the-variants.{Found, WrongLength, Invalid, NoSoundTree, NothingHeld}
-use Rattle.soundness.specs.declared.opening.Opened.{Opened}
-use Rattle.soundness.specs.declared.opening.Opened.the-variants as O
 use Rattle.answers.specs.Answers.{nearestEnd, nearestRead, nearestAnswer}
-use Rattle.memory.specs.TreeIn.{TreeIn}
-use Rattle.soundness.specs.Open.{OpenedAs}
 use Rattle.walks.specs.Walks.{anyPolygon, anyEntry, visitsBelow}
 use Rattle.walks.proofs.TreeWalk.{tree-walkable}
 use Rattle.walks.proofs.WalkRows.{visits-few}
+use Rattle.soundness.specs.declared.opening.Opened.{Opened}
+use Rattle.soundness.specs.declared.opening.Opened.the-variants as O
+use Rattle.soundness.specs.Open.{OpenedAs}
 use Rattle.nearest.specs.declared.near.Near.{Near}
 use Rattle.nearest.specs.Near.{MetBy, nearBy, bestOf, GoodNear, nearOf, metOf}
 use Rattle.nearest.specs.Below.{walkFrom, walkBelow, nearBelow, NearWalk}

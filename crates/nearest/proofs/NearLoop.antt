@@ -14,8 +14,8 @@ use Rattle.tree.specs.Nearest.{enters}
 use Rattle.tree.specs.Walk.{nodeWalkVisits}
 use Rattle.tree.proofs.NearestWalk.{toBranch}
 use Rattle.plane.specs.Lines.{CellEntry}
-use Rattle.memory.specs.Layout.{part, polygonIn, childrenIn, itemCount, entriesIn}
 use Rattle.plane.specs.Fanout.{indexSpace}
+use Rattle.memory.specs.Layout.{part, polygonIn, childrenIn, itemCount, entriesIn}
 use Rattle.layout.specs.Nodes.{childAt, countAt, GoodPolygonPart}
 use Rattle.walks.specs.Walks.{anyPolygon, anyEntry, visitsBelow, visitsFrom, entriesBelow, Walkable}
 use Rattle.walks.proofs.WalkRows.{RowWalkable}

@@ -10,8 +10,8 @@ use Rattle.tree.specs.Nearest.{enters, enter, walkNode}
 use Rattle.tree.specs.Walk.{nodeWalkVisits}
 use Rattle.tree.proofs.NearestWalk.{toBranch, below-few}
 use Rattle.tree.proofs.Walk.{walk-every}
-use Rattle.memory.specs.Layout.{part, polygonIn, childrenIn, itemCount, entriesIn}
 use Rattle.plane.specs.Fanout.{fanout, indexSpace}
+use Rattle.memory.specs.Layout.{part, polygonIn, childrenIn, itemCount, entriesIn}
 use Rattle.memory.proofs.ReadingLaws.{leaf-parts, node-parts}
 use Rattle.walks.specs.Walks.{anyPolygon, visitsBelow, visitsFrom, Walkable}
 use Rattle.walks.proofs.WalkRows.{RowWalkable}

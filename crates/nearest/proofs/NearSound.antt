@@ -16,10 +16,10 @@ use Rattle.tree.specs.Boxes.{GoodPolygon}
 use Rattle.tree.proofs.Lists.{all-map}
 use Rattle.plane.specs.Lines.{OnGrid}
 use Rattle.plane.specs.Plane.{plane}
+use Rattle.plane.specs.Fanout.{fanout, indexSpace}
 use Rattle.plane.proofs.Rects.{valid-all, plane-space-laws}
 use Rattle.memory.specs.Layout.{part, polygonIn, childrenIn, rectCount, rectNumbers, itemCount, entriesIn}
 use Rattle.memory.specs.Reading.{readRow, readNode}
-use Rattle.plane.specs.Fanout.{fanout, indexSpace}
 use Rattle.memory.proofs.ReadingLaws.{RowParts, row-parts, leaf-parts, node-parts}
 use Rattle.layout.specs.Nodes.{PolygonPart, GoodPolygonPart}
 use Rattle.layout.proofs.ReadNodes.{node-polygon}

@@ -8,8 +8,8 @@ use Rattle.geometry.specs.declared.rect.Rect.{Rect}
 use Rattle.tree.specs.Nodes.{Item}
 use Rattle.tree.specs.Sound.{SoundItem}
 use Rattle.tree.specs.Nearest.{walkNode}
-use Rattle.memory.specs.Reading.{readNode}
 use Rattle.plane.specs.Fanout.{fanout, indexSpace}
+use Rattle.memory.specs.Reading.{readNode}
 use Rattle.walks.specs.Walks.{Walkable}
 use Rattle.nearest.specs.declared.near.Near.{Near}
 use Rattle.nearest.specs.Near.{MetBy, nearOf, metOf}

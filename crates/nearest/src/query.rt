@@ -2,10 +2,10 @@
 ghost use mathlib.Core.Path.{_≡_};
 ghost use mathlib.Core.Bool.{true};
 ghost use Rattle.geometry.specs.Cells.{onGrid};
-ghost use Rattle.memory.specs.Reading.{reading};
 ghost use Rattle.plane.specs.Fanout.{fanout};
-ghost use Rattle.answers.specs.Answers.{nearestRead, nearestAnswer};
+ghost use Rattle.memory.specs.Reading.{reading};
 ghost use Rattle.memory.specs.TreeIn.{TreeIn, Known};
+ghost use Rattle.answers.specs.Answers.{nearestRead, nearestAnswer};
 ghost use Rattle.soundness.specs.Open.{OpenedAs};
 use crate::below::nearest_below;
 use crate::near::Near;

@@ -9,10 +9,10 @@ use lib.Dec.{leb, ltb, eqb}
 use native.Mathlib.Omega.{arith}
 use native.Mathlib.Decide.{decLe}
 use borrow.Author.Tests.{le-leb, lt-leb, leb-true, leb-false, ltb-true, ltb-false, eq-eqb, ne-eqb}
-use Rattle.tree.specs.Lists.{keep, All}
-use Rattle.tree.proofs.Lists.{all-map, all-any}
 use Rattle.polygons.specs.Lists.{least}
+use Rattle.tree.specs.Lists.{keep, All}
 use Rattle.tree.specs.Search.{first, Focus, pushed}
+use Rattle.tree.proofs.Lists.{all-map, all-any}
 use Rattle.plane.specs.Best.{focused, best, scan}
 
 module _ {A : Type 0} (f : A → ℕ) where

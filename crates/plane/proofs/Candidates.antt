@@ -7,11 +7,11 @@ use mathlib.Core.Option.{some}
 use lib.ListN.{length}
 use native.Mathlib.Omega.{arith}
 use native.Mathlib.Decide.{decLe}
+use Rattle.polygons.specs.Lists.{least}
+use Rattle.polygons.proofs.Booleans.{not-both}
 use Rattle.geometry.specs.declared.rect.Line.{Line}
 use Rattle.tree.specs.Lists.{All, keep}
 use Rattle.tree.proofs.Lists.{all-any, all-map}
-use Rattle.polygons.specs.Lists.{least}
-use Rattle.polygons.proofs.Booleans.{not-both}
 use Rattle.tree.proofs.Counted.{none-passes}
 use Rattle.plane.specs.Best.{best}
 use Rattle.plane.specs.Lines.{CellEntry, holdsOn, fits, onBoth, lines, lineOr, nodeLine}

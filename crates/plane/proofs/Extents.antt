@@ -7,6 +7,7 @@ use lib.ListN.{length}
 use lib.Dec.{leb, ltb}
 use native.Mathlib.Omega.{arith}
 use borrow.Author.Tests.{le-leb, lt-leb, lt-ltb, le-ltb, leb-true, leb-false, ltb-true, ltb-false}
+use Rattle.polygons.specs.Lists.{least}
 use Rattle.geometry.specs.declared.rect.Line.{Line}
 use Rattle.geometry.specs.declared.rect.Line.the-variants.{AtX, AtY}
 use Rattle.geometry.specs.Clip.{below}
@@ -14,7 +15,6 @@ use Rattle.tree.specs.Lists.{keep, notEmpty, All, Bag}
 use Rattle.tree.specs.Space.{Side, left, right}
 use Rattle.tree.specs.Pass.{Alike}
 use Rattle.tree.proofs.Lists.{all-map}
-use Rattle.polygons.specs.Lists.{least}
 use Rattle.plane.specs.Best.{greatest}
 use Rattle.plane.specs.Lines.{CellEntry, xOf, yOf, holdsOn, fits, onBoth, nodeLine}
 use Rattle.plane.specs.Candidates.{extentOf, extents, extentOn}

@@ -23,8 +23,8 @@ use Rattle.geometry.proofs.GrowLaws.{grow-has, grow-contains}
 use Rattle.geometry.proofs.CutLaws.{cut-cells}
 use Rattle.geometry.proofs.RefineLaws.{refine-cells, refine-length, refine-valid}
 use Rattle.geometry.proofs.ClipLaws.{side-cells, clip-valid}
-use Rattle.area.specs.Lacked.{extraArea}
 use Rattle.distance.proofs.DistanceLaws.{rect-least, rect-attained}
+use Rattle.area.specs.Lacked.{extraArea}
 use Rattle.tree.specs.Lists.{All}
 use Rattle.tree.specs.Space.{Side, left, right}
 use Rattle.tree.specs.Nodes.{on}

@@ -15,8 +15,8 @@ use Rattle.geometry.proofs.CellLaws.{in-of, of-some, corner}
 use Rattle.geometry.proofs.CommonLaws.{overlap-cells, common-some}
 use Rattle.tree.specs.Lists.{notEmpty}
 use Rattle.tree.specs.BoxSpace.{windowOf}
-use Rattle.tree.proofs.Any.{any-same}
 use Rattle.tree.specs.Boxes.{anyHas}
+use Rattle.tree.proofs.Any.{any-same}
 use Rattle.tree.proofs.Laws.{WindowLaws}
 use Rattle.plane.specs.Plane.{plane, planeSpace}
 use Rattle.plane.specs.Windows.{inside, meets, planeWindow}

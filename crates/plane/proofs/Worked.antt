@@ -5,6 +5,7 @@ use mathlib.Core.List.{[], _∷_, flatMap}
 use mathlib.Core.Option.{some, bind}
 use Rattle.polygons.specs.Limits.{atMost}
 use Rattle.polygons.specs.Lists.{any, least}
+use Rattle.polygons.specs.Rules.{cutEach}
 use Rattle.geometry.specs.Cells.{onGrid, hasCell, nonEmpty, valid, area, cellOf, rectOf}
 use Rattle.geometry.specs.Common.{overlap, unlessEmpty, common}
 use Rattle.geometry.specs.Grow.{grown}
@@ -18,7 +19,6 @@ use Rattle.tree.specs.Insert.{insertAt, insertTree}
 use Rattle.tree.specs.Tree.{Tree}
 use Rattle.tree.specs.Boxes.{anyHas, extra}
 use Rattle.tree.specs.Search.{first}
-use Rattle.polygons.specs.Rules.{cutEach}
 use Rattle.tree.specs.Step2.{choose, grownPoly}
 use Rattle.plane.specs.Lines.{CellEntry, leafLine}
 use Rattle.plane.specs.Plane.{plane, planeSpace, planeRoot}

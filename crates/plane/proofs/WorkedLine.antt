@@ -3,11 +3,11 @@ use Prim.Native.Nat.{ℕ}
 use mathlib.Core.Path.{_≡_, refl, sym, _∙_}
 use mathlib.Core.List.{List, [], _∷_, map, flatMap}
 use native.Mathlib.Omega.{arith}
+use Rattle.polygons.specs.Lists.{least}
 use Rattle.geometry.specs.declared.rect.Line.the-variants.{AtY}
 use Rattle.geometry.specs.Cells.{onGrid, cellOf}
 use Rattle.geometry.specs.Clip.{below}
 use Rattle.tree.specs.Lists.{keep, All}
-use Rattle.polygons.specs.Lists.{least}
 use Rattle.plane.specs.Best.{greatest, scan}
 use Rattle.plane.specs.Lines.{CellEntry, holdsOn, nodeLine}
 use Rattle.plane.specs.Candidates.{extentOf, extents, candidates, bestCandidate, tried, leastKey, numberedLine, keyLine}

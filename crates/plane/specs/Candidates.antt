@@ -4,11 +4,11 @@ use mathlib.Core.Bool.{Bool, cond}
 use mathlib.Core.List.{List, [], _∷_, map, flatMap}
 use mathlib.Core.Option.{none}
 use lib.Dec.{leb, ltb}
+use Rattle.polygons.specs.Lists.{least}
 use Rattle.geometry.specs.declared.rect.Cell.{Cell}
 use Rattle.geometry.specs.declared.rect.Line.{Line}
 use Rattle.geometry.specs.declared.rect.Line.the-variants.{AtX, AtY}
 use Rattle.tree.specs.Space.{Side, left, right}
-use Rattle.polygons.specs.Lists.{least}
 use Rattle.plane.specs.Best.{greatest, scan}
 use Rattle.plane.specs.Lines.{CellEntry, xOf, yOf, fits, onBoth, lineOr}
 

@@ -16,8 +16,8 @@ use Rattle.geometry.specs.Grow.{grown}
 use Rattle.geometry.specs.Cut.{cut}
 use Rattle.geometry.specs.Refine.{refine}
 use Rattle.geometry.specs.Clip.{below, clipRect}
-use Rattle.area.specs.CellCount.{cellCount}
 use Rattle.distance.specs.Distance.{squared, rectDistance}
+use Rattle.area.specs.CellCount.{cellCount}
 use Rattle.tree.specs.Space.{Space, Side, left, right}
 use Rattle.tree.specs.Root.{Root}
 use Rattle.tree.specs.Boxes.{Boxes}

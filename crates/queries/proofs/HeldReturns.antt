@@ -11,14 +11,14 @@ use Rattle.tree.specs.Lists.{keep}
 use Rattle.tree.specs.Tree.{entries}
 use Rattle.tree.specs.Query.{ofCell}
 use Rattle.plane.specs.Lines.{CellEntry}
+use Rattle.plane.specs.Fanout.{fanout, indexSpace}
 use Rattle.memory.specs.Layout.{part, polygonIn}
 use Rattle.memory.specs.Reading.{reading}
-use Rattle.plane.specs.Fanout.{fanout, indexSpace}
-use Rattle.queries.specs.declared.point_query.Found.{Found}
 use Rattle.memory.specs.TreeIn.{TreeIn}
 use Rattle.walks.specs.Walks.{hasTest, visitsBelow, heldBelow}
-use Rattle.queries.specs.Point.{found, foundOf}
 use Rattle.walks.proofs.TreeWalk.{tree-entry}
+use Rattle.queries.specs.declared.point_query.Found.{Found}
+use Rattle.queries.specs.Point.{found, foundOf}
 use Rattle.queries.specs.Held.{heldRead}
 
 -- whether there is something

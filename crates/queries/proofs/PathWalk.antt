@@ -12,17 +12,17 @@ use Rattle.geometry.specs.declared.rect.Cell.{Cell}
 use Rattle.tree.specs.Lists.{All}
 use Rattle.tree.proofs.Lists.{all-of}
 use Rattle.tree.proofs.OneBranch.{visits-one, entries-one, visits-none, entries-none}
-use Rattle.memory.specs.Layout.{part, childrenIn}
 use Rattle.plane.specs.Fanout.{indexSpace}
+use Rattle.memory.specs.Layout.{part, childrenIn}
 use Rattle.layout.specs.Nodes.{countAt, NodePart}
 use Rattle.walks.specs.declared.child.ChildFound.{ChildFound}
 use Rattle.walks.specs.declared.child.ChildFound.the-variants.{Child, NoChild}
-use Rattle.queries.specs.declared.point_query.Found.{Found}
 use Rattle.walks.specs.Walks.{hasTest, cellTest, visitsFrom, visitsBelow, entriesFrom, entriesBelow, heldBelow, leafEntries, Walkable, SoundWalk}
-use Rattle.queries.specs.Point.{found, foundOf}
 use Rattle.walks.specs.Children.{Children, NoneBefore, FirstChild, ChildIs}
 use Rattle.walks.proofs.ChildLaws.{blank, branch-count, in-branches, child-is, child-reads, child-polygon, child-sound-walk, children-of}
 use Rattle.walks.proofs.WalkRows.{leaf-visits, leaf-entries, node-part, visits-few}
+use Rattle.queries.specs.declared.point_query.Found.{Found}
+use Rattle.queries.specs.Point.{found, foundOf}
 
 -- from a sound node
 module _ (c : Cell) (n : ℕ) (m : List ℕ) (lo k : ℕ) (v : SoundWalk (suc n) m lo k) where

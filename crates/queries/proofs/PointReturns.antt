@@ -9,20 +9,20 @@ use Rattle.geometry.specs.declared.rect.Cell.{Cell}
 use Rattle.geometry.specs.Cells.{onGrid}
 use Rattle.tree.specs.Lists.{keep}
 use Rattle.plane.specs.Lines.{CellEntry}
+use Rattle.plane.specs.Fanout.{fanout}
 use Rattle.memory.specs.Layout.{isIndexLength, part, polygonIn}
 use Rattle.memory.specs.Reading.{reading}
-use Rattle.plane.specs.Fanout.{fanout}
+use Rattle.memory.specs.TreeIn.{TreeIn}
 use Rattle.answers.specs.declared.answer.PointFound.{PointFound}
 use Rattle.answers.specs.declared.answer.PointFound.the-variants.{Held, NotHeld, WrongLength, Invalid, NoSoundTree}
-use Rattle.queries.specs.declared.point_query.Found.{Found}
 use Rattle.answers.specs.Answers.{pointEnd, pointRead, pointAnswer}
+use Rattle.walks.specs.Walks.{hasTest, visitsBelow, heldBelow}
+use Rattle.walks.proofs.TreeWalk.{tree-visits, tree-entry}
 use Rattle.soundness.specs.declared.opening.Opened.{Opened}
 use Rattle.soundness.specs.declared.opening.Opened.the-variants as O
 use Rattle.soundness.specs.Open.{OpenedAs}
-use Rattle.memory.specs.TreeIn.{TreeIn}
-use Rattle.walks.specs.Walks.{hasTest, visitsBelow, heldBelow}
+use Rattle.queries.specs.declared.point_query.Found.{Found}
 use Rattle.queries.specs.Point.{found, foundOf}
-use Rattle.walks.proofs.TreeWalk.{tree-visits, tree-entry}
 
 -- what the walk found, as the answer
 held-end : (es : List CellEntry) (v : ℕ) → found es v .held ≡ true → Held (found es v .tag) (found es v .visits) ≡ pointEnd (head? es) v

@@ -11,8 +11,8 @@ use Rattle.layout.specs.declared.node.Node.{Node}
 use Rattle.layout.specs.Entries.{treeEntry}
 use Rattle.layout.specs.Loaded.{nodeIn, nodeEntry}
 use Rattle.walks.specs.Walks.{cellTest, leafEntries}
-use Rattle.queries.specs.Point.{found, foundOf}
 use Rattle.walks.proofs.WalkLeaf.{AtEntry, entry-hit, entry-miss, entry-test, entry-read}
+use Rattle.queries.specs.Point.{found, foundOf}
 
 -- the leaf: the first entry that passes, or none
 module _ (c : Cell) (p : List ℕ) (n i : ℕ) (a : AtEntry (cellTest c) p n i []) where

@@ -14,22 +14,22 @@ use Rattle.geometry.specs.Cells.{valid}
 use Rattle.tree.specs.Lists.{keep}
 use Rattle.tree.specs.Query.{windowVisits}
 use Rattle.plane.specs.Lines.{CellEntry}
+use Rattle.plane.specs.Fanout.{fanout, indexSpace, indexWindow}
 use Rattle.memory.specs.Layout.{isIndexLength, part, polygonIn}
 use Rattle.memory.specs.Reading.{reading}
-use Rattle.plane.specs.Fanout.{fanout, indexSpace, indexWindow}
+use Rattle.memory.specs.TreeIn.{TreeIn}
 use Rattle.answers.specs.declared.answer.WindowFound.{WindowFound}
 use Rattle.answers.specs.declared.answer.WindowFound.the-variants.{Found, ShortList, WrongLength, Invalid, NoSoundTree}
-use Rattle.queries.specs.declared.window_query.Matched.{Matched}
 use Rattle.answers.specs.Answers.{matchesIn, windowRead, windowWritten, windowAnswer, windowList}
-use Rattle.soundness.specs.declared.opening.Opened.{Opened}
-use Rattle.soundness.specs.declared.opening.Opened.the-variants as O
 use Rattle.answers.specs.Listing.{listWidth, listedNumbers, putListed}
-use Rattle.soundness.specs.Open.{OpenedAs}
-use Rattle.memory.specs.TreeIn.{TreeIn}
 use Rattle.answers.specs.Changes.{WindowCall}
 use Rattle.walks.specs.Walks.{meetsTest, visitsBelow, matchesBelow}
-use Rattle.queries.specs.Window.{matched, putEntries, Listed, WalkRoom, WindowDone}
 use Rattle.walks.proofs.TreeWalk.{tree-walkable, tree-window-visits, tree-matches}
+use Rattle.soundness.specs.declared.opening.Opened.{Opened}
+use Rattle.soundness.specs.declared.opening.Opened.the-variants as O
+use Rattle.soundness.specs.Open.{OpenedAs}
+use Rattle.queries.specs.declared.window_query.Matched.{Matched}
+use Rattle.queries.specs.Window.{matched, putEntries, Listed, WalkRoom, WindowDone}
 use Rattle.queries.proofs.WindowWrite.{length-put}
 
 -- one entry put at a place

@@ -13,12 +13,12 @@ use Rattle.memory.specs.Layout.{part, entryIn, polygonIn}
 use Rattle.layout.specs.declared.node.Node.{Node}
 use Rattle.layout.specs.Loaded.{nodeIn, nodeEntry}
 use Rattle.layout.specs.Nodes.{childAt, countAt, NodePart}
-use Rattle.queries.specs.declared.window_query.Matched.{Matched}
 use Rattle.walks.specs.Walks.{meetsTest, insideTest, visitsBelow, leafEntries, Walkable, matchesBelow}
-use Rattle.queries.specs.Window.{matched}
 use Rattle.walks.proofs.WalkLeaf.{AtEntry, entry-miss, entry-hit, entry-end, loaded-start, entry-small, entry-test}
 use Rattle.walks.proofs.WalkRows.{leaf-visits, leaf-entries, entries-few}
 use Rattle.walks.proofs.WalkLoop.{AtChild, child-start, child-miss, child-hit, end-visits, end-entries, so-far-few}
+use Rattle.queries.specs.declared.window_query.Matched.{Matched}
+use Rattle.queries.specs.Window.{matched}
 
 -- Before the i-th entry of a leaf: a count of those that are in the window.
 pub record CountLeaf (w : Rect) (p : List ℕ) (n i sum : ℕ) : Type 0 where

@@ -15,11 +15,11 @@ use Rattle.layout.specs.Loaded.{nodeIn, nodeChild, nodeEntry}
 use Rattle.layout.specs.Nodes.{childAt, countAt}
 use Rattle.answers.specs.Listing.{listWidth, putListed}
 use Rattle.walks.specs.Walks.{meetsTest, insideTest, leafEntries, Walkable, matchesBelow}
-use Rattle.queries.specs.Window.{putEntries, Listed, LeafRoom, WalkRoom}
 use Rattle.walks.proofs.WalkLeaf.{AtEntry, entry-miss, entry-hit, entry-end, loaded-start, entry-small, entry-nine, entry-put, entry-test}
 use Rattle.walks.proofs.WalkRows.{leaf-entries, node-part}
 use Rattle.walks.proofs.WalkNode.{walk-count, walk-child}
 use Rattle.walks.proofs.WalkLoop.{AtChild, child-start, child-miss, child-hit, end-entries, child-walkable}
+use Rattle.queries.specs.Window.{putEntries, Listed, LeafRoom, WalkRoom}
 
 pub length-put : (l : List ℕ) (at : ℕ) (e : CellEntry) → length (putListed l at e) ≡ length l
 unfolding putListed

@@ -5,14 +5,14 @@ use mathlib.Core.Path.{_≡_}
 use lib.ListN.{length}
 use Rattle.geometry.specs.declared.rect.Rect.{Rect}
 use Rattle.plane.specs.Lines.{CellEntry}
-use Rattle.memory.specs.Reading.{reading}
 use Rattle.plane.specs.Fanout.{fanout}
+use Rattle.memory.specs.Reading.{reading}
 use Rattle.layout.specs.Nodes.{NodePart}
-use Rattle.queries.specs.declared.window_query.Matched.{Matched}
 use Rattle.answers.specs.declared.answer.WindowFound.{WindowFound}
 use Rattle.answers.specs.Listing.{listWidth, putListed}
 use Rattle.answers.specs.Answers.{windowRead, windowWritten}
 use Rattle.walks.specs.Walks.{insideTest, matchesBelow, leafEntries, Walkable}
+use Rattle.queries.specs.declared.window_query.Matched.{Matched}
 
 -- what a walk for a window found: how many entries match, and the visits
 unfoldable pub matched : List CellEntry → ℕ → Matched

@@ -1,9 +1,9 @@
 // Whether a cell is held: refusals 5 and 6.
 ghost use mathlib.Core.Path.{_≡_};
-ghost use Rattle.memory.specs.Reading.{reading};
 ghost use Rattle.plane.specs.Fanout.{fanout};
-ghost use Rattle.queries.specs.Held.{heldRead};
+ghost use Rattle.memory.specs.Reading.{reading};
 ghost use Rattle.memory.specs.TreeIn.{TreeIn};
+ghost use Rattle.queries.specs.Held.{heldRead};
 use crate::point_query::point_below;
 use geometry::Cell;
 use walks::polygon_has;

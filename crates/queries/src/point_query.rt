@@ -1,12 +1,12 @@
 // The point query: the walk into the nodes whose polygon has the cell.
 ghost use mathlib.Core.Path.{_≡_};
-ghost use Rattle.memory.specs.Reading.{reading};
 ghost use Rattle.plane.specs.Fanout.{fanout};
+ghost use Rattle.memory.specs.Reading.{reading};
+ghost use Rattle.memory.specs.TreeIn.{TreeIn, Known};
 ghost use Rattle.layout.specs.Nodes.{NodePart};
 ghost use Rattle.answers.specs.Answers.{pointRead, pointAnswer};
-ghost use Rattle.memory.specs.TreeIn.{TreeIn, Known};
-ghost use Rattle.soundness.specs.Open.{OpenedAs};
 ghost use Rattle.walks.specs.Walks.{hasTest, cellTest, visitsBelow, heldBelow, leafEntries, SoundWalk};
+ghost use Rattle.soundness.specs.Open.{OpenedAs};
 ghost use Rattle.queries.specs.Point.{found};
 use answers::PointFound;
 use geometry::Cell;

@@ -2,12 +2,12 @@
 // counts, the second writes: a list that is too short is left as it was.
 ghost use mathlib.Core.Path.{_≡_};
 ghost use lib.ListN.{length};
-ghost use Rattle.layout.specs.Nodes.{NodePart};
 ghost use Rattle.memory.specs.TreeIn.{TreeIn, Known};
-ghost use Rattle.soundness.specs.Open.{OpenedAs};
-ghost use Rattle.walks.specs.Walks.{meetsTest, insideTest, visitsBelow, matchesBelow, leafEntries, Walkable};
-ghost use Rattle.queries.specs.Window.{matched, Listed, LeafRoom, WalkRoom, WindowDone};
+ghost use Rattle.layout.specs.Nodes.{NodePart};
 ghost use Rattle.answers.specs.Changes.{WindowCall};
+ghost use Rattle.walks.specs.Walks.{meetsTest, insideTest, visitsBelow, matchesBelow, leafEntries, Walkable};
+ghost use Rattle.soundness.specs.Open.{OpenedAs};
+ghost use Rattle.queries.specs.Window.{matched, Listed, LeafRoom, WalkRoom, WindowDone};
 use crate::listing::put_listed;
 use answers::LIST_WIDTH;
 use answers::WindowFound;

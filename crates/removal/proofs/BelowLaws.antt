@@ -11,10 +11,10 @@ use Rattle.tree.specs.Lists.{total}
 use Rattle.tree.specs.Nodes.{Item, nodes}
 use Rattle.tree.specs.Split.{branchIf}
 use Rattle.tree.specs.Remove.{prune, without}
+use Rattle.plane.specs.Fanout.{fanout, indexSpace}
 use Rattle.memory.specs.Layout.{partsOf, part, inUse, bitsSet, othersZero, itemCount, nodeFits}
 use Rattle.memory.specs.Reading.{readNode}
 use Rattle.memory.proofs.ReadingLaws.{fits-as, of-fits}
-use Rattle.plane.specs.Fanout.{fanout, indexSpace}
 use Rattle.layout.specs.Beside.{Beside}
 use Rattle.layout.specs.Gap.{ItemDropped}
 use Rattle.removal.specs.Below.{nodeRemaining, RemovedBelow}

@@ -12,10 +12,10 @@ use Rattle.tree.specs.Remove.{prune, without}
 use Rattle.tree.proofs.Lists.{all-at, length-zero}
 use Rattle.tree.proofs.Walk.{leaf-nodes}
 use Rattle.plane.specs.Lines.{CellEntry}
+use Rattle.plane.specs.Fanout.{fanout, indexSpace}
 use Rattle.plane.proofs.Rects.{plane-space-laws}
 use Rattle.memory.specs.Layout.{partsOf, part, itemCount, entryIn, polygonIn}
 use Rattle.memory.proofs.ReadingLaws.{LeafParts, FitsAs, leaf-parts, make-leaf, fits-as, index-length, part-length, entries-length}
-use Rattle.plane.specs.Fanout.{fanout, indexSpace}
 use Rattle.layout.specs.Nodes.{NodePart}
 use Rattle.layout.specs.Gap.{withoutAt}
 use Rattle.layout.specs.PartSet.{setPart, freed, UsedPart}

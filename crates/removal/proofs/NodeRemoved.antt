@@ -18,10 +18,10 @@ use Rattle.tree.specs.Remove.{other, without}
 use Rattle.tree.proofs.Counts.{total-append}
 use Rattle.tree.proofs.Prune.{prune-one}
 use Rattle.tree.proofs.Lists.{length-zero}
+use Rattle.plane.specs.Fanout.{fanout, indexSpace}
 use Rattle.plane.proofs.Rects.{plane-space-laws}
 use Rattle.memory.specs.Layout.{partsOf, part, inUse, bitsSet, itemCount, polygonIn, childrenIn}
 use Rattle.memory.proofs.ReadingLaws.{NodeParts, FitsAs, node-parts, fits-as, index-length, part-length, lowAt, change-node, remove-node}
-use Rattle.plane.specs.Fanout.{fanout, indexSpace}
 use Rattle.layout.specs.Beside.{Beside}
 use Rattle.layout.specs.Nodes.{countAt}
 use Rattle.layout.specs.Gap.{withoutAt}

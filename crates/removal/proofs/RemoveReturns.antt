@@ -8,15 +8,15 @@ use borrow.Author.Tests.{not-true, not-false}
 use Rattle.polygons.specs.Lists.{any}
 use Rattle.geometry.specs.declared.rect.Cell.{Cell}
 use Rattle.geometry.specs.Cells.{onGrid}
+use Rattle.plane.specs.Fanout.{fanout}
 use Rattle.memory.specs.Layout.{isIndexLength}
 use Rattle.memory.specs.Reading.{reading}
-use Rattle.plane.specs.Fanout.{fanout}
 use Rattle.answers.specs.declared.answer.Removed.{Removed}
 use Rattle.answers.specs.declared.answer.Removed.the-variants.{WrongLength, Invalid, NoSoundTree, NotHeld}
-use Rattle.soundness.specs.declared.opening.Opened.{Opened}
-use Rattle.soundness.specs.declared.opening.Opened.the-variants as O
 use Rattle.answers.specs.Answers.{removeEnd, removeRead, removeAnswer}
 use Rattle.answers.specs.Changes.{RemoveCall}
+use Rattle.soundness.specs.declared.opening.Opened.{Opened}
+use Rattle.soundness.specs.declared.opening.Opened.the-variants as O
 use Rattle.soundness.specs.Open.{OpenedAs}
 use Rattle.removal.specs.Tree.{RemoveDone}
 

@@ -17,23 +17,23 @@ use Rattle.tree.specs.Remove.{prune, without, treeIf, remove}
 use Rattle.tree.proofs.Counts.{countOf-both}
 use Rattle.tree.proofs.Leaves.{cell-once}
 use Rattle.tree.proofs.RemoveIndex.{remove-entries, remove-sound}
+use Rattle.plane.specs.Fanout.{fanout, indexSpace, indexRoot}
 use Rattle.plane.proofs.Rects.{plane-space-laws}
 use Rattle.memory.specs.Layout.{bitsSet, rootIn, allZero}
 use Rattle.memory.specs.Reading.{reading}
+use Rattle.memory.specs.TreeIn.{TreeIn}
 use Rattle.memory.proofs.SoundTested.{test-of-sound}
 use Rattle.memory.proofs.ReadingLaws.{ReadAs, read-as, read-sound, make-reading, zeros-read, index-length}
-use Rattle.plane.specs.Fanout.{fanout, indexSpace, indexRoot}
 use Rattle.layout.specs.PartSet.{noTree}
 use Rattle.layout.proofs.BesideLaws.{right-same, head-same}
 use Rattle.answers.specs.declared.answer.Removed.the-variants.{Accepted, NotHeld}
 use Rattle.answers.specs.Answers.{removeEnd, removeRead}
 use Rattle.answers.specs.Changes.{removedIndex}
 use Rattle.walks.specs.Count.{entriesAt}
-use Rattle.memory.specs.TreeIn.{TreeIn}
 use Rattle.walks.proofs.TreeWalk.{root-sound-walk}
 use Rattle.walks.proofs.CountWalk.{tree-held}
-use Rattle.removal.specs.Below.{nodeRemaining, Removable, RemovedBelow}
 use Rattle.queries.specs.Held.{heldRead}
+use Rattle.removal.specs.Below.{nodeRemaining, Removable, RemovedBelow}
 use Rattle.removal.specs.Tree.{RemoveDone}
 use Rattle.removal.proofs.ZeroMemory.{all-zeros}
 

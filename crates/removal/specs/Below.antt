@@ -11,9 +11,9 @@ use Rattle.tree.specs.Lists.{total, notEmpty}
 use Rattle.tree.specs.Nodes.{Item, held, nodes}
 use Rattle.tree.specs.Query.{ofCell}
 use Rattle.tree.specs.Remove.{prune, other}
+use Rattle.plane.specs.Fanout.{fanout, indexSpace}
 use Rattle.memory.specs.Layout.{partsOf, part, bitsSet, itemCount, othersZero}
 use Rattle.memory.specs.Reading.{readNode}
-use Rattle.plane.specs.Fanout.{fanout, indexSpace}
 use Rattle.layout.specs.Beside.{Beside}
 use Rattle.layout.specs.Gap.{ItemIn}
 use Rattle.layout.specs.PartSet.{freed, UsedPart, EntryDroppedAt, BranchDroppedAt}

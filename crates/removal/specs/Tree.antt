@@ -4,8 +4,8 @@ use mathlib.Core.List.{List}
 use mathlib.Core.Path.{_≡_}
 use lib.ListN.{length}
 use Rattle.geometry.specs.declared.rect.Cell.{Cell}
-use Rattle.memory.specs.Reading.{reading}
 use Rattle.plane.specs.Fanout.{fanout}
+use Rattle.memory.specs.Reading.{reading}
 use Rattle.answers.specs.declared.answer.Removed.{Removed}
 use Rattle.answers.specs.Answers.{removeRead}
 use Rattle.answers.specs.Changes.{RemoveMemory}

@@ -1,7 +1,7 @@
 // The removal of an entry.
 ghost use Rattle.memory.specs.TreeIn.{TreeIn, Known};
-ghost use Rattle.soundness.specs.Open.{OpenedAs};
 ghost use Rattle.answers.specs.Changes.{RemoveCall};
+ghost use Rattle.soundness.specs.Open.{OpenedAs};
 ghost use Rattle.removal.specs.Tree.{RemoveDone};
 use crate::below::remove_below;
 use answers::Removed;

@@ -18,9 +18,9 @@ use Rattle.answers.specs.declared.answer.PointFound.{PointFound}
 use Rattle.answers.specs.declared.answer.WindowFound.{WindowFound}
 use Rattle.answers.specs.declared.answer.NearestFound.{NearestFound}
 use Rattle.answers.specs.declared.answer.EmptyFound.{EmptyFound}
-use Rattle.replay.specs.declared.coded.CodedCall.{CodedCall}
 use Rattle.answers.specs.declared.reply.Reply.{Reply}
 use Rattle.history.specs.Calls.{IndexCall}
+use Rattle.replay.specs.declared.coded.CodedCall.{CodedCall}
 use Rattle.replay.specs.Coded.{codedAt, fromAt, toAt, callOf, partFor, partBack}
 use Rattle.replay.specs.Replies.{putReply, Replied}
 use Rattle.replay.specs.Replay.{MadeOne}

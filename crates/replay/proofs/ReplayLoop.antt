@@ -9,14 +9,14 @@ use lib.ListN.{length, take, drop, length-append}
 use lib.Seq.{take-at, drop-at, drop-drop}
 use Rattle.tree.specs.Lists.{All}
 use Rattle.tree.proofs.Lists.{all-append}
+use Rattle.answers.specs.declared.reply.Reply.{Reply}
+use Rattle.answers.specs.Numbers.{withSeven}
 use Rattle.history.specs.Calls.{Performed, Linked}
 use Rattle.history.specs.Contract.{ByContract}
-use Rattle.answers.specs.declared.reply.Reply.{Reply}
+use Rattle.history.proofs.History.{kept-history}
 use Rattle.replay.specs.Coded.{codedAt, callOf, callsIn, callFits, Fits, partFor, partBack}
-use Rattle.answers.specs.Numbers.{withSeven}
 use Rattle.replay.specs.Replies.{replyNumbers, putReply}
 use Rattle.replay.specs.Replay.{MadeOne, Lends, answerNumbers, Replayed}
-use Rattle.history.proofs.History.{kept-history}
 use Rattle.replay.proofs.ReplyReturns.{reply-between}
 
 -- one call more at the end

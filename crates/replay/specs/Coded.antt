@@ -7,8 +7,8 @@ use lib.ListN.{getD, take, drop, length}
 use Rattle.geometry.specs.Cells.{cellOf, rectOf}
 use Rattle.tree.specs.Calls.{insertCall, removeCall, clearCall, pointCall, windowCall, nearestCall, emptyCall}
 use Rattle.plane.specs.Lines.{entryOf}
-use Rattle.replay.specs.declared.coded.CodedCall.{CodedCall}
 use Rattle.history.specs.Calls.{IndexCall}
+use Rattle.replay.specs.declared.coded.CodedCall.{CodedCall}
 
 -- the kind and the arguments of the i-th call
 unfoldable pub codedAt : List ℕ → ℕ → CodedCall

@@ -6,11 +6,11 @@ use mathlib.Core.Path.{_≡_}
 use lib.ListN.{drop, length}
 use Rattle.tree.specs.Lists.{All}
 use Rattle.answers.specs.declared.reply.Reply.{Reply}
+use Rattle.answers.specs.Numbers.{withSeven}
 use Rattle.history.specs.Calls.{Performed, freshMemory, Linked}
 use Rattle.history.specs.Claim.{HistoryClaim}
-use Rattle.replay.specs.Coded.{codedAt, callOf, callsIn, callFits, partFor, partBack}
 use Rattle.history.specs.Contract.{ByContract}
-use Rattle.answers.specs.Numbers.{withSeven}
+use Rattle.replay.specs.Coded.{codedAt, callOf, callsIn, callFits, partFor, partBack}
 use Rattle.replay.specs.Replies.{replyNumbers, putReply}
 
 -- The i-th call of the list l was made on the index m, which left m′, with its part of p lent, which left p′, and its

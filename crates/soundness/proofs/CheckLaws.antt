@@ -11,16 +11,16 @@ use Rattle.polygons.proofs.Booleans.{both}
 use Rattle.geometry.specs.declared.rect.Rect.{Rect}
 use Rattle.geometry.specs.Cells.{allValid}
 use Rattle.geometry.proofs.NumberLaws.{length-rects}
+use Rattle.cover.specs.Tests.{allPass, pairsPass, insideOf, apart}
 use Rattle.tree.specs.Lists.{total}
 use Rattle.tree.specs.Nodes.{Item, nodes}
+use Rattle.plane.specs.Fanout.{fanout, indexSpace}
 use Rattle.memory.specs.Layout.{part, rectCount, polygonIn, childrenIn, nodeFits, rectNumbers}
-use Rattle.cover.specs.Tests.{allPass, pairsPass, insideOf, apart}
 use Rattle.memory.specs.SoundTest.{polygonFits, countTest, apartTest, itemTest}
 use Rattle.memory.specs.Reading.{readRow, readNode, branchOf}
 use Rattle.memory.proofs.ReadingLaws.{row-none, row-parts, row-length, FitsAs, fits-as, children-length}
-use Rattle.plane.specs.Fanout.{fanout, indexSpace}
-use Rattle.soundness.specs.Check.{nodeTest, checked, checkedAt, partsApart}
 use Rattle.layout.proofs.ReadNodes.{node-polygon}
+use Rattle.soundness.specs.Check.{nodeTest, checked, checkedAt, partsApart}
 
 both-or-none : (a b : Bool) (x : ℕ) → cond (a && b) x 0 ≡ cond a (cond b x 0) 0
 both-or-none true b x = refl

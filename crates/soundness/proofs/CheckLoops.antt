@@ -12,21 +12,21 @@ use lib.Seq.{drop-cons}
 use Rattle.polygons.proofs.Booleans.{not-both, both, split-and, all4}
 use Rattle.geometry.specs.Cells.{allValid}
 use Rattle.geometry.specs.Numbers.{rectsIn}
+use Rattle.cover.specs.Tests.{allPass, pairsPass, insideOf, apart}
+use Rattle.cover.proofs.PassLoops.{Passing, passing-end, passing-stop, passing-on, Pairing, pairing-start, pairing-end, pairing-stop, pairing-on}
 use Rattle.tree.specs.Lists.{total}
 use Rattle.tree.specs.Nodes.{Item, nodes}
+use Rattle.tree.proofs.Walk.{leaf-nodes}
+use Rattle.plane.specs.Fanout.{fanout, indexSpace}
 use Rattle.memory.specs.Layout.{partsOf, part, rectCount, itemCount, polygonIn, entriesIn, childrenIn, nodeFits, rectNumbers}
-use Rattle.cover.specs.Tests.{allPass, pairsPass, insideOf, apart}
 use Rattle.memory.specs.SoundTest.{polygonFits, countTest, apartTest, itemTest}
 use Rattle.memory.specs.Reading.{readRow, readNode}
 use Rattle.memory.proofs.ReadingLaws.{fits-as, leaf-parts, node-parts, nodes-range, entries-length, part-length, IndexLength, children-length}
-use Rattle.plane.specs.Fanout.{fanout, indexSpace}
 use Rattle.layout.specs.Nodes.{PartIn, NodePart, PolygonPart}
-use Rattle.soundness.specs.Check.{nodeTest, checked, checkedAt, partsApart, PolygonParts}
 use Rattle.layout.proofs.NodeLaws.{lent-polygon}
-use Rattle.cover.proofs.PassLoops.{Passing, passing-end, passing-stop, passing-on, Pairing, pairing-start, pairing-end, pairing-stop, pairing-on}
-use Rattle.tree.proofs.Walk.{leaf-nodes}
-use Rattle.soundness.proofs.CheckLaws.{found, rowSum, rowChecked, low-row, high-row, lost-row, found-row, checked-node, fits-polygon, count-fits, later-first, none-or-none}
 use Rattle.layout.proofs.ReadNodes.{node-part}
+use Rattle.soundness.specs.Check.{nodeTest, checked, checkedAt, partsApart, PolygonParts}
+use Rattle.soundness.proofs.CheckLaws.{found, rowSum, rowChecked, low-row, high-row, lost-row, found-row, checked-node, fits-polygon, count-fits, later-first, none-or-none}
 
 -- tests on the polygons at two parts
 module _ (m : List ℕ) (i j : ℕ) (p l : List ℕ) (r : ℕ) (q s : List ℕ) (t : ℕ) (p-is : p ≡ part m i) (l-is : l ≡ rectNumbers p) (r-is : r ≡ rectCount p)

@@ -13,9 +13,9 @@ use Rattle.geometry.specs.Containment.{containment}
 use Rattle.geometry.specs.Numbers.{rectsIn}
 use Rattle.cover.specs.Tests.{allPass, pairsPass}
 use Rattle.cover.proofs.PassLoops.{Passing, passing-start, passing-end, passing-stop, passing-on, Pairing, pairing-start, pairing-end, pairing-stop, pairing-on}
+use Rattle.plane.specs.Fanout.{fanout}
 use Rattle.memory.specs.Layout.{rectCount, itemCount, polygonIn, entryIn, entriesIn, rectNumbers}
 use Rattle.memory.specs.SoundTest.{apartTest, itemTest}
-use Rattle.plane.specs.Fanout.{fanout}
 use Rattle.layout.specs.Nodes.{NodePart}
 use Rattle.layout.proofs.EntryRows.{entries-next, entries-end}
 

@@ -11,22 +11,22 @@ use lib.ListN.{length, take, drop}
 use Rattle.polygons.proofs.Booleans.{not-both, both, split-and, all4}
 use Rattle.geometry.specs.Cells.{allValid}
 use Rattle.geometry.proofs.NumberLaws.{length-rects}
+use Rattle.cover.specs.Tests.{allPass, pairsPass}
 use Rattle.tree.specs.Nodes.{Item, nodes}
 use Rattle.tree.specs.Tree.{Tree, top}
+use Rattle.plane.specs.Fanout.{fanout, indexSpace}
 use Rattle.memory.specs.Layout.{partsOf, isIndexLength, part, bitsSet, heightIn, rootIn, allZero, rectCount, othersZero, rectNumbers}
-use Rattle.cover.specs.Tests.{allPass, pairsPass}
 use Rattle.memory.specs.SoundTest.{polygonFits, countTest, apartTest, itemTest, soundTest}
 use Rattle.memory.specs.Reading.{readNode, treeOf, reading}
-use Rattle.memory.proofs.ReadingLaws.{index-length, ReadAs, read-as, read-empty, make-reading, zeros-read, zero-at, level-range}
-use Rattle.plane.specs.Fanout.{fanout, indexSpace}
-use Rattle.layout.specs.Nodes.{PartIn}
-use Rattle.soundness.specs.Check.{nodeTest, checked, checkedAt}
 use Rattle.memory.specs.TreeIn.{TreeIn}
-use Rattle.soundness.specs.Open.{OpenedAs}
-use Rattle.soundness.proofs.CheckLaws.{found}
+use Rattle.memory.proofs.ReadingLaws.{index-length, ReadAs, read-as, read-empty, make-reading, zeros-read, zero-at, level-range}
+use Rattle.layout.specs.Nodes.{PartIn}
 use Rattle.layout.proofs.ReadNodes.{node-polygon, node-part}
+use Rattle.soundness.specs.Check.{nodeTest, checked, checkedAt}
+use Rattle.soundness.specs.Open.{OpenedAs}
 use Rattle.soundness.specs.declared.opening.Opened.{Opened}
 use Rattle.soundness.specs.declared.opening.Opened.the-variants as O
+use Rattle.soundness.proofs.CheckLaws.{found}
 
 -- a length that was tested is right
 pub right-is : (m : List ℕ) (b : Bool) → b ≡ isIndexLength m → b ≡ true → isIndexLength m ≡ true

@@ -6,13 +6,13 @@ use mathlib.Core.List.{List}
 use mathlib.Core.Option.{none, some}
 use native.Mathlib.Omega.{arith}
 use lib.ListN.{length}
+use Rattle.plane.specs.Fanout.{fanout, PlaneIndex}
 use Rattle.memory.specs.Layout.{isIndexLength, heightIn, rootIn}
 use Rattle.memory.specs.Reading.{reading}
+use Rattle.memory.specs.TreeIn.{TreeIn, Reads, Known}
 use Rattle.memory.proofs.ReadingLaws.{index-length, zero-at, read-empty, read-as}
-use Rattle.plane.specs.Fanout.{fanout, PlaneIndex}
 use Rattle.soundness.specs.declared.opening.Opened.{Opened}
 use Rattle.soundness.specs.declared.opening.Opened.the-variants as O
-use Rattle.memory.specs.TreeIn.{TreeIn, Reads, Known}
 use Rattle.soundness.specs.Open.{OpenedAs}
 
 -- a memory of which nothing is known, and one that is known to read as an index

@@ -4,11 +4,11 @@ use mathlib.Core.List.{List}
 use mathlib.Core.Option.{none, some}
 use mathlib.Core.Path.{_≡_}
 use Rattle.tree.specs.Tree.{Tree}
-use Rattle.memory.specs.Reading.{reading}
 use Rattle.plane.specs.Fanout.{fanout}
+use Rattle.memory.specs.Reading.{reading}
+use Rattle.memory.specs.TreeIn.{TreeIn}
 use Rattle.soundness.specs.declared.opening.Opened.{Opened}
 use Rattle.soundness.specs.declared.opening.Opened.the-variants as O
-use Rattle.memory.specs.TreeIn.{TreeIn}
 
 abbrev pub OpenedAs : List ℕ → Opened → Type 0
 OpenedAs m O.NoSoundTree = reading fanout m ≡ none

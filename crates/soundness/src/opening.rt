@@ -2,8 +2,8 @@
 ghost use mathlib.Core.Path.{_≡_};
 ghost use mathlib.Core.Bool.{true};
 ghost use Rattle.memory.specs.Layout.{isIndexLength};
-ghost use Rattle.soundness.specs.Open.{OpenedAs};
 ghost use Rattle.memory.specs.TreeIn.{Reads, Known};
+ghost use Rattle.soundness.specs.Open.{OpenedAs};
 use crate::check::check_node;
 use layout::all_zero;
 use layout::bits_set;

@@ -10,8 +10,8 @@ use Rattle.tree.specs.Nodes.{Item, held}
 use Rattle.tree.specs.Walk.{nodeWalkEntries}
 use Rattle.tree.proofs.Lists.{flatMap-single, flatMap-same, keep-flatMap, all-first, all-second, all-head, all-any}
 use Rattle.plane.specs.Lines.{CellEntry, OnGrid}
-use Rattle.memory.specs.Layout.{part, itemCount, entryIn}
 use Rattle.plane.specs.Fanout.{indexSpace}
+use Rattle.memory.specs.Layout.{part, itemCount, entryIn}
 use Rattle.layout.specs.Nodes.{countAt, childAt}
 use Rattle.walks.specs.Count.{entriesAt, entriesOf}
 use Rattle.walks.specs.Walks.{visitsBelow, entriesFrom, entriesBelow, leafEntries, Walkable, anyPolygon}

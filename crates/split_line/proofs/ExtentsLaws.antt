@@ -4,6 +4,7 @@ use mathlib.Core.Path.{_≡_, refl, sym, ap, _∙_, fun-ext}
 use mathlib.Core.Bool.{Bool, true, false, cond, and-true}
 use mathlib.Core.List.{List, [], _∷_, _++_, map, append-nil}
 use native.Mathlib.Omega.{arith}
+use Rattle.polygons.specs.Lists.{least}
 use Rattle.geometry.specs.declared.rect.Cell.{Cell}
 use Rattle.geometry.specs.declared.rect.Line.{Line}
 use Rattle.geometry.specs.Cells.{onGrid, valid}
@@ -12,20 +13,19 @@ use Rattle.tree.specs.Lists.{All, keep}
 use Rattle.tree.specs.Space.{Side}
 use Rattle.tree.specs.Nodes.{on, entryOn}
 use Rattle.tree.specs.Pass.{onAll}
-use Rattle.polygons.specs.Lists.{least}
 use Rattle.tree.proofs.Lists.{all-map, keep-append}
 use Rattle.plane.specs.Best.{greatest}
 use Rattle.plane.specs.Lines.{CellEntry, xOf, yOf, Payload, somePayload, entryOf, OnGrid}
 use Rattle.plane.specs.Candidates.{extentOf, extents}
-use Rattle.plane.proofs.Kept.{keep-all}
 use Rattle.plane.specs.Fanout.{indexSpace}
+use Rattle.plane.proofs.Kept.{keep-all}
 use Rattle.walks.specs.Count.{entriesAt}
 use Rattle.split_line.specs.Sides.{sideOf, sidesOf, onSide, onEvery, onTest}
-use Rattle.split_line.proofs.SideLaws.{keep-every}
 use Rattle.split_line.specs.declared.extent.GroupExtent.{GroupExtent}
 use Rattle.split_line.specs.GroupExtent.{extentRect, extentRectOf, groupExtent, extentAdd, keptUnder, NodeExtent}
 use Rattle.split_line.specs.Extents.{rectExtent}
 use Rattle.split_line.specs.GroupExtents.{GridNode, sideExtent}
+use Rattle.split_line.proofs.SideLaws.{keep-every}
 use Rattle.split_line.proofs.GroupExtentLaws.{group-more}
 
 -- the extents of entries on the grid are valid

@@ -6,12 +6,12 @@ use mathlib.Core.List.{List, [], _∷_, _++_, append-nil}
 use native.Mathlib.Omega.{arith}
 use mir.Syntax.{w32}
 use mir.Val.{Fits}
+use Rattle.polygons.specs.Lists.{least}
 use Rattle.geometry.specs.declared.rect.Cell.{Cell}
 use Rattle.geometry.specs.declared.rect.Rect.{Rect}
 use Rattle.geometry.specs.Cells.{onGrid}
 use Rattle.geometry.specs.Grow.{grown}
 use Rattle.geometry.specs.Refine.{union}
-use Rattle.polygons.specs.Lists.{least}
 use Rattle.geometry.proofs.CellLaws.{grid-x, grid-y}
 use Rattle.plane.specs.Best.{greatest}
 use Rattle.plane.specs.Lines.{CellEntry}

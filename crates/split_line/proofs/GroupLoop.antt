@@ -21,10 +21,10 @@ use Rattle.tree.specs.Nodes.{Item, held}
 use Rattle.tree.proofs.Lists.{all-append, all-head, all-tail, flatMap-all}
 use Rattle.plane.specs.Lines.{CellEntry, somePayload, entryOf, OnGrid}
 use Rattle.plane.specs.Candidates.{numberedLine}
+use Rattle.plane.specs.Fanout.{fanout, indexSpace}
 use Rattle.memory.specs.Layout.{part, childrenIn}
 use Rattle.memory.specs.Reading.{readNode}
 use Rattle.memory.proofs.ReadingLaws.{RowParts, row-parts, row-none, row-length, node-parts}
-use Rattle.plane.specs.Fanout.{fanout, indexSpace}
 use Rattle.layout.specs.Nodes.{countAt, childAt}
 use Rattle.walks.specs.Count.{entriesAt, entriesOf}
 use Rattle.walks.proofs.WalkRows.{RowWalkable, walkable}

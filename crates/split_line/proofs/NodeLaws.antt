@@ -13,11 +13,11 @@ use Rattle.tree.specs.Nodes.{Item, held}
 use Rattle.tree.specs.Space.{left, right}
 use Rattle.plane.specs.Lines.{CellEntry, nodeLine, Payload, somePayload, entryOf}
 use Rattle.plane.specs.Candidates.{extents, candidates, leastKey, numberedLine, keyLine}
+use Rattle.plane.specs.Fanout.{fanout, indexSpace}
 use Rattle.plane.proofs.LeastKey.{least-key-line}
 use Rattle.plane.proofs.NodeLine.{node-range}
 use Rattle.plane.proofs.Range.{InRange}
 use Rattle.memory.specs.Reading.{readNode}
-use Rattle.plane.specs.Fanout.{fanout, indexSpace}
 use Rattle.split_line.specs.GroupExtent.{extentRectOf}
 use Rattle.split_line.specs.Extents.{rectExtent, extentsIn, noKey, bestNumber}
 use Rattle.split_line.specs.Groups.{halvesOf, groupsIn, groupsOf, groupsAt, NodeLineIs}

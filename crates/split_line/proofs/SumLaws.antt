@@ -18,16 +18,16 @@ use Rattle.tree.specs.Lists.{All, total}
 use Rattle.tree.proofs.Lists.{all-append, all-first, all-second, all-head}
 use Rattle.tree.proofs.Counts.{total-append}
 use Rattle.plane.specs.Lines.{CellEntry, xOf, yOf, spread, meanLine, leafLine, Payload, somePayload, entryOf, OnGrid}
+use Rattle.plane.specs.Fanout.{fanout}
 use Rattle.plane.proofs.Bounds.{x-bounds, y-bounds}
 use Rattle.plane.proofs.LeafLine.{leaf-range}
 use Rattle.plane.proofs.Range.{InRange}
 use Rattle.memory.specs.Layout.{itemCount, entryIn, entriesIn}
 use Rattle.memory.proofs.ReadingLaws.{entries-length}
-use Rattle.plane.specs.Fanout.{fanout}
-use Rattle.split_line.proofs.SideLaws.{line-x, line-y}
 use Rattle.split_line.specs.declared.leaf.Sums.{Sums}
 use Rattle.split_line.specs.LineNumber.{LineIs}
 use Rattle.split_line.specs.FullLeaf.{entriesOf, LeafHere, FullLeaf, LeafLineIs, SmallSums, sumsOf, addedSums}
+use Rattle.split_line.proofs.SideLaws.{line-x, line-y}
 
 pub sums-with : (s : Sums) (c : Cell) → record { x = s .x + c .x; xx = s .xx + c .x * c .x; y = s .y + c .y; yy = s .yy + c .y * c .y } ≡ addedSums s c
 unfolding addedSums

@@ -9,8 +9,8 @@ use Rattle.geometry.specs.Cells.{onGrid}
 use Rattle.tree.specs.Lists.{Pairs, total}
 use Rattle.tree.specs.Sound.{Apart}
 use Rattle.plane.specs.Lines.{CellEntry, xOf, yOf, leafLine, Payload, entryOf, OnGrid}
-use Rattle.memory.specs.Layout.{itemCount, entriesIn}
 use Rattle.plane.specs.Fanout.{fanout, indexSpace}
+use Rattle.memory.specs.Layout.{itemCount, entriesIn}
 use Rattle.layout.specs.Nodes.{NodePart}
 use Rattle.split_line.specs.LineNumber.{LineIs}
 use Rattle.split_line.specs.declared.leaf.Sums.{Sums}

@@ -14,10 +14,10 @@ use Rattle.tree.specs.Space.{left, right}
 use Rattle.tree.specs.Nodes.{Item, held, entryOn}
 use Rattle.plane.specs.Lines.{CellEntry, holdsOn, nodeLine, Payload, entryOf, OnGrid}
 use Rattle.plane.specs.Candidates.{numberedLine}
+use Rattle.plane.specs.Fanout.{fanout, indexSpace}
 use Rattle.plane.proofs.NodeLine.{Fits, GridGroups}
 use Rattle.plane.proofs.Extents.{SomeEach}
 use Rattle.memory.specs.Reading.{readNode}
-use Rattle.plane.specs.Fanout.{fanout, indexSpace}
 use Rattle.layout.specs.Nodes.{countAt}
 use Rattle.walks.specs.Walks.{Walkable}
 use Rattle.walks.specs.Count.{entriesAt}

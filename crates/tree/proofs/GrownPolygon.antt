@@ -8,15 +8,15 @@ use lib.ListN.{length}
 use native.Mathlib.Omega.{arith}
 use Rattle.polygons.specs.Limits.{atMost, mostOfPolygon, mostPieces}
 use Rattle.polygons.specs.Lists.{any}
+use Rattle.polygons.specs.Rules.{cutEach, commons}
 use Rattle.polygons.proofs.LimitLaws.{at-most-is, at-most-length}
+use Rattle.polygons.proofs.Booleans.{is-false, neither-of, or-left, or-right}
+use Rattle.polygons.proofs.ListLaws.{any-append}
 use Rattle.tree.specs.Lists.{All}
 use Rattle.tree.specs.Space.{Side}
 use Rattle.tree.specs.Nodes.{on}
 use Rattle.tree.specs.Boxes.{Boxes, anyHas, GoodPolygon, clipPoly, Poly}
 use Rattle.tree.specs.Search.{Focus}
-use Rattle.polygons.specs.Rules.{cutEach, commons}
-use Rattle.polygons.proofs.Booleans.{is-false, neither-of, or-left, or-right}
-use Rattle.polygons.proofs.ListLaws.{any-append}
 use Rattle.tree.specs.Step2.{grownPoly}
 use Rattle.tree.specs.BoxSpace.{spaceOf}
 use Rattle.tree.proofs.BoxLaws.{BoxLaws}

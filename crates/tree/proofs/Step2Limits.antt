@@ -8,10 +8,10 @@ use lib.ListN.{length, length-append}
 use native.Mathlib.Omega.{arith}
 use Rattle.polygons.specs.Limits.{atMost, mostOfPolygon, mostPieces}
 use Rattle.polygons.specs.Lists.{any}
+use Rattle.polygons.specs.Rules.{cutEach, commons}
 use Rattle.polygons.proofs.LimitLaws.{at-most-is}
 use Rattle.tree.specs.Boxes.{Boxes, Poly, anyHas}
 use Rattle.tree.specs.Search.{Focus}
-use Rattle.polygons.specs.Rules.{cutEach, commons}
 use Rattle.tree.proofs.BoxLaws.{BoxLaws}
 use Rattle.tree.proofs.GrownPolygon.{cut-each, commons-cells, has-some}
 

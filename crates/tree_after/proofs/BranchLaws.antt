@@ -14,8 +14,8 @@ use Rattle.tree.specs.Lists.{total}
 use Rattle.tree.specs.Nodes.{Item, nodes}
 use Rattle.tree.specs.Plan.{clips, branchUnder}
 use Rattle.plane.specs.Lines.{CellEntry}
-use Rattle.memory.specs.Image.{nodePart, writeRow}
 use Rattle.plane.specs.Fanout.{indexSpace}
+use Rattle.memory.specs.Image.{nodePart, writeRow}
 use Rattle.layout.specs.declared.node.Node.{Node}
 use Rattle.layout.specs.Loaded.{nodeOf, leafOf}
 use Rattle.layout.specs.Parts.{PartPut, PartRoom}

@@ -6,10 +6,10 @@ use native.Mathlib.Omega.{arith}
 use lib.ListN.{length, set}
 use Rattle.tree.specs.Lists.{total}
 use Rattle.tree.specs.Nodes.{Item, nodes}
+use Rattle.plane.specs.Fanout.{fanout, indexSpace}
 use Rattle.memory.specs.Layout.{part, itemCount, polygonIn, entriesIn}
 use Rattle.memory.specs.Image.{nodePart, entryNumbers}
 use Rattle.memory.proofs.ReadingLaws.{fits-as, leaf-parts, node-parts, part-length, entries-length}
-use Rattle.plane.specs.Fanout.{fanout, indexSpace}
 use Rattle.layout.specs.declared.node.Node.{Node}
 use Rattle.layout.specs.Loaded.{nodeOf, withNode, withChild}
 use Rattle.layout.specs.Nodes.{countAt, childAt}

@@ -12,10 +12,10 @@ use Rattle.tree.specs.Plan.{branchUnder, clips}
 use Rattle.tree.proofs.Counts.{total-append}
 use Rattle.tree.proofs.Lists.{notEmpty-length}
 use Rattle.plane.specs.Lines.{CellEntry}
+use Rattle.plane.specs.Fanout.{fanout, indexSpace}
 use Rattle.memory.specs.Layout.{polygonIn}
 use Rattle.memory.specs.Image.{writeNode}
 use Rattle.memory.proofs.NodeImage.{length-node}
-use Rattle.plane.specs.Fanout.{fanout, indexSpace}
 use Rattle.split_line.specs.Sides.{sidesOf}
 use Rattle.tree_after.specs.Writes.{counted}
 use Rattle.tree_after.specs.Leaves.{leafRemaining, leafUnder}

@@ -5,8 +5,8 @@ use mathlib.Core.List.{List, []}
 use native.Mathlib.Omega.{arith}
 use lib.ListN.{length}
 use Rattle.tree.specs.Nodes.{Item}
-use Rattle.memory.specs.Layout.{part, polygonIn}
 use Rattle.plane.specs.Fanout.{indexSpace}
+use Rattle.memory.specs.Layout.{part, polygonIn}
 use Rattle.layout.specs.Nodes.{countAt, childAt}
 use Rattle.walks.specs.Walks.{Walkable}
 use Rattle.tree_after.specs.Writes.{counted, deepAt}
@@ -21,7 +21,7 @@ count-leaf level m lo k ss p r z v q e =
     let v′ : Walkable 0 m lo k = rw z at v in
     rw (z, deep-leaf m lo k ss v′, ← q) e
 
--- Before the i-th of the size children: c counts the nodes remaining of those that were passed.
+-- Before the i-th of the size children: c counts the nodes that remain of those that were passed.
 pub record CountLoop (level : ℕ) (m : List ℕ) (lo k : ℕ) (ss : List ℕ) (size i low c : ℕ) : Type 0 where
   pub level-is : level ≡ suc (level - 1)
   pub bs : List (Item indexSpace (suc (level - 1)))

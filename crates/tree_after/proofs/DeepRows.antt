@@ -16,10 +16,10 @@ use Rattle.tree.specs.Nodes.{Item}
 use Rattle.tree.specs.Plan.{branchUnder, clips}
 use Rattle.tree.specs.Pass.{deep}
 use Rattle.plane.specs.Lines.{CellEntry}
+use Rattle.plane.specs.Fanout.{fanout, indexSpace}
 use Rattle.memory.specs.Layout.{part, itemCount, polygonIn, entriesIn, childrenIn}
 use Rattle.memory.specs.Reading.{readRow, readNode}
 use Rattle.memory.proofs.ReadingLaws.{row-parts, leaf-parts, node-parts}
-use Rattle.plane.specs.Fanout.{fanout, indexSpace}
 use Rattle.layout.specs.Nodes.{countAt, childAt}
 use Rattle.walks.specs.Walks.{Walkable, leafEntries}
 use Rattle.walks.proofs.WalkRows.{RowWalkable, walkable}
@@ -58,7 +58,7 @@ unfolding sidesOf
 length-sides [] = refl
 length-sides (s ∷ ss) = ap suc (length-sides ss)
 
--- at most one branch is remaining of a node
+-- at most one branch remains of a node
 deep-of-one : (n : ℕ) (ss : List ℕ) (o : Option (Item indexSpace (suc n))) → length (deepOf n ss o) ≤ 1
 unfolding deepOf deep
 deep-of-one n ss none = omega arith
@@ -126,7 +126,7 @@ deep-step n m lo hi j ks ss v =
       whole = rw (e, r .head, r .tail);
     }
 
--- Before the i-th of the size children of the node at part k: bs are remaining of those that were passed, and low is the child's lower end.
+-- Before the i-th of the size children of the node at part k: bs remain of those that were passed, and low is the child's lower end.
 pub record AtDeep (n : ℕ) (m : List ℕ) (lo k : ℕ) (ss : List ℕ) (size i low : ℕ) (bs : List (Item indexSpace (suc n))) : Type 0 where
   pub size-is : size ≡ countAt m k
   pub i-le : i ≤ size

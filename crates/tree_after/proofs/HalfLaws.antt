@@ -18,9 +18,9 @@ use Rattle.layout.specs.Loaded.{nodeOf}
 use Rattle.layout.specs.Nodes.{countAt}
 use Rattle.walks.specs.Walks.{Walkable}
 use Rattle.split_line.specs.Sides.{sideOf, sidesOf}
+use Rattle.path.specs.Path.{partOn, placeOn, lineOn, polygonOn}
 use Rattle.tree_after.specs.declared.node.Branches.{Branches}
 use Rattle.tree_after.specs.Writes.{Writes, Room}
-use Rattle.path.specs.Path.{partOn, placeOn, lineOn, polygonOn}
 use Rattle.tree_after.specs.Path.{rowAt, rowUnder, halfUnder, cutUnder, PathFrom}
 use Rattle.tree_after.specs.Rows.{nodeParts, withBranch, noBranches, Grows, rangeUnder, beforeOn, behindOn, RestWritten, RestRoom}
 use Rattle.tree_after.proofs.CutLaws.{front-is, cut-whole, cut-split}

@@ -1,4 +1,4 @@
--- The loops over a leaf's entries under sides: whether one is remaining, and those that remain gathered in a leaf.
+-- The loops over a leaf's entries under sides: whether one remains, and those that do, gathered in a leaf.
 use Prim.Native.Nat.{ℕ, _+_, _≤_, _<_}
 use mathlib.Core.Path.{_≡_, ap, _∙_}
 use mathlib.Core.Bool.{Bool, true, false}
@@ -25,7 +25,7 @@ pub remaining-is : (ss : List ℕ) (e : CellEntry) (c : Cell) (b : Bool) → c �
 unfolding onTest
 remaining-is ss e c b q g = g ∙ ap (onEvery ss) q
 
--- an entry was found, or none is remaining
+-- an entry was found, or none remains
 module _ (ss p : List ℕ) (n i : ℕ) (a : AtEntry (onTest ss) p n i []) where
   module _ (leaf : Node) (q : leaf ≡ nodeIn p) (h : i < n) (b : Bool) (e : b ≡ onTest ss (nodeEntry leaf i)) where
     passed : b ≡ onTest ss (entryIn p i)

@@ -13,16 +13,16 @@ use Rattle.tree.specs.Nodes.{Item, nodes}
 use Rattle.tree.specs.Plan.{branchUnder}
 use Rattle.plane.specs.Lines.{CellEntry}
 use Rattle.plane.specs.Candidates.{numberedLine}
-use Rattle.memory.specs.Layout.{part}
 use Rattle.plane.specs.Fanout.{indexSpace}
+use Rattle.memory.specs.Layout.{part}
 use Rattle.layout.specs.declared.node.Node.{Node}
 use Rattle.layout.specs.Loaded.{leafOf}
 use Rattle.layout.specs.Nodes.{childAt, countAt}
 use Rattle.layout.proofs.LoadedLaws.{count-entries}
 use Rattle.walks.specs.Walks.{Walkable}
 use Rattle.split_line.specs.Sides.{sideOf, sidesOf}
-use Rattle.tree_after.specs.Writes.{counted, deepAt}
 use Rattle.path.specs.Path.{partOn, placeOn, lineOn, polygonOn}
+use Rattle.tree_after.specs.Writes.{counted, deepAt}
 use Rattle.tree_after.specs.Path.{halfUnder, cutUnder, PathNode, PathFrom}
 use Rattle.tree_after.specs.Rows.{kept, nodeParts, rangeUnder, beforeOn, behindOn}
 use Rattle.tree_after.proofs.CountLaws.{none-counted, counted-few, counted-none, counted-more}

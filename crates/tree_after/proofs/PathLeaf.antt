@@ -12,8 +12,8 @@ use Rattle.tree.specs.Nodes.{nodes}
 use Rattle.tree.specs.Plan.{branchUnder}
 use Rattle.tree.proofs.Lists.{keep-append}
 use Rattle.plane.specs.Lines.{CellEntry}
-use Rattle.memory.specs.Layout.{part, itemCount, entriesIn}
 use Rattle.plane.specs.Fanout.{indexSpace}
+use Rattle.memory.specs.Layout.{part, itemCount, entriesIn}
 use Rattle.layout.specs.declared.entry.Entry.{Entry}
 use Rattle.layout.specs.declared.node.Node.{Node}
 use Rattle.layout.specs.Entries.{treeEntry}
@@ -23,9 +23,9 @@ use Rattle.layout.proofs.LoadedLaws.{count-entries, entry-more}
 use Rattle.walks.specs.Walks.{leafEntries}
 use Rattle.walks.proofs.WalkRows.{node-part}
 use Rattle.split_line.specs.Sides.{sidesOf, onEvery, onTest}
+use Rattle.path.specs.Path.{partOn, polygonOn}
 use Rattle.tree_after.specs.Writes.{Writes, Room}
 use Rattle.tree_after.specs.Leaves.{leafRemaining}
-use Rattle.path.specs.Path.{partOn, polygonOn}
 use Rattle.tree_after.specs.Path.{wayAt, rowUnder, halfUnder, PathNode}
 use Rattle.tree_after.specs.Rows.{NodeWritten, NodeRoom, nodeParts}
 use Rattle.tree_after.proofs.DeepRows.{entries-remaining}

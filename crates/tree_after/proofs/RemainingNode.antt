@@ -5,9 +5,9 @@ use mathlib.Core.List.{List}
 use Rattle.geometry.specs.declared.polygon.Polygon.{Polygon}
 use Rattle.geometry.specs.Numbers.{rectsIn, rectsOf, PolygonOf}
 use Rattle.tree.specs.Plan.{clips}
+use Rattle.plane.specs.Fanout.{indexSpace}
 use Rattle.memory.specs.Layout.{rectCount, polygonIn, rectNumbers}
 use Rattle.memory.specs.Image.{nodePart}
-use Rattle.plane.specs.Fanout.{indexSpace}
 use Rattle.layout.specs.declared.node.Node.{Node}
 use Rattle.layout.specs.Parts.{PartPut}
 use Rattle.split_line.specs.Sides.{sidesOf}

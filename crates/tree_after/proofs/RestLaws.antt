@@ -8,9 +8,9 @@ use Rattle.geometry.specs.Numbers.{rectsOf, PolygonOf}
 use Rattle.layout.specs.Loaded.{nodeOf}
 use Rattle.layout.specs.Nodes.{countAt}
 use Rattle.walks.specs.Walks.{Walkable}
+use Rattle.path.specs.Path.{partOn, placeOn, polygonOn}
 use Rattle.tree_after.specs.declared.node.Branches.{Branches}
 use Rattle.tree_after.specs.Writes.{Room}
-use Rattle.path.specs.Path.{partOn, placeOn, polygonOn}
 use Rattle.tree_after.specs.Rows.{PathStep, NodeRoom, NodeWritten, noBranches, Grows, rangeUnder, beforeOn, behindOn, RestWritten, RestRoom}
 
 module _ (level : ℕ) (path m : List ℕ) (x : PathStep level path m) (k place : ℕ) (k-is : k ≡ partOn path level) (place-is : place ≡ placeOn path level) where

@@ -11,18 +11,18 @@ use lib.Seq.{drop-cons}
 use Rattle.tree.specs.Lists.{total}
 use Rattle.tree.specs.Nodes.{Item, nodes}
 use Rattle.tree.proofs.Counts.{total-append}
+use Rattle.plane.specs.Fanout.{fanout, indexSpace}
 use Rattle.memory.specs.Layout.{part, childrenIn}
 use Rattle.memory.specs.Image.{writeRow, writeNode}
 use Rattle.memory.specs.Reading.{readNode}
 use Rattle.memory.proofs.NodeImage.{length-node}
 use Rattle.memory.proofs.ReadingLaws.{lowAt, row-at, row-length, node-parts, node-lower}
-use Rattle.plane.specs.Fanout.{fanout, indexSpace}
 use Rattle.layout.specs.declared.node.Node.{Node}
 use Rattle.layout.specs.Loaded.{nodeOf, routingOf, nodeIn, nodeChild, withChild}
 use Rattle.layout.specs.Nodes.{childAt, countAt}
-use Rattle.walks.specs.Walks.{Walkable}
 use Rattle.layout.proofs.NodeLaws.{child-in}
 use Rattle.layout.proofs.LoadedLaws.{count-children, child-at, child-more}
+use Rattle.walks.specs.Walks.{Walkable}
 use Rattle.walks.proofs.WalkLoop.{children-count}
 use Rattle.walks.proofs.WalkRows.{walkable}
 use Rattle.tree_after.specs.declared.node.Branches.{Branches}

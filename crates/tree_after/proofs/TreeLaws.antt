@@ -14,14 +14,14 @@ use Rattle.tree.specs.Nodes.{Item, nodes}
 use Rattle.tree.specs.Tree.{Tree, top, nodeCount}
 use Rattle.plane.specs.Lines.{CellEntry}
 use Rattle.plane.specs.Candidates.{numberedLine}
-use Rattle.memory.specs.Image.{writeRow, writeNode}
 use Rattle.plane.specs.Fanout.{fanout, indexSpace}
+use Rattle.memory.specs.Image.{writeRow, writeNode}
 use Rattle.layout.specs.Loaded.{nodeOf}
 use Rattle.split_line.specs.Sides.{sideOf, sidesOf}
+use Rattle.path.specs.Path.{lineOn, polygonOn}
 use Rattle.tree_after.specs.declared.node.Branches.{Branches}
 use Rattle.tree_after.specs.declared.on_path.Written.{Written}
 use Rattle.tree_after.specs.Writes.{Writes, Room, counted}
-use Rattle.path.specs.Path.{lineOn, polygonOn}
 use Rattle.tree_after.specs.Path.{rowUnder, halfUnder, cutUnder, plannedTree}
 use Rattle.tree_after.specs.Rows.{kept, nodeParts, NodeWritten, NodeRoom, withBranch, noBranches, Grows, RestRoom}
 use Rattle.tree_after.specs.Whole.{TreeRoom, TreeWritten}

@@ -8,9 +8,9 @@ use Rattle.tree.specs.Lists.{total}
 use Rattle.tree.specs.Nodes.{Item, nodes}
 use Rattle.tree.specs.Plan.{clips}
 use Rattle.tree.proofs.Lists.{length-zero}
+use Rattle.plane.specs.Fanout.{indexSpace}
 use Rattle.memory.specs.Layout.{part, polygonIn}
 use Rattle.memory.specs.Image.{nodePart, entryNumbers, writeRow}
-use Rattle.plane.specs.Fanout.{indexSpace}
 use Rattle.layout.specs.declared.node.Node.{Node}
 use Rattle.layout.specs.Loaded.{leafOf, withChild}
 use Rattle.layout.specs.Nodes.{childAt}

@@ -12,9 +12,9 @@ use Rattle.tree.specs.Nodes.{Item, nodes}
 use Rattle.tree.proofs.Lists.{flatMap-one}
 use Rattle.tree.proofs.Counts.{total-append}
 use Rattle.plane.specs.Lines.{CellEntry}
+use Rattle.plane.specs.Fanout.{fanout, indexSpace}
 use Rattle.memory.specs.Image.{nodePart, entryNumbers, writeRow, writeNode}
 use Rattle.memory.proofs.NodeImage.{length-row, length-node}
-use Rattle.plane.specs.Fanout.{fanout, indexSpace}
 use Rattle.layout.specs.declared.node.Node.{Node}
 use Rattle.layout.specs.Loaded.{nodeOf, routingOf, withChild}
 use Rattle.layout.specs.Parts.{PartPut}

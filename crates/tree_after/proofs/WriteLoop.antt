@@ -11,8 +11,8 @@ use Rattle.tree.specs.Space.{Side}
 use Rattle.tree.specs.Nodes.{Item, nodes}
 use Rattle.tree.specs.Plan.{branchUnder, clips}
 use Rattle.tree.proofs.Counts.{total-append}
-use Rattle.memory.specs.Layout.{part, polygonIn, childrenIn}
 use Rattle.plane.specs.Fanout.{indexSpace}
+use Rattle.memory.specs.Layout.{part, polygonIn, childrenIn}
 use Rattle.layout.specs.declared.node.Node.{Node}
 use Rattle.layout.specs.Loaded.{nodeOf, nodeIn, nodeChild, withChild}
 use Rattle.layout.specs.Nodes.{countAt, childAt}
@@ -39,7 +39,7 @@ module _ (n : ℕ) (p : List Rect) where
   nodes-least ss [] = omega arith
   nodes-least ss (b ∷ bs) = let e = nodes-some ss (b ∷ bs) (omega arith) in omega arith
 
--- the room for a node has room for its children, and for itself where some are remaining
+-- the room for a node has room for its children, and for itself where some remain
 module _ (n : ℕ) (m : List ℕ) (lo k : ℕ) (ss w : List ℕ) (next : ℕ) (v : Walkable (suc n) m lo k) (r : Room (suc n) w next (deepAt (suc n) m lo k ss)) where
   whole-room : 64 + 128 * (next + nodesOf (suc n) (branchUnder indexSpace (sidesOf ss) (polygonIn (part m k)) (childrenRemaining n m lo k ss))) ≤ length w
   whole-room = rw (deep-node n m lo k ss v) at (r .fits)

@@ -4,8 +4,8 @@ use mathlib.Core.List.{List}
 use Rattle.tree.specs.Nodes.{Item}
 use Rattle.tree.specs.Plan.{branchUnder}
 use Rattle.plane.specs.Lines.{CellEntry}
-use Rattle.memory.specs.Layout.{polygonIn}
 use Rattle.plane.specs.Fanout.{indexSpace}
+use Rattle.memory.specs.Layout.{polygonIn}
 use Rattle.walks.specs.Walks.{leafEntries}
 use Rattle.split_line.specs.Sides.{sidesOf, onTest}
 

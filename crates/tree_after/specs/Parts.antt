@@ -2,9 +2,9 @@
 use Prim.Native.Nat.{ℕ}
 use mathlib.Core.List.{List}
 use Rattle.tree.specs.Plan.{clips}
+use Rattle.plane.specs.Fanout.{indexSpace}
 use Rattle.memory.specs.Layout.{polygonIn}
 use Rattle.memory.specs.Image.{nodePart}
-use Rattle.plane.specs.Fanout.{indexSpace}
 use Rattle.layout.specs.declared.node.Node.{Node}
 use Rattle.split_line.specs.Sides.{sidesOf}
 

@@ -5,17 +5,17 @@ use mathlib.Core.List.{List, [], _∷_, _++_, flatMap}
 use mathlib.Core.Option.{Option, none, some}
 use lib.Dec.{eqb}
 use lib.ListN.{take, drop}
+use Rattle.geometry.specs.declared.rect.Line.{Line}
 use Rattle.tree.specs.Space.{Side}
 use Rattle.tree.specs.Nodes.{Item}
 use Rattle.tree.specs.Tree.{Tree}
 use Rattle.tree.specs.Plan.{Way, branchUnder, cutInto}
 use Rattle.tree.specs.Pass.{deep}
-use Rattle.geometry.specs.declared.rect.Line.{Line}
 use Rattle.plane.specs.Lines.{CellEntry}
 use Rattle.plane.specs.Candidates.{numberedLine}
+use Rattle.plane.specs.Fanout.{fanout, indexSpace}
 use Rattle.memory.specs.Layout.{part, itemCount, entriesIn, childrenIn}
 use Rattle.memory.specs.Reading.{readRow, readNode}
-use Rattle.plane.specs.Fanout.{fanout, indexSpace}
 use Rattle.layout.specs.Nodes.{countAt}
 use Rattle.walks.specs.Walks.{Walkable}
 use Rattle.path.specs.Path.{partOn, placeOn, lineOn, polygonOn, HasLevel, FewRects}

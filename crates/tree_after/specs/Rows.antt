@@ -10,16 +10,16 @@ use Rattle.tree.specs.Lists.{total}
 use Rattle.tree.specs.Nodes.{Item, nodes}
 use Rattle.tree.specs.Plan.{clips}
 use Rattle.tree.specs.Pass.{deep}
-use Rattle.memory.specs.Image.{nodePart, writeRow, writeNode}
 use Rattle.plane.specs.Fanout.{fanout, indexSpace}
+use Rattle.memory.specs.Image.{nodePart, writeRow, writeNode}
 use Rattle.layout.specs.declared.node.Node.{Node}
 use Rattle.layout.specs.Loaded.{nodeOf, routingOf, withChild}
 use Rattle.layout.specs.Nodes.{countAt}
 use Rattle.walks.specs.Walks.{Walkable}
 use Rattle.split_line.specs.Sides.{sidesOf}
+use Rattle.path.specs.Path.{partOn, placeOn, HasLevel, FewRects}
 use Rattle.tree_after.specs.declared.node.Branches.{Branches}
 use Rattle.tree_after.specs.Writes.{Writes}
-use Rattle.path.specs.Path.{partOn, placeOn, HasLevel, FewRects}
 use Rattle.tree_after.specs.Path.{rowAt}
 
 -- A level of the path above the leaf, with what its node's branches need: they are one level lower.

@@ -5,8 +5,8 @@ use mathlib.Core.Option.{some}
 use mathlib.Core.Path.{_≡_}
 use lib.ListN.{length, take}
 use Rattle.tree.specs.Tree.{Tree, top, nodeCount}
-use Rattle.memory.specs.Image.{writeNode}
 use Rattle.plane.specs.Fanout.{fanout, indexSpace}
+use Rattle.memory.specs.Image.{writeNode}
 use Rattle.tree_after.specs.declared.on_path.Written.{Written}
 
 -- The nodes of a tree fit into the work area.

@@ -8,9 +8,9 @@ use lib.ListN.{length, take}
 use Rattle.tree.specs.Lists.{total}
 use Rattle.tree.specs.Nodes.{Item, nodes}
 use Rattle.tree.specs.Pass.{deep}
+use Rattle.plane.specs.Fanout.{fanout, indexSpace}
 use Rattle.memory.specs.Image.{writeRow, writeNode}
 use Rattle.memory.specs.Reading.{readNode}
-use Rattle.plane.specs.Fanout.{fanout, indexSpace}
 use Rattle.split_line.specs.Sides.{sidesOf}
 
 -- The nodes of some branches were written to w from part next on, which gives w'; next' is the next free part.

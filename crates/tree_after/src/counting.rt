@@ -1,17 +1,17 @@
 // How many nodes the tree after has, counted up to 257: no memory has more than 256.
 ghost use mathlib.Core.Path.{_≡_};
 ghost use Prim.Native.Nat.{_+_, _≤_, min, suc, _-_};
-ghost use Rattle.tree_after.specs.Writes.{countLimit, counted, deepAt};
-ghost use Rattle.layout.specs.Nodes.{NodePart, countAt};
-ghost use Rattle.walks.specs.Walks.{Walkable};
-ghost use Rattle.tree_after.specs.Leaves.{leafUnder};
-ghost use Rattle.tree_after.specs.Rows.{PathStep, rangeUnder, beforeOn, behindOn, nodeParts};
 ghost use mathlib.Core.Option.{some};
 ghost use lib.ListN.{length};
 ghost use Rattle.tree.specs.Tree.{nodeCount};
 ghost use Rattle.plane.specs.Fanout.{indexSpace};
+ghost use Rattle.layout.specs.Nodes.{NodePart, countAt};
 ghost use Rattle.layout.specs.Entries.{treeEntry};
+ghost use Rattle.walks.specs.Walks.{Walkable};
 ghost use Rattle.split_line.specs.Sides.{sidesOf};
+ghost use Rattle.tree_after.specs.Writes.{countLimit, counted, deepAt};
+ghost use Rattle.tree_after.specs.Leaves.{leafUnder};
+ghost use Rattle.tree_after.specs.Rows.{PathStep, rangeUnder, beforeOn, behindOn, nodeParts};
 ghost use Rattle.tree_after.specs.Path.{PathNode, PathFrom, halfUnder, plannedTree};
 use crate::leaf::any_remaining;
 use crate::leaf::gather_with;

@@ -1,14 +1,14 @@
 // A leaf's entries under sides.
 ghost use mathlib.Core.Path.{_≡_};
 ghost use Prim.Native.Nat.{_≤_, _<_};
+ghost use mathlib.Core.List.{[], _∷_, _++_};
 ghost use Rattle.tree.specs.Lists.{notEmpty, keep};
+ghost use Rattle.memory.specs.Layout.{entriesIn, itemCount};
 ghost use Rattle.layout.specs.Loaded.{leafOf, entryAmong};
 ghost use Rattle.layout.specs.Nodes.{NodePart};
+ghost use Rattle.layout.specs.Entries.{treeEntry};
 ghost use Rattle.split_line.specs.Sides.{onTest};
 ghost use Rattle.tree_after.specs.Leaves.{leafRemaining};
-ghost use mathlib.Core.List.{[], _∷_, _++_};
-ghost use Rattle.memory.specs.Layout.{entriesIn, itemCount};
-ghost use Rattle.layout.specs.Entries.{treeEntry};
 use layout::Entry;
 use layout::Items;
 use layout::Node;

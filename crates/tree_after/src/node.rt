@@ -2,9 +2,9 @@
 ghost use mathlib.Core.Path.{_≡_};
 ghost use Prim.Native.Nat.{_≤_, _<_};
 ghost use Rattle.geometry.specs.Numbers.{rectsOf};
-ghost use Rattle.tree_after.specs.Rows.{kept, NodeWritten, NodeRoom, noBranches, withBranch};
 ghost use Rattle.layout.specs.Nodes.{NodePart};
 ghost use Rattle.layout.specs.Parts.{PartRoom, PartPut};
+ghost use Rattle.tree_after.specs.Rows.{kept, NodeWritten, NodeRoom, noBranches, withBranch};
 ghost use Rattle.tree_after.specs.Parts.{remainingPart};
 use crate::sides::clipped;
 use geometry::Polygon;

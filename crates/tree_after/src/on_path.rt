@@ -1,13 +1,13 @@
 // What is on the path, written under sides: the leaf with the new entry, the nodes above it, and the whole tree.
 ghost use mathlib.Core.Path.{_≡_};
 ghost use mathlib.Core.List.{[], _∷_};
-ghost use Rattle.layout.specs.Entries.{treeEntry};
-ghost use Rattle.split_line.specs.Sides.{sidesOf};
-ghost use Rattle.tree_after.specs.Writes.{Writes, Room};
-ghost use Rattle.tree_after.specs.Path.{PathNode, halfUnder, PathFrom, cutUnder, plannedTree};
 ghost use Prim.Native.Nat.{_+_, _-_, _≤_, suc};
 ghost use lib.ListN.{length};
+ghost use Rattle.layout.specs.Entries.{treeEntry};
+ghost use Rattle.split_line.specs.Sides.{sidesOf};
 ghost use Rattle.path.specs.Path.{placeOn, polygonOn, lineOn};
+ghost use Rattle.tree_after.specs.Writes.{Writes, Room};
+ghost use Rattle.tree_after.specs.Path.{PathNode, halfUnder, PathFrom, cutUnder, plannedTree};
 ghost use Rattle.tree_after.specs.Rows.{PathStep, Grows, RestWritten, RestRoom, noBranches, beforeOn, behindOn};
 ghost use Rattle.tree_after.specs.Whole.{TreeRoom, TreeWritten};
 use crate::leaf::gather_with;

@@ -1,12 +1,12 @@
 // Polygons and lists of sides.
 ghost use Prim.Native.Nat.{_≤_, _+_};
+ghost use mathlib.Core.Path.{_≡_};
+ghost use mathlib.Core.List.{_∷_};
+ghost use lib.ListN.{length, take};
 ghost use Rattle.geometry.specs.Numbers.{rectsOf, PolygonOf};
 ghost use Rattle.tree.specs.Plan.{clips};
 ghost use Rattle.plane.specs.Fanout.{indexSpace};
 ghost use Rattle.split_line.specs.Sides.{sidesOf};
-ghost use mathlib.Core.Path.{_≡_};
-ghost use mathlib.Core.List.{_∷_};
-ghost use lib.ListN.{length, take};
 use geometry::Polygon;
 use geometry::copy;
 use refinement::refine_polygon;

@@ -9,15 +9,15 @@ use lib.ListN.{length, getD, length-take, length-drop}
 use Rattle.tree.specs.Nodes.{Item}
 use Rattle.tree.specs.Sound.{SoundItem}
 use Rattle.tree.proofs.Lists.{all-at}
+use Rattle.plane.specs.Fanout.{fanout, indexSpace}
 use Rattle.memory.specs.Layout.{part, polygonIn, childrenIn}
 use Rattle.memory.specs.Reading.{readNode}
 use Rattle.memory.proofs.ReadingLaws.{NodeParts, node-parts, part-length, lowAt, low-from, low-to, part-below, row-at, row-length}
-use Rattle.plane.specs.Fanout.{fanout, indexSpace}
 use Rattle.layout.specs.Nodes.{countAt, childAt, PartIn}
 use Rattle.layout.proofs.NodeLaws.{child-in}
+use Rattle.layout.proofs.ReadNodes.{node-polygon}
 use Rattle.walks.specs.Walks.{Walkable, SoundWalk}
 use Rattle.walks.specs.Children.{Children}
-use Rattle.layout.proofs.ReadNodes.{node-polygon}
 use Rattle.walks.proofs.WalkRows.{walkable, walk-polygon}
 
 -- the first child of a row has the row's lower end

@@ -15,12 +15,12 @@ use Rattle.tree.specs.Walk.{nodeWalkEntries}
 use Rattle.tree.proofs.Lists.{flatMap-same}
 use Rattle.tree.proofs.InsertEntries.{held-zero}
 use Rattle.plane.specs.Lines.{CellEntry}
+use Rattle.plane.specs.Fanout.{fanout, indexSpace}
 use Rattle.memory.specs.Layout.{part, itemCount}
 use Rattle.memory.specs.Reading.{readNode}
-use Rattle.memory.proofs.ReadingLaws.{leaf-parts, entries-length, read-as}
-use Rattle.plane.specs.Fanout.{fanout, indexSpace}
-use Rattle.layout.specs.Nodes.{childAt, countAt}
 use Rattle.memory.specs.TreeIn.{TreeIn}
+use Rattle.memory.proofs.ReadingLaws.{leaf-parts, entries-length, read-as}
+use Rattle.layout.specs.Nodes.{childAt, countAt}
 use Rattle.walks.specs.Walks.{anyPolygon, anyEntry, entriesFrom, entriesBelow, Walkable}
 use Rattle.walks.specs.Count.{entriesOf, entriesAt}
 use Rattle.walks.proofs.WalkRows.{entries-few}

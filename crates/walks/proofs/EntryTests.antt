@@ -1,13 +1,13 @@
 -- What walks ask of an entry: whether it is of a cell, and whether it is in a window.
 use borrow.Author.Tests.{eq-eqb, ne-eqb}
 use lib.Dec.{eqb}
-use Rattle.walks.specs.Walks.{cellTest, insideTest}
 use mathlib.Core.Path.{_≡_, ap, _∙_}
 use mathlib.Core.Bool.{Bool, false}
 use Rattle.geometry.specs.declared.rect.Cell.{Cell}
 use Rattle.geometry.specs.declared.rect.Rect.{Rect}
 use Rattle.geometry.specs.Cells.{hasCell}
 use Rattle.plane.specs.Lines.{CellEntry}
+use Rattle.walks.specs.Walks.{cellTest, insideTest}
 
 -- an entry's test, coordinate by coordinate
 module _ (e : CellEntry) (d c : Cell) (q : d ≡ e .cell) where

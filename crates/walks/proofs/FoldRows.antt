@@ -5,9 +5,9 @@ use mathlib.Core.Path.{_≡_, refl, sym, ap, _∙_}
 use mathlib.Core.List.{List, [], _∷_, foldl}
 use mathlib.Core.Option.{Option, none, some}
 use Rattle.tree.specs.Nodes.{Item}
+use Rattle.plane.specs.Fanout.{fanout, indexSpace}
 use Rattle.memory.specs.Layout.{part, polygonIn}
 use Rattle.memory.specs.Reading.{readRow, readNode}
-use Rattle.plane.specs.Fanout.{fanout, indexSpace}
 use Rattle.memory.proofs.ReadingLaws.{row-parts}
 use Rattle.layout.proofs.ReadNodes.{node-polygon}
 use Rattle.walks.proofs.WalkRows.{RowWalkable}

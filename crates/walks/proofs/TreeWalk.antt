@@ -13,15 +13,15 @@ use Rattle.tree.specs.Walk.{walkVisits, walkEntries}
 use Rattle.tree.proofs.Depth.{top-sound}
 use Rattle.tree.proofs.Walk.{point-visits, point-found, window-visits, window-entries}
 use Rattle.plane.specs.Lines.{CellEntry}
+use Rattle.plane.specs.Fanout.{fanout, indexSpace, indexRoot, indexWindow}
 use Rattle.plane.proofs.Rects.{plane-space-laws}
 use Rattle.plane.proofs.Windows.{plane-window-laws}
 use Rattle.memory.specs.Layout.{rootIn, part, polygonIn}
-use Rattle.memory.proofs.ReadingLaws.{read-as, read-sound}
-use Rattle.plane.specs.Fanout.{fanout, indexSpace, indexRoot, indexWindow}
-use Rattle.layout.specs.Nodes.{PolygonPart}
 use Rattle.memory.specs.TreeIn.{TreeIn}
-use Rattle.walks.specs.Walks.{hasTest, cellTest, meetsTest, insideTest, visitsFrom, visitsBelow, entriesFrom, entriesBelow, Walkable, SoundWalk, heldBelow, matchesBelow}
+use Rattle.memory.proofs.ReadingLaws.{read-as, read-sound}
+use Rattle.layout.specs.Nodes.{PolygonPart}
 use Rattle.layout.proofs.ReadNodes.{node-polygon}
+use Rattle.walks.specs.Walks.{hasTest, cellTest, meetsTest, insideTest, visitsFrom, visitsBelow, entriesFrom, entriesBelow, Walkable, SoundWalk, heldBelow, matchesBelow}
 use Rattle.walks.proofs.WalkRows.{walkable, walk-polygon}
 
 module _ (m : List ℕ) (level root : ℕ) (v : TreeIn m level root) where

@@ -16,8 +16,8 @@ use Rattle.layout.specs.Entries.{treeEntry}
 use Rattle.layout.specs.Loaded.{nodeIn, nodeEntry}
 use Rattle.layout.specs.Nodes.{NodePart}
 use Rattle.layout.proofs.LoadedLaws.{loaded-count, loaded-test, loaded-is}
-use Rattle.walks.specs.Walks.{leafEntries}
 use Rattle.layout.proofs.EntryRows.{entries-next}
+use Rattle.walks.specs.Walks.{leafEntries}
 
 -- Before the i-th of the n entries of a leaf's part: es passed so far.
 pub record AtEntry (u : CellEntry → Bool) (p : List ℕ) (n i : ℕ) (es : List CellEntry) : Type 0 where

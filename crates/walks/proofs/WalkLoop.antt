@@ -11,9 +11,9 @@ use lib.ListN.{length, drop, drop-of-length-le}
 use lib.Seq.{drop-cons}
 use Rattle.geometry.specs.declared.rect.Rect.{Rect}
 use Rattle.plane.specs.Lines.{CellEntry}
+use Rattle.plane.specs.Fanout.{fanout}
 use Rattle.memory.specs.Layout.{part, polygonIn, childrenIn}
 use Rattle.memory.proofs.ReadingLaws.{node-below, children-length}
-use Rattle.plane.specs.Fanout.{fanout}
 use Rattle.layout.specs.Nodes.{childAt, countAt, PolygonPart}
 use Rattle.layout.proofs.NodeLaws.{child-in}
 use Rattle.walks.specs.Walks.{visitsBelow, entriesBelow, Walkable}

@@ -12,9 +12,9 @@ use Rattle.geometry.specs.Common.{sharesWith}
 use Rattle.geometry.specs.Containment.{containment}
 use Rattle.geometry.specs.Numbers.{rectsIn}
 use Rattle.plane.specs.Windows.{meets}
+use Rattle.plane.specs.Fanout.{fanout}
 use Rattle.memory.specs.Layout.{part, rectCount, polygonIn, rectNumbers}
 use Rattle.memory.proofs.SoundTested.{has-is}
-use Rattle.plane.specs.Fanout.{fanout}
 use Rattle.layout.proofs.NodeLaws.{lent-polygon}
 use Rattle.walks.specs.Walks.{hasTest, meetsTest}
 

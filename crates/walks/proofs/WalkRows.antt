@@ -12,13 +12,13 @@ use Rattle.tree.specs.Nodes.{Item}
 use Rattle.tree.specs.Walk.{nodeWalkVisits, nodeWalkEntries}
 use Rattle.tree.proofs.Counts.{length-keep}
 use Rattle.plane.specs.Lines.{CellEntry}
+use Rattle.plane.specs.Fanout.{fanout, indexSpace}
 use Rattle.memory.specs.Layout.{isIndexLength, part, rectCount, itemCount, polygonIn, entriesIn, childrenIn}
 use Rattle.memory.specs.Reading.{readRow, readNode}
 use Rattle.memory.proofs.ReadingLaws.{row-parts, fits-as, leaf-parts, node-parts, node-below, entries-length, part-length, index-length}
-use Rattle.plane.specs.Fanout.{fanout, indexSpace}
 use Rattle.layout.specs.Nodes.{NodePart, PolygonPart}
-use Rattle.walks.specs.Walks.{visitsFrom, visitsBelow, entriesFrom, entriesBelow, leafEntries, Walkable}
 use Rattle.layout.proofs.ReadNodes.{node-polygon}
+use Rattle.walks.specs.Walks.{visitsFrom, visitsBelow, entriesFrom, entriesBelow, leafEntries, Walkable}
 
 -- A row of children in a memory of a right length reads.
 pub record RowWalkable (n : ℕ) (m : List ℕ) (lo hi : ℕ) (ks : List ℕ) : Type 0 where

@@ -13,9 +13,9 @@ use Rattle.tree.specs.Sound.{SoundItem}
 use Rattle.tree.specs.Query.{ofCell, matching}
 use Rattle.tree.specs.Walk.{nodeWalkVisits, nodeWalkEntries}
 use Rattle.plane.specs.Lines.{CellEntry}
+use Rattle.plane.specs.Fanout.{fanout, indexSpace, indexWindow}
 use Rattle.memory.specs.Layout.{isIndexLength, itemCount, entriesIn}
 use Rattle.memory.specs.Reading.{readNode}
-use Rattle.plane.specs.Fanout.{fanout, indexSpace, indexWindow}
 use Rattle.layout.specs.Nodes.{PartIn, countAt}
 
 -- the point query's tests: a polygon has the cell, an entry is of the cell

@@ -15,7 +15,15 @@ slice-aggregate-put-grown-2 : tie.Need-slice-aggregate-put-grown-2
 slice-aggregate-put-grown-2 c = search needs
 
 put-grown-requires : tie.Need-put-grown-requires
-put-grown-requires c κs = (search needs, search least-place, search least-rect, search needs, search needs, search needs, search needs)
+put-grown-requires c κs = record {
+  branches = search needs;
+  inside = search least-place;
+  rect-inside = search least-rect;
+  few = search needs;
+  grid = search needs;
+  list-room = search needs;
+  spare-room = search needs;
+}
 
 enum-known-count : tie.Need-enum-known-count
 enum-known-count c = search needs

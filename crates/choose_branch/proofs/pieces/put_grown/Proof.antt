@@ -14,7 +14,14 @@ grown-rect-requires : tie.Need-grown-rect-requires
 grown-rect-requires c κs = (search child-polygon, (search rect-counted, search needs))
 
 put-inner-requires : tie.Need-put-inner-requires
-put-inner-requires c κs = (search needs, search needs, search grown-good, search needs, search needs, search needs)
+put-inner-requires c κs = record {
+  branches = search needs;
+  inside = search needs;
+  good = search grown-good;
+  few = search needs;
+  list-room = search needs;
+  out-room = search needs;
+}
 
 enum-known-pieces : tie.Need-enum-known-pieces
 enum-known-pieces c = search needs

@@ -37,7 +37,7 @@ total-area-requires c κs =
     let cut = found .before .before .before .before .before .before in
     let put = cut .before .before .before .before .before in
     let start = put .before .before .before .before .before in
-    let valid = pieces-valid _ (start .pre .2) _ _ _ _ _ (start .pre .4) (put .put-rect .ensures) (cut .cut-by-siblings .ensures .0) _ (found .cut .given .1) in
+    let valid = pieces-valid _ (start .pre .good) _ _ _ _ _ (start .pre .list-room) (put .put-rect .ensures) (cut .cut-by-siblings .ensures .0) _ (found .cut .given .1) in
     (search few-of, (omega arith, valid))
 
 area-requires : tie.Need-area-requires

@@ -33,7 +33,14 @@ add-cut-by-children : tie.Need-add-cut-by-children
 add-cut-by-children c = search needs
 
 cut-by-children-requires-2 : tie.Need-cut-by-children-requires-2
-cut-by-children-requires-2 c κs = (search needs, search needs, search needs, search few-of, search needs, search needs)
+cut-by-children-requires-2 c κs = record {
+  branches = search needs;
+  ordered = search needs;
+  inside = search needs;
+  few = search few-of;
+  list-room = search needs;
+  spare-room = search needs;
+}
 
 same-length-3 : tie.Need-same-length-3
 same-length-3 c = search needs
