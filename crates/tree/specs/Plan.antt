@@ -1,5 +1,5 @@
 -- Insertion as code does it, not stated by document 01: first down the path (steps 2 and 3), then all splits (step 4)
--- in one pass. That this gives document 01's insertion is proved in proofs/Emission.
+-- in one pass. That this gives document 01's insertion is proved in proofs/OnePass.
 use Prim.Native.Nat.{ℕ, zero, suc}
 use mathlib.Core.Bool.{Bool, cond}
 use mathlib.Core.List.{List, [], _∷_, _++_, map, flatMap}

@@ -1,5 +1,4 @@
 -- The walks that the queries make in a memory, below the node at a part: what they enter and what they find there.
--- docs/RULES.md 5.11
 use Prim.Native.Nat.{ℕ, suc, _≤_, _<_}
 use mathlib.Core.Bool.{Bool, true}
 use mathlib.Core.List.{List, []}

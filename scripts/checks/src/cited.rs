@@ -1,12 +1,13 @@
 //! What a text in backticks cites, and whether it is in the repository.
 
+use crate::files;
 use crate::known::{is_word, stem, Known};
 use crate::page;
 
 /// Programs that the pages name and that are not of this repository.
 const PROGRAMS: [&str; 7] = ["rt", "cargo", "make", "cc", "gcc", "clang", "antt"];
 
-/// A line for each name of the page that is not in the repository.
+/// A line for each name, and each file named by its crate, of the page that is not in the repository.
 pub fn missing(path: &str, page: &str, known: &Known) -> Vec<String> {
     let found = page::spans(page);
     let mut lines: Vec<String> = found
@@ -18,6 +19,7 @@ pub fn missing(path: &str, page: &str, known: &Known) -> Vec<String> {
     for line in found.unpaired {
         lines.push(format!("{path}:{line}: a backtick without its pair"));
     }
+    lines.extend(files::lost(path, page, known));
     lines
 }
 

@@ -3,6 +3,7 @@
 
 pub mod cited;
 pub mod crate_list;
+pub mod files;
 pub mod known;
 pub mod layers;
 pub mod made;

@@ -81,6 +81,29 @@ fn made_up_names() {
 }
 
 #[test]
+fn files_by_their_crate() {
+    let page = "`sideOf` (sides Sides), `line_of` (sides), by sides Sides; `x` (as Before) and sides Of lines,\n";
+    assert_eq!(
+        reported("files", page),
+        [
+            "PAGE.md:1: `x` is not there",
+            "PAGE.md:1: as Before is not there",
+            "PAGE.md:1: sides Of is not there"
+        ]
+    );
+    for (text, lost) in [
+        ("`sideOf` (sides Made)", "sides Made"),
+        ("`sideOf` (gone Sides)", "gone Sides"),
+        ("laws: sides Sides, Made", "sides Made"),
+    ] {
+        assert_eq!(
+            reported("files", text),
+            [format!("PAGE.md:1: {lost} is not there")]
+        );
+    }
+}
+
+#[test]
 fn other_texts() {
     let page =
         "`?`, `8`, `0.5`, `made up`, `made=`, `a + b`, `f(&made[a..e])`, `N passed, 0 failed`\n";
