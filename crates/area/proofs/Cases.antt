@@ -9,7 +9,7 @@ use Rattle.geometry.specs.declared.rect.Rect.{Rect}
 use Rattle.geometry.specs.Cells.{on_grid, non_empty, valid, area, cell_of, rect_of}
 use Rattle.geometry.specs.Common.{overlap, unless_empty}
 use Rattle.geometry.specs.Grow.{grown}
-use Rattle.geometry.specs.Cut.{xCeiling, xFloor, yCeiling, yFloor, pieces, cut}
+use Rattle.geometry.specs.Cut.{x_ceiling, x_floor, y_ceiling, y_floor, pieces, cut}
 use Rattle.geometry.specs.Refine.{first_from, within, strictly_within, contained, first_contained, stacked, abreast, joinable, union, joins, partner, has_partner, first_join, refine_step, refine_steps, refine}
 use Rattle.area.specs.Lacked.{extra_area}
 use Rattle.area.proofs.LackLaws.{extra_single}
@@ -66,6 +66,6 @@ extra_6 = extra_single (rect_of 2 2 4 4) (cell_of 3 3) refl refl
 
 -- all rows hold
 pub cases_hold : AllHold table
-unfolding non_empty overlap unless_empty grown xCeiling xFloor yCeiling yFloor pieces cut first_from any within strictly_within contained
+unfolding non_empty overlap unless_empty grown x_ceiling x_floor y_ceiling y_floor pieces cut first_from any within strictly_within contained
     first_contained stacked abreast joinable union joins partner has_partner first_join refine_step refine_steps refine
 cases_hold = (refl, (refl, (refl, (refl, ((refl, extra_5), ((refl, extra_6), (refl, (refl, (refl, tt)))))))))

@@ -12,7 +12,7 @@ use Rattle.geometry.specs.declared.rect.Cell.{Cell}
 use Rattle.geometry.specs.declared.rect.Rect.{Rect}
 use Rattle.geometry.specs.Cells.{has_cell, non_empty, any_has}
 use Rattle.geometry.specs.Common.{overlap, unless_empty}
-use Rattle.geometry.specs.Cut.{xCeiling, xFloor, yCeiling, yFloor, pieces, cut, cut_list, cut_all}
+use Rattle.geometry.specs.Cut.{x_ceiling, x_floor, y_ceiling, y_floor, pieces, cut, cut_list, cut_all}
 use Rattle.geometry.proofs.CellLaws.{In, in_of, of_in, Some, some_of, empty_has_none}
 use Rattle.geometry.proofs.CommonLaws.{overlap_cells}
 use Rattle.geometry.proofs.CutLaws.{cut_list_cons}
@@ -46,59 +46,59 @@ hasnt r c h = rw (is_false (has_cell r c) (λ t. h (in_of r c t)))
 -- A cell of r outside s is in exactly one piece of the cut, any other cell in none: the pieces share no cell, and lose none.
 module _ (r s : Rect) (c : Cell) where
   four : ℕ
-  four = bit (has_cell (xCeiling r s) c) + bit (has_cell (xFloor r s) c) + bit (has_cell (yCeiling r s) c) + bit (has_cell (yFloor r s) c)
+  four = bit (has_cell (x_ceiling r s) c) + bit (has_cell (x_floor r s) c) + bit (has_cell (y_ceiling r s) c) + bit (has_cell (y_floor r s) c)
 
   in_one : Some (overlap r s) → In r c → Dec (s.urx ≤ c.x) → Dec (c.x < s.llx) → Dec (s.ury ≤ c.y) → Dec (c.y < s.lly) → four ≡ bit (not (has_cell s c))
-  unfolding four xCeiling xFloor yCeiling yFloor overlap
+  unfolding four x_ceiling x_floor y_ceiling y_floor overlap
   in_one o h (yes a) b d e =
       rw (
-        has (xCeiling r s) c (omega arith),
-        hasnt (xFloor r s) c (λ i. omega arith),
-        hasnt (yCeiling r s) c (λ i. omega arith),
-        hasnt (yFloor r s) c (λ i. omega arith),
+        has (x_ceiling r s) c (omega arith),
+        hasnt (x_floor r s) c (λ i. omega arith),
+        hasnt (y_ceiling r s) c (λ i. omega arith),
+        hasnt (y_floor r s) c (λ i. omega arith),
         is_false (has_cell s c) (λ t. let i = in_of s c t in omega arith),
       )
   in_one o h (no a) (yes b) d e =
       rw (
-        hasnt (xCeiling r s) c (λ i. omega arith),
-        has (xFloor r s) c (omega arith),
-        hasnt (yCeiling r s) c (λ i. omega arith),
-        hasnt (yFloor r s) c (λ i. omega arith),
+        hasnt (x_ceiling r s) c (λ i. omega arith),
+        has (x_floor r s) c (omega arith),
+        hasnt (y_ceiling r s) c (λ i. omega arith),
+        hasnt (y_floor r s) c (λ i. omega arith),
         is_false (has_cell s c) (λ t. let i = in_of s c t in omega arith),
       )
   in_one o h (no a) (no b) (yes d) e =
       rw (
-        hasnt (xCeiling r s) c (λ i. omega arith),
-        hasnt (xFloor r s) c (λ i. omega arith),
-        has (yCeiling r s) c (omega arith),
-        hasnt (yFloor r s) c (λ i. omega arith),
+        hasnt (x_ceiling r s) c (λ i. omega arith),
+        hasnt (x_floor r s) c (λ i. omega arith),
+        has (y_ceiling r s) c (omega arith),
+        hasnt (y_floor r s) c (λ i. omega arith),
         is_false (has_cell s c) (λ t. let i = in_of s c t in omega arith),
       )
   in_one o h (no a) (no b) (no d) (yes e) =
       rw (
-        hasnt (xCeiling r s) c (λ i. omega arith),
-        hasnt (xFloor r s) c (λ i. omega arith),
-        hasnt (yCeiling r s) c (λ i. omega arith),
-        has (yFloor r s) c (omega arith),
+        hasnt (x_ceiling r s) c (λ i. omega arith),
+        hasnt (x_floor r s) c (λ i. omega arith),
+        hasnt (y_ceiling r s) c (λ i. omega arith),
+        has (y_floor r s) c (omega arith),
         is_false (has_cell s c) (λ t. let i = in_of s c t in omega arith),
       )
   in_one o h (no a) (no b) (no d) (no e) =
       rw (
-        hasnt (xCeiling r s) c (λ i. omega arith),
-        hasnt (xFloor r s) c (λ i. omega arith),
-        hasnt (yCeiling r s) c (λ i. omega arith),
-        hasnt (yFloor r s) c (λ i. omega arith),
+        hasnt (x_ceiling r s) c (λ i. omega arith),
+        hasnt (x_floor r s) c (λ i. omega arith),
+        hasnt (y_ceiling r s) c (λ i. omega arith),
+        hasnt (y_floor r s) c (λ i. omega arith),
         of_in s c (omega arith),
       )
 
   in_none : Some (overlap r s) → (In r c → ⊥) → four ≡ 0
-  unfolding four xCeiling xFloor yCeiling yFloor overlap
+  unfolding four x_ceiling x_floor y_ceiling y_floor overlap
   in_none o h =
       rw (
-        hasnt (xCeiling r s) c (λ i. h (omega arith)),
-        hasnt (xFloor r s) c (λ i. h (omega arith)),
-        hasnt (yCeiling r s) c (λ i. h (omega arith)),
-        hasnt (yFloor r s) c (λ i. h (omega arith)),
+        hasnt (x_ceiling r s) c (λ i. h (omega arith)),
+        hasnt (x_floor r s) c (λ i. h (omega arith)),
+        hasnt (y_ceiling r s) c (λ i. h (omega arith)),
+        hasnt (y_floor r s) c (λ i. h (omega arith)),
       )
 
   four_is : Some (overlap r s) → four ≡ bit (has_cell r c && not (has_cell s c))

@@ -8,7 +8,7 @@ use Rattle.geometry.specs.declared.rect.Cell.{Cell}
 use Rattle.geometry.specs.declared.rect.Rect.{Rect}
 use Rattle.geometry.specs.Cells.{on_grid, non_empty, valid, all_valid, area, cell_of, rect_of}
 use Rattle.geometry.specs.Common.{overlap, unless_empty}
-use Rattle.geometry.specs.Cut.{xCeiling, xFloor, yCeiling, yFloor, pieces, cut, cut_list, cut_all}
+use Rattle.geometry.specs.Cut.{x_ceiling, x_floor, y_ceiling, y_floor, pieces, cut, cut_list, cut_all}
 use Rattle.geometry.specs.Grow.{grown}
 use Rattle.area.specs.Lacked.{extra_area}
 use Rattle.area.specs.Removed.{total_area}
@@ -69,7 +69,7 @@ computed_hold (w ∷ l) h =
     (by_pieces w.polygon w.cell w.polygon k.0 k.1 ∙ k.2, computed_hold l h.1)
 
 computed : AllComputed table
-unfolding all_valid valid on_grid grown cut_all cut_list flat_map cut pieces xCeiling xFloor yCeiling yFloor overlap unless_empty non_empty
+unfolding all_valid valid on_grid grown cut_all cut_list flat_map cut pieces x_ceiling x_floor y_ceiling y_floor overlap unless_empty non_empty
     total_area area
 computed =
     ((refl, refl, refl), ((refl, refl, refl), ((refl, refl, refl), ((refl, refl, refl), ((refl, refl, refl), ((refl, refl, refl), tt))))))

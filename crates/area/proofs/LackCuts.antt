@@ -9,7 +9,7 @@ use lib.ListN.{drop}
 use Rattle.geometry.specs.declared.rect.Rect.{Rect}
 use Rattle.geometry.specs.Cells.{non_empty, area}
 use Rattle.geometry.specs.Common.{overlap, shares_with}
-use Rattle.geometry.specs.Cut.{cut, pieces, xCeiling, xFloor, yCeiling, yFloor}
+use Rattle.geometry.specs.Cut.{cut, pieces, x_ceiling, x_floor, y_ceiling, y_floor}
 use Rattle.geometry.specs.Numbers.{rect_at, rects_in}
 use Rattle.geometry.proofs.CellLaws.{some_of}
 use Rattle.geometry.proofs.NumberLaws.{rects_next, rects_end}
@@ -61,20 +61,20 @@ module _ (m : List ℕ) (n i₀ i : ℕ) (r : Rect) (v : FirstShared m n r i₀ 
 
     -- the pieces of the cut end within the grid where r does
     module _ (x : r.urx ≤ 65536) (y : r.ury ≤ 65536) (p : Rect) where
-      pub x_ceiling_ends : p ≡ xCeiling r s → Ends p
-      unfolding xCeiling
+      pub x_ceiling_ends : p ≡ x_ceiling r s → Ends p
+      unfolding x_ceiling
       x_ceiling_ends f = rw f (record { x_most = x; y_most = y })
 
-      pub x_floor_ends : p ≡ xFloor r s → Ends p
-      unfolding xFloor overlap
+      pub x_floor_ends : p ≡ x_floor r s → Ends p
+      unfolding x_floor overlap
       x_floor_ends f = let o = some_of (overlap r s) shared in let w = o.wide in rw f (record { x_most = omega arith; y_most = y })
 
-      pub y_ceiling_ends : p ≡ yCeiling r s → Ends p
-      unfolding yCeiling overlap
+      pub y_ceiling_ends : p ≡ y_ceiling r s → Ends p
+      unfolding y_ceiling overlap
       y_ceiling_ends f = rw f (record { x_most = omega arith; y_most = y })
 
-      pub y_floor_ends : p ≡ yFloor r s → Ends p
-      unfolding yFloor overlap
+      pub y_floor_ends : p ≡ y_floor r s → Ends p
+      unfolding y_floor overlap
       y_floor_ends f = let o = some_of (overlap r s) shared in let w = o.high in rw f (record { x_most = omega arith; y_most = omega arith })
 
     later : List Rect
@@ -82,13 +82,13 @@ module _ (m : List ℕ) (n i₀ i : ℕ) (r : Rect) (v : FirstShared m n r i₀ 
 
     -- the cells that the later rectangles lack of the four pieces, added
     lack_pieces : lacked (drop i₀ (rects_in m n)) r
-        ≡ lacked later (xCeiling r s) + lacked later (xFloor r s) + lacked later (yCeiling r s) + lacked later (yFloor r s)
+        ≡ lacked later (x_ceiling r s) + lacked later (x_floor r s) + lacked later (y_ceiling r s) + lacked later (y_floor r s)
     unfolding cut pieces later
     lack_pieces =
         passed ∙ ap (λ p. lacked p r) (rects_next m n i h ∙ ap (λ q. q ∷ drop (i + 1) (rects_in m n)) (sym e))
         ∙ lacked_cons s (drop (i + 1) (rects_in m n)) r ∙ rw shared (simp (lacked_append, lacked_unless_empty))
 
-    pub lack_four : (l : ℕ) (p q t u : Rect) → p ≡ xCeiling r s → q ≡ xFloor r s → t ≡ yCeiling r s → u ≡ yFloor r s
+    pub lack_four : (l : ℕ) (p q t u : Rect) → p ≡ x_ceiling r s → q ≡ x_floor r s → t ≡ y_ceiling r s → u ≡ y_floor r s
         → (a b c d : ℕ)
         → a ≡ min l (lacked (drop (i + 1) (rects_in m n)) p)
         → b ≡ min (l - a) (lacked (drop (i + 1) (rects_in m n)) q)

@@ -8,7 +8,7 @@ use Rattle.polygons.proofs.Booleans.{split_and}
 use Rattle.geometry.specs.declared.rect.Rect.{Rect}
 use Rattle.geometry.specs.Cells.{non_empty, valid, all_valid, area, rect_of}
 use Rattle.geometry.specs.Common.{overlap, unless_empty}
-use Rattle.geometry.specs.Cut.{xCeiling, xFloor, yCeiling, yFloor, pieces, cut, cut_list, cut_all}
+use Rattle.geometry.specs.Cut.{x_ceiling, x_floor, y_ceiling, y_floor, pieces, cut, cut_list, cut_all}
 use Rattle.area.specs.Removed.{removed, total_area}
 use Rattle.area.proofs.CutAreas.{pieces_area}
 use Rattle.area.proofs.RemovedMore.{removed_none, removed_more, lacked_fewer}
@@ -73,7 +73,7 @@ computed_hold [] h = tt
 computed_hold (w ∷ l) h = (removed_areas w.list w.polygon h.0.0 ∙ h.0.1, computed_hold l h.1)
 
 computed : AllComputed table
-unfolding all_valid valid cut_all cut_list flat_map cut pieces xCeiling xFloor yCeiling yFloor overlap unless_empty non_empty total_area area
+unfolding all_valid valid cut_all cut_list flat_map cut pieces x_ceiling x_floor y_ceiling y_floor overlap unless_empty non_empty total_area area
     by_areas
 computed = ((refl, refl), ((refl, refl), ((refl, refl), ((refl, refl), ((refl, refl), tt)))))
 

@@ -1,5 +1,7 @@
 // Areas as numbers of cells: how many cells of a rectangle a polygon lacks, the extra area of a polygon's rectangle,
 // and how many cells a polygon removes from a list. Sums of cells are 64-bit numbers: the grid has 4294967296.
+#![tactic(auto)]
+
 mod bounds;
 mod extra;
 mod grid;

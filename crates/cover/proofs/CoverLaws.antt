@@ -13,7 +13,7 @@ use Rattle.geometry.specs.declared.rect.Cell.{Cell}
 use Rattle.geometry.specs.declared.rect.Rect.{Rect}
 use Rattle.geometry.specs.Cells.{non_empty, has_cell, any_has}
 use Rattle.geometry.specs.Common.{overlap, unless_empty, shares_with}
-use Rattle.geometry.specs.Cut.{xCeiling, xFloor, yCeiling, yFloor, pieces, cut}
+use Rattle.geometry.specs.Cut.{x_ceiling, x_floor, y_ceiling, y_floor, pieces, cut}
 use Rattle.geometry.specs.Numbers.{rect_at, rects_in}
 use Rattle.geometry.specs.Refine.{within}
 use Rattle.geometry.proofs.CellLaws.{some_of, of_some, corner, corner_in, within_cells}
@@ -116,37 +116,37 @@ module _ (m : List ℕ) (n i₀ i : ℕ) (r : Rect) (x : r.llx < r.urx) (y : r.l
 
     -- the pieces of the cut are tested one after another
     remaining_pieces : none_remaining (drop i₀ (rects_in m n)) r
-        ≡ none_remaining later (xCeiling r s) && none_remaining later (xFloor r s) && none_remaining later (yCeiling r s) && none_remaining later (yFloor r s)
+        ≡ none_remaining later (x_ceiling r s) && none_remaining later (x_floor r s) && none_remaining later (y_ceiling r s) && none_remaining later (y_floor r s)
     unfolding cut pieces none_remaining shares_with
     remaining_pieces =
         let o : non_empty (overlap r s) ≡ true = rw e (v.shares h) in
         remaining_passed (s ∷ later) next_is ∙ covered_cons s later r ∙ rw o (simp pass_append)
 
-    module _ (p : Rect) (a : Bool) (ep : p ≡ xCeiling r s) (ea : a ≡ none_remaining (drop (i + 1) (rects_in m n)) p) where
-      ceiling_x : a ≡ none_remaining later (xCeiling r s)
+    module _ (p : Rect) (a : Bool) (ep : p ≡ x_ceiling r s) (ea : a ≡ none_remaining (drop (i + 1) (rects_in m n)) p) where
+      ceiling_x : a ≡ none_remaining later (x_ceiling r s)
       unfolding later
       ceiling_x = rw (← ep) ea
 
       pub remaining_stop_1 : a ≡ false → false ≡ none_remaining (drop i₀ (rects_in m n)) r
       remaining_stop_1 f = rw (remaining_pieces, ← ceiling_x, f)
 
-      module _ (fa : a ≡ true) (q : Rect) (b : Bool) (eq : q ≡ xFloor r s) (eb : b ≡ none_remaining (drop (i + 1) (rects_in m n)) q) where
-        floor_x : b ≡ none_remaining later (xFloor r s)
+      module _ (fa : a ≡ true) (q : Rect) (b : Bool) (eq : q ≡ x_floor r s) (eb : b ≡ none_remaining (drop (i + 1) (rects_in m n)) q) where
+        floor_x : b ≡ none_remaining later (x_floor r s)
         unfolding later
         floor_x = rw (← eq) eb
 
         pub remaining_stop_2 : b ≡ false → false ≡ none_remaining (drop i₀ (rects_in m n)) r
         remaining_stop_2 f = rw (remaining_pieces, ← ceiling_x, ← floor_x, fa, f)
 
-        module _ (fb : b ≡ true) (t : Rect) (c : Bool) (et : t ≡ yCeiling r s) (ec : c ≡ none_remaining (drop (i + 1) (rects_in m n)) t) where
-          ceiling_y : c ≡ none_remaining later (yCeiling r s)
+        module _ (fb : b ≡ true) (t : Rect) (c : Bool) (et : t ≡ y_ceiling r s) (ec : c ≡ none_remaining (drop (i + 1) (rects_in m n)) t) where
+          ceiling_y : c ≡ none_remaining later (y_ceiling r s)
           unfolding later
           ceiling_y = rw (← et) ec
 
           pub remaining_stop_3 : c ≡ false → false ≡ none_remaining (drop i₀ (rects_in m n)) r
           remaining_stop_3 f = rw (remaining_pieces, ← ceiling_x, ← floor_x, ← ceiling_y, fa, fb, f)
 
-          pub remaining_last : (u : Rect) (d : Bool) → c ≡ true → u ≡ yFloor r s → d ≡ none_remaining (drop (i + 1) (rects_in m n)) u → d ≡ none_remaining (drop i₀ (rects_in m n)) r
+          pub remaining_last : (u : Rect) (d : Bool) → c ≡ true → u ≡ y_floor r s → d ≡ none_remaining (drop (i + 1) (rects_in m n)) u → d ≡ none_remaining (drop i₀ (rects_in m n)) r
           unfolding later
           remaining_last u d f eu ed = rw (remaining_pieces, ← ceiling_x, ← floor_x, ← ceiling_y, fa, fb, f, ← eu) ed
 

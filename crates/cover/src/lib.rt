@@ -1,4 +1,6 @@
 // Lists of rectangles against each other, four numbers a rectangle: the geometry of the soundness test.
+#![tactic(auto)]
+
 mod covering;
 mod scans;
 

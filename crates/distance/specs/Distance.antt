@@ -20,7 +20,7 @@ clamped lo hi v = max lo (min v (hi - 1))
 abbrev pub nearest_cell : Cell → Rect → Cell
 nearest_cell c r = record { x = clamped r.llx r.urx c.x; y = clamped r.lly r.ury c.y }
 
--- 'the least squared distance from the cell to a cell' of the rectangle (that it is the least: the laws rect-least and
--- rect-attained)
+-- 'the least squared distance from the cell to a cell' of the rectangle (that it is the least: the laws rect_least and
+-- rect_attained)
 unfoldable pub rect_distance : Cell → Rect → ℕ
 rect_distance c r = squared c (nearest_cell c r)

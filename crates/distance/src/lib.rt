@@ -1,5 +1,7 @@
 // Squared distances from a cell: to a cell, to a rectangle, to a polygon. They are 64-bit numbers, since two cells
 // may be 2 * 65535 * 65535 apart.
+#![tactic(auto)]
+
 mod clamp;
 mod least;
 mod squared;

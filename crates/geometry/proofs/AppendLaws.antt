@@ -11,7 +11,7 @@ use Rattle.geometry.specs.declared.rect.Common.{Common}
 use Rattle.geometry.specs.declared.rect.Common.TheVariants.{Part, Nothing}
 use Rattle.geometry.specs.Cells.{non_empty}
 use Rattle.geometry.specs.Common.{common_part, unless_empty, common, shares_with}
-use Rattle.geometry.specs.Cut.{xCeiling, xFloor, yCeiling, yFloor, pieces, cut}
+use Rattle.geometry.specs.Cut.{x_ceiling, x_floor, y_ceiling, y_floor, pieces, cut}
 use Rattle.geometry.specs.Numbers.{rects_in, put_at, Appended}
 use Rattle.geometry.proofs.NumberLaws.{put_behind, length_put, length_rects}
 use Rattle.geometry.proofs.RectReturns.{is_part, is_nothing}
@@ -54,7 +54,7 @@ module _ (m : List ℕ) (n : ℕ) (r : Rect) where
 module _ (m : List ℕ) (n : ℕ) (r s : Rect) where
   -- the four pieces of a cut, one after another
   pub four_pieces : (p q t u : Rect) (m₁ m₂ m₃ m₄ : List ℕ) (n₁ n₂ n₃ n₄ : ℕ)
-      → p ≡ xCeiling r s → q ≡ xFloor r s → t ≡ yCeiling r s → u ≡ yFloor r s
+      → p ≡ x_ceiling r s → q ≡ x_floor r s → t ≡ y_ceiling r s → u ≡ y_floor r s
       → Appended m n (unless_empty p) 1 m₁ n₁
       → Appended m₁ n₁ (unless_empty q) 1 m₂ n₂
       → Appended m₂ n₂ (unless_empty t) 1 m₃ n₃

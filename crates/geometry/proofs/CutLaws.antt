@@ -18,7 +18,7 @@ use Rattle.geometry.specs.declared.rect.Cell.{Cell}
 use Rattle.geometry.specs.declared.rect.Rect.{Rect}
 use Rattle.geometry.specs.Cells.{has_cell, non_empty, valid, all_valid, any_has}
 use Rattle.geometry.specs.Common.{overlap, unless_empty}
-use Rattle.geometry.specs.Cut.{xCeiling, xFloor, yCeiling, yFloor, pieces, cut, cut_list, cut_all, cut_limited}
+use Rattle.geometry.specs.Cut.{x_ceiling, x_floor, y_ceiling, y_floor, pieces, cut, cut_list, cut_all, cut_limited}
 use Rattle.geometry.specs.Refine.{within}
 use Rattle.geometry.proofs.CellLaws.{In, in_of, of_in, valid_of, Some, some_of, Within, of_within, empty_has_none, has_append, valid_append, has_unless_empty, valid_unless_empty, length_unless_empty, has_flat, valid_flat_of}
 use Rattle.geometry.proofs.CommonLaws.{overlap_cells}
@@ -45,28 +45,28 @@ pieces_length : (r s : Rect) → length (pieces r s) ≤ 4
 unfolding pieces
 pieces_length r s =
     simp length-append
-    (omega (arith, length_unless_empty (xCeiling r s), length_unless_empty (xFloor r s), length_unless_empty (yCeiling r s), length_unless_empty (yFloor r s)))
+    (omega (arith, length_unless_empty (x_ceiling r s), length_unless_empty (x_floor r s), length_unless_empty (y_ceiling r s), length_unless_empty (y_floor r s)))
 
 -- the four pieces' tests
 in_piece : Rect → Rect → Cell → Bool
-in_piece r s c = has_cell (xCeiling r s) c || has_cell (xFloor r s) c || has_cell (yCeiling r s) c || has_cell (yFloor r s) c
+in_piece r s c = has_cell (x_ceiling r s) c || has_cell (x_floor r s) c || has_cell (y_ceiling r s) c || has_cell (y_floor r s) c
 
 -- what holds of the four pieces where the two share a cell
 module _ (r s : Rect) (o : Some (overlap r s)) where
-  piece_1 : Within (xCeiling r s) r
-  unfolding xCeiling overlap
+  piece_1 : Within (x_ceiling r s) r
+  unfolding x_ceiling overlap
   piece_1 = omega arith
 
-  piece_2 : Within (xFloor r s) r
-  unfolding xFloor overlap
+  piece_2 : Within (x_floor r s) r
+  unfolding x_floor overlap
   piece_2 = omega arith
 
-  piece_3 : Within (yCeiling r s) r
-  unfolding yCeiling overlap
+  piece_3 : Within (y_ceiling r s) r
+  unfolding y_ceiling overlap
   piece_3 = omega arith
 
-  piece_4 : Within (yFloor r s) r
-  unfolding yFloor overlap
+  piece_4 : Within (y_floor r s) r
+  unfolding y_floor overlap
   piece_4 = omega arith
 
   pieces_within : all_within (pieces r s) r ≡ true
@@ -83,20 +83,20 @@ module _ (r s : Rect) (o : Some (overlap r s)) where
       simp (valid_append, one _ piece_1, one _ piece_2, one _ piece_3, one _ piece_4)
 
   module _ (c : Cell) where
-    out_1 : In (xCeiling r s) c → In r c × (In s c → ⊥)
-    unfolding xCeiling overlap
+    out_1 : In (x_ceiling r s) c → In r c × (In s c → ⊥)
+    unfolding x_ceiling overlap
     out_1 h = (omega arith, λ g. omega arith)
 
-    out_2 : In (xFloor r s) c → In r c × (In s c → ⊥)
-    unfolding xFloor overlap
+    out_2 : In (x_floor r s) c → In r c × (In s c → ⊥)
+    unfolding x_floor overlap
     out_2 h = (omega arith, λ g. omega arith)
 
-    out_3 : In (yCeiling r s) c → In r c × (In s c → ⊥)
-    unfolding yCeiling overlap
+    out_3 : In (y_ceiling r s) c → In r c × (In s c → ⊥)
+    unfolding y_ceiling overlap
     out_3 h = (omega arith, λ g. omega arith)
 
-    out_4 : In (yFloor r s) c → In r c × (In s c → ⊥)
-    unfolding yFloor overlap
+    out_4 : In (y_floor r s) c → In r c × (In s c → ⊥)
+    unfolding y_floor overlap
     out_4 h = (omega arith, λ g. omega arith)
 
     out : (p : Rect) → (In p c → In r c × (In s c → ⊥)) → has_cell p c ≡ true → has_cell r c && not (has_cell s c) ≡ true
@@ -108,16 +108,16 @@ module _ (r s : Rect) (o : Some (overlap r s)) where
     unfolding in_piece
     forth e = ⊎_elim
         (λ e₃. ⊎_elim
-        (λ e₂. ⊎_elim (out (xCeiling r s) out_1) (out (xFloor r s) out_2) (either _ _ e₂))
-        (out (yCeiling r s) out_3) (either _ _ e₃))
-        (out (yFloor r s) out_4) (either _ _ e)
+        (λ e₂. ⊎_elim (out (x_ceiling r s) out_1) (out (x_floor r s) out_2) (either _ _ e₂))
+        (out (y_ceiling r s) out_3) (either _ _ e₃))
+        (out (y_floor r s) out_4) (either _ _ e)
 
     choose : In r c → (In s c → ⊥) → Dec (s.urx ≤ c.x) → Dec (c.x < s.llx) → Dec (s.ury ≤ c.y) → Dec (c.y < s.lly) → in_piece r s c ≡ true
-    unfolding in_piece xCeiling xFloor yCeiling yFloor overlap
-    choose h g (yes a) b d e = let i : In (xCeiling r s) c = omega arith in simp (of_in _ c i)
-    choose h g (no a) (yes b) d e = let i : In (xFloor r s) c = omega arith in simp (of_in _ c i, or-true)
-    choose h g (no a) (no b) (yes d) e = let i : In (yCeiling r s) c = omega arith in simp (of_in _ c i, or-true)
-    choose h g (no a) (no b) (no d) (yes e) = let i : In (yFloor r s) c = omega arith in simp (of_in _ c i, or-true)
+    unfolding in_piece x_ceiling x_floor y_ceiling y_floor overlap
+    choose h g (yes a) b d e = let i : In (x_ceiling r s) c = omega arith in simp (of_in _ c i)
+    choose h g (no a) (yes b) d e = let i : In (x_floor r s) c = omega arith in simp (of_in _ c i, or-true)
+    choose h g (no a) (no b) (yes d) e = let i : In (y_ceiling r s) c = omega arith in simp (of_in _ c i, or-true)
+    choose h g (no a) (no b) (no d) (yes e) = let i : In (y_floor r s) c = omega arith in simp (of_in _ c i, or-true)
     choose h g (no a) (no b) (no d) (no e) = absurd (g (omega arith))
 
     back : has_cell r c && not (has_cell s c) ≡ true → in_piece r s c ≡ true

@@ -9,25 +9,25 @@ use Rattle.geometry.specs.Cells.{non_empty}
 use Rattle.geometry.specs.Common.{overlap, unless_empty, common_parts}
 
 -- 'x ceiling: x from S.ur to R.ur, y as R'
-unfoldable pub xCeiling : Rect → Rect → Rect
-xCeiling r s = record { llx = s.urx; lly = r.lly; urx = r.urx; ury = r.ury }
+unfoldable pub x_ceiling : Rect → Rect → Rect
+x_ceiling r s = record { llx = s.urx; lly = r.lly; urx = r.urx; ury = r.ury }
 
 -- 'x floor: x from R.ll to S.ll, y as R'
-unfoldable pub xFloor : Rect → Rect → Rect
-xFloor r s = record { llx = r.llx; lly = r.lly; urx = s.llx; ury = r.ury }
+unfoldable pub x_floor : Rect → Rect → Rect
+x_floor r s = record { llx = r.llx; lly = r.lly; urx = s.llx; ury = r.ury }
 
 -- 'y ceiling: x as U, y from S.ur to R.ur', with 'U the common part'
-unfoldable pub yCeiling : Rect → Rect → Rect
-yCeiling r s = record { llx = (overlap r s).llx; lly = s.ury; urx = (overlap r s).urx; ury = r.ury }
+unfoldable pub y_ceiling : Rect → Rect → Rect
+y_ceiling r s = record { llx = (overlap r s).llx; lly = s.ury; urx = (overlap r s).urx; ury = r.ury }
 
 -- 'y floor: x as U, y from R.ll to S.ll'
-unfoldable pub yFloor : Rect → Rect → Rect
-yFloor r s = record { llx = (overlap r s).llx; lly = r.lly; urx = (overlap r s).urx; ury = s.lly }
+unfoldable pub y_floor : Rect → Rect → Rect
+y_floor r s = record { llx = (overlap r s).llx; lly = r.lly; urx = (overlap r s).urx; ury = s.lly }
 
 -- the four pieces, 'in this order and leaving out empty ones'
 unfoldable pub pieces : Rect → Rect → List Rect
-pieces r s = unless_empty (xCeiling r s) ++ unless_empty (xFloor r s) ++ unless_empty (yCeiling r s)
-    ++ unless_empty (yFloor r s)
+pieces r s = unless_empty (x_ceiling r s) ++ unless_empty (x_floor r s) ++ unless_empty (y_ceiling r s)
+    ++ unless_empty (y_floor r s)
 
 -- 'if they share no cell, the list is R alone. Else' the pieces
 unfoldable pub cut : Rect → Rect → List Rect

@@ -4,7 +4,7 @@ use Rattle.std.specs.Prelude.{◌+◌, min, max}
 use Rattle.geometry.specs.declared.rect.Cell.{Cell}
 use Rattle.geometry.specs.declared.rect.Rect.{Rect}
 
--- 'a rectangle grown to take a cell in is the smallest one with both' (that it is the smallest is the law grow-least)
+-- 'a rectangle grown to take a cell in is the smallest one with both' (that it is the smallest is the law grow_least)
 unfoldable pub grown : Rect → Cell → Rect
 grown r c = record {
   llx = min r.llx c.x;

@@ -85,6 +85,6 @@ refine_steps zero l = l
 refine_steps (suc n) l = refine_steps n (refine_step l)
 
 -- 'repeats this until neither applies'. Each step that applies shortens the list, so as many steps as it is long are
--- enough (the law refine-done: no further step applies to the result).
+-- enough (the law refine_done: no further step applies to the result).
 unfoldable pub refine : List Rect → List Rect
 refine l = refine_steps (length l) l

@@ -7,7 +7,7 @@ use crate::numbers::rect_at;
 use crate::rect::Cell;
 
 // What the containment test reports.
-#[derive(Drop)]
+#[derive(Clone, Copy)]
 pub struct Containment {
     // some rectangle has the cell
     pub has: bool,

@@ -12,7 +12,7 @@ use crate::polygon::Polygon;
 use crate::rect::Rect;
 
 // How many rectangles were written, or that the list is over 256.
-#[derive(Drop)]
+#[derive(Clone, Copy)]
 pub enum Count {
     Rects(usize),
     Over,

@@ -1,5 +1,7 @@
 // The rectangle rules of document 01, 'Grid, rectangles, polygons': rectangles and polygons by
 // value, and lists of rectangles as numbers, four a rectangle.
+#![tactic(auto)]
+
 mod common;
 mod containment;
 mod cut;

@@ -1,13 +1,13 @@
 // The four pieces of a rectangle cut by another with which it shares a cell. Each may be empty.
 ghost use Rattle.std.specs.Prelude.{◌≡◌};
-ghost use Rattle.geometry.specs.Cut.{xCeiling, xFloor, yCeiling, yFloor};
+ghost use Rattle.geometry.specs.Cut.{x_ceiling, x_floor, y_ceiling, y_floor};
 
 use crate::rect::{Rect, least, most};
 
 impl Rect {
     // 'x from S.ur to R.ur, y as R'
     pub fn x_ceiling(self, s: Rect) -> Rect
-        ensures { result ≡ xCeiling self s }
+        ensures { result ≡ x_ceiling self s }
     {
         Rect {
             llx: s.urx,
@@ -19,7 +19,7 @@ impl Rect {
 
     // 'x from R.ll to S.ll, y as R'
     pub fn x_floor(self, s: Rect) -> Rect
-        ensures { result ≡ xFloor self s }
+        ensures { result ≡ x_floor self s }
     {
         Rect {
             llx: self.llx,
@@ -31,7 +31,7 @@ impl Rect {
 
     // 'x as U, y from S.ur to R.ur', U the common part
     pub fn y_ceiling(self, s: Rect) -> Rect
-        ensures { result ≡ yCeiling self s }
+        ensures { result ≡ y_ceiling self s }
     {
         Rect {
             llx: most(self.llx, s.llx),
@@ -43,7 +43,7 @@ impl Rect {
 
     // 'x as U, y from R.ll to S.ll'
     pub fn y_floor(self, s: Rect) -> Rect
-        ensures { result ≡ yFloor self s }
+        ensures { result ≡ y_floor self s }
     {
         Rect {
             llx: most(self.llx, s.llx),

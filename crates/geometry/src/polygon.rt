@@ -9,7 +9,7 @@ use crate::limits::MOST_OF_POLYGON;
 use crate::numbers::{put_rect, rect_at};
 use crate::rect::{Cell, Rect, Side};
 
-#[derive(Drop)]
+#[derive(Clone, Copy)]
 pub struct Polygon {
     pub rects: [Rect; MOST_OF_POLYGON],
     pub count: usize,

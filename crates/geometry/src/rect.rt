@@ -6,14 +6,14 @@ ghost use Rattle.geometry.specs.Grow.{grown};
 ghost use Rattle.geometry.specs.Refine.{within, strictly_within, stacked, abreast, joinable, union};
 ghost use Rattle.geometry.specs.Clip.{side_part};
 
-#[derive(Drop)]
+#[derive(Clone, Copy)]
 pub struct Cell {
     pub x: u32,
     pub y: u32,
 }
 
 // The cells from the corner ll up to the corner ur, which is excluded.
-#[derive(Drop)]
+#[derive(Clone, Copy)]
 pub struct Rect {
     pub llx: u32,
     pub lly: u32,
@@ -22,21 +22,21 @@ pub struct Rect {
 }
 
 // The common part of two rectangles.
-#[derive(Drop)]
+#[derive(Clone, Copy)]
 pub enum Common {
     Part(Rect),
     Nothing,
 }
 
 // A line at a coordinate of one dimension.
-#[derive(Drop)]
+#[derive(Clone, Copy)]
 pub enum Line {
     AtX(u32),
     AtY(u32),
 }
 
 // A side of a line: left are the cells with a coordinate below it, right the others.
-#[derive(Drop)]
+#[derive(Clone, Copy)]
 pub enum Side {
     Left(Line),
     Right(Line),

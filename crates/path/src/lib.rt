@@ -1,4 +1,6 @@
 // The path of an insertion in its lent list: the numbers of each level, read and written (docs/LAYOUT.md).
+#![tactic(auto)]
+
 mod level;
 mod reading;
 mod writing;

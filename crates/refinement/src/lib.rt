@@ -1,4 +1,6 @@
 // Document 01, 'Refine', as code: of a list of rectangles as numbers, and of a polygon by value.
+#![tactic(auto)]
+
 mod polygon_refine;
 mod refine;
 mod scan;

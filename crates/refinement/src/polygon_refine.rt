@@ -7,7 +7,7 @@ ghost use Rattle.refinement.specs.Pairs.{near, Apart, Clear, OthersApart, NextIs
 use geometry::Polygon;
 
 // The next step in refining a polygon. Two are near where one is contained in the other or they are joinable.
-#[derive(Drop)]
+#[derive(Clone, Copy)]
 enum Next {
     // The first is contained in another. Without it, no rectangle before the second place is near a later one.
     Drop(usize, usize),

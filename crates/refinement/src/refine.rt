@@ -35,7 +35,7 @@ fn join_rects(list: &mut [u32], n: usize, i: usize, j: usize)
 }
 
 // Where the search for the next step goes on.
-#[derive(Drop)]
+#[derive(Clone, Copy)]
 enum Search {
     // Before this place none is contained in another.
     Contained(usize),
@@ -45,7 +45,7 @@ enum Search {
 }
 
 // What a step did: one rectangle less, and where the search goes on; or none applies.
-#[derive(Drop)]
+#[derive(Clone, Copy)]
 enum Step {
     Shorter(Search),
     Done,

@@ -1,4 +1,6 @@
 // Well-Known Binary, the published OGC layout, little-endian: rectangles written as bytes.
+#![tactic(auto)]
+
 mod bytes;
 mod geometries;
 

@@ -1,0 +1,34 @@
+-- `extra::extra_area` meets its contract; its returns are in ExtraReturns.
+use borrow.Author.Rules.{rules}
+use Rattle.geometry.proofs.CellLaws.{Valid, grid_x, grid_y}
+use Rattle.area.proofs.ExtraReturns.{read_valid, new_valid, new_ends, extra_below, extra_above, extra_outside, extra_counted}
+use Rattle.area.proofs.extra.extra_area.Goals as goal
+
+pub extra_of_one-e-requires-clause-r_value : goal.extra_of_one-e-requires-clause-r_value
+extra_of_one-e-requires-clause-r_value c = search read_valid
+
+pub returns-then-e-limit : goal.returns-then-e-limit
+returns-then-e-limit c = search extra_below
+
+pub returns-else-e-limit : goal.returns-else-e-limit
+returns-else-e-limit c = search extra_above
+
+pub grow-g-requires-clause-x_bound : goal.grow-g-requires-clause-x_bound
+grow-g-requires-clause-x_bound c = search grid_x
+
+pub grow-g-requires-clause-y_bound : goal.grow-g-requires-clause-y_bound
+grow-g-requires-clause-y_bound c = search grid_y
+
+pub outside-requires : goal.outside-requires
+outside-requires c = search new_valid
+
+pub returns-then-limit-outside : goal.returns-then-limit-outside
+returns-then-limit-outside c = search extra_outside
+
+pub lacking-requires : goal.lacking-requires
+lacking-requires c =
+    let v : Valid c.grow-g.result = search new_ends in
+    search rules
+
+pub returns : goal.returns
+returns c = search extra_counted
