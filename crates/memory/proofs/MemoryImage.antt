@@ -50,10 +50,10 @@ holds_from m k (p ∷ ps) rest s l u e =
     (record { there = omega arith; used = u k (omega arith); same = own }, holds_from m (suc k) ps rest s.1 (omega arith) (λ j h. u j (omega arith)) next)
 
 -- where each part is in use or zero, the test of unused parts passes
-others_zero : (m : List ℕ) (n : ℕ) → ((k : ℕ) → k < n → in_use m k || all_zero (part m k) ≡ true) → others_zero m n ≡ true
+others_zero_lem : (m : List ℕ) (n : ℕ) → ((k : ℕ) → k < n → in_use m k || all_zero (part m k) ≡ true) → others_zero m n ≡ true
 unfolding others_zero
-others_zero m zero f = refl
-others_zero m (suc n) f = both _ _ (others_zero m n (λ k h. f k (omega arith))) (f n (omega arith))
+others_zero_lem m zero f = refl
+others_zero_lem m (suc n) f = both _ _ (others_zero_lem m n (λ k h. f k (omega arith))) (f n (omega arith))
 
 -- the numbers in use, the zeros behind them, and all that stands behind the first 64
 abbrev filled : ℕ → List (List ℕ) → List ℕ
@@ -135,7 +135,7 @@ module _ (N height : ℕ) (ps : List (List ℕ)) (sized : Sized ps) (fit : lengt
 
   -- so the test of unused parts passes
   pub memory_others : N ≤ 256 → others_zero (memory_of N height ps) N ≡ true
-  memory_others h = others_zero (memory_of N height ps) N λ k l. go k l (dec_lt k (length ps))
+  memory_others h = others_zero_lem (memory_of N height ps) N λ k l. go k l (dec_lt k (length ps))
     where
       go : (k : ℕ) → k < N → Dec (k < length ps) → in_use (memory_of N height ps) k || all_zero (part (memory_of N height ps) k) ≡ true
       go k l (yes u) = rw (memory_in_use N height ps k (omega arith), lt-ltb k (length ps) u)

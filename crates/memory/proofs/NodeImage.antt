@@ -104,11 +104,11 @@ module _ {B : Type 0} (write : ℕ → B → List (List ℕ)) where
         rw (le-leb lo k x, lt-ltb k hi y, head, ih)
 
 -- a node at a part that holds its numbers fits there
-pub node_fits :
+pub node_fits_lem :
     (fanout w : ℕ) (m : List ℕ) (k : ℕ) (p : List Rect) (c : ℕ) (items : List ℕ) → Held m k (node_part p c items) → 1 ≤ length p → length p ≤ 16 → 1 ≤ c → c ≤ fanout →
     length items ≤ 62 → length items ≡ w * c → node_fits fanout w m k ≡ true
 unfolding node_fits
-node_fits fanout w m k p c items h r s i j fit e =
+node_fits_lem fanout w m k p c items h r s i j fit e =
     rw (lt-ltb k (parts_of m) h.there, h.used, h.same, part_counts p c items s fit fanout r i j) (part_rest p c items s fit w e)
 
 module _ (fanout : ℕ) where
@@ -179,7 +179,7 @@ module _ (fanout : ℕ) where
         let items = flat_map entry_numbers b.child in
         let l = length_entries b.child in
         let few = ok.few_rects in
-        rw (node_fits fanout 3 m k b.poly c items h ok.some_rects few ok.some_items ok.few_items (omega arith) l, h.same)
+        rw (node_fits_lem fanout 3 m k b.poly c items h ok.some_rects few ok.some_items ok.few_items (omega arith) l, h.same)
         (ap some (λ i. record { poly = part_polygon b.poly c items few (omega arith) i; child = part_entries b.poly c b.child few (omega arith) i }))
 
     -- a routing node at its part, its row read
@@ -191,7 +191,7 @@ module _ (fanout : ℕ) where
         let c = length b.child in
         let few = ok.few_rects in
         let fit : length roots ≤ 62 = omega arith in
-        rw (node_fits fanout 1 m k b.poly c roots h ok.some_rects few ok.some_items ok.few_items fit (omega arith), h.same, part_children b.poly c roots few fit l, r)
+        rw (node_fits_lem fanout 1 m k b.poly c roots h ok.some_rects few ok.some_items ok.few_items fit (omega arith), h.same, part_children b.poly c roots few fit l, r)
         (ap some (λ i. record { poly = part_polygon b.poly c roots few fit i; child = b.child }))
 
     -- a node is read back

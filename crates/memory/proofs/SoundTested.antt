@@ -12,8 +12,8 @@ use Rattle.polygons.specs.Lists.{any}
 use Rattle.polygons.proofs.Booleans.{is_false, not_both, both, split_and}
 use Rattle.geometry.specs.declared.rect.Cell.{Cell}
 use Rattle.geometry.specs.declared.rect.Rect.{Rect}
-use Rattle.geometry.specs.Cells.{has_cell, valid, all_valid, any_has}
-use Rattle.cover.specs.Tests.{all_pass, pairs_pass, inside_of, apart}
+use Rattle.geometry.specs.Cells.{has_cell, all_valid, any_has}
+use Rattle.cover.specs.Tests.{all_pass, pairs_pass, inside_of}
 use Rattle.cover.proofs.CoverCells.{inside_cells, cells_inside, apart_cells, cells_apart}
 use Rattle.tree.specs.Lists.{All, Pairs}
 use Rattle.tree.specs.Nodes.{Item, item_has}

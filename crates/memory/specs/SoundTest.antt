@@ -1,5 +1,5 @@
--- The test for 'Sound' on a tree that was read: each clause of Sound as a test. The theorems sound-tested and
--- test-of-sound say that it passes exactly where the tree is sound.
+-- The test for 'Sound' on a tree that was read: each clause of Sound as a test. The theorems sound_tested and
+-- test_of_sound say that it passes exactly where the tree is sound.
 -- docs/RULES.md 2.6, 3.7, 3.15
 use Rattle.std.specs.Prelude.{ℕ, zero, suc, Bool, ◌&&◌, not, List, leb, eqb, length}
 use Rattle.polygons.specs.Limits.{most_of_polygon}

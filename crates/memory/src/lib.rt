@@ -1,1 +1,2 @@
 // The memory of the index: definitions and laws only.
+#![tactic(auto)]

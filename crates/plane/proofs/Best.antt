@@ -1,7 +1,7 @@
 -- The first of the least: there is one in a list that is not empty, and the loop finds it.
 use Prim.Native.Nat.{ℕ, ◌≤◌, ◌<◌, min}
 use mathlib.Core.Bool.{Bool, true, false, cond}
-use mathlib.Core.Path.{◌≡◌, refl, sym, ◌∙◌}
+use mathlib.Core.Path.{◌≡◌, refl, sym, ◌∙◌, subst}
 use mathlib.Core.List.{List, [], ◌∷◌}
 use mathlib.Core.Option.{Option, none, some}
 use lib.ListN.{length}
@@ -77,7 +77,10 @@ module _ {A : Type 0} (f : A → ℕ) where
           rw (eq-eqb (f a) (min (f a) (least f (b ∷ l))) e, h.found, le-leb (f a) (f h.it) g)
       go ih h (no d) =
           let q = h.least_one in let e : min (f a) (least f (b ∷ l)) ≡ least f (b ∷ l) = omega arith in let g : f h.it < f a = omega arith in
-          rw (e, ne_eqb (f a) (least f (b ∷ l)) (λ z. omega arith)) (focused_pushed a (first (λ x. eqb (f x) (least f (b ∷ l))) (b ∷ l)) ∙ ih ∙ rw (h.found, lt-leb (f a) (f h.it) g))
+          subst
+          (λ (m : ℕ). focused (cond (eqb (f a) m) (some (record { before = []; at = a; after = b ∷ l })) (pushed a (first (λ x. eqb (f x) m) (b ∷ l)))) ≡ combine a (fold (b ∷ l)))
+          (sym e)
+          (rw (ne_eqb (f a) (least f (b ∷ l)) (λ z. omega arith)) (focused_pushed a (first (λ x. eqb (f x) (least f (b ∷ l))) (b ∷ l)) ∙ ih ∙ rw (h.found, lt-leb (f a) (f h.it) g)))
 
   -- the first of the least is the best from the right
   pub best_fold : (l : List A) → best f l ≡ fold l

@@ -10,7 +10,7 @@ use Rattle.geometry.specs.Cells.{on_grid}
 use Rattle.geometry.proofs.CellLaws.{grid_of}
 use Rattle.tree.specs.Lists.{All, total}
 use Rattle.tree.proofs.Lists.{all_map}
-use Rattle.plane.specs.Lines.{CellEntry, xOf, yOf}
+use Rattle.plane.specs.Lines.{CellEntry, x_of, y_of}
 use Rattle.plane.proofs.Spread.{spread_least, sum_most, squares_most}
 
 pub record Bounds (v : CellEntry → ℕ) (es : List CellEntry) : Type 0 where
@@ -32,8 +32,8 @@ bounds v es n h =
     let c = mul-le-mul_right (total (λ e. v e * v e) es) n in
     record { sum = s; squares = q; product = omega arith; difference = spread_least v es }
 
-pub x_bounds : (es : List CellEntry) → length es ≤ 9 → All (λ e. on_grid e.cell ≡ true) es → Bounds xOf es
-x_bounds es n g = bounds xOf es n (all_map (λ e. on_grid e.cell ≡ true) (λ e. xOf e ≤ 65535) es (λ e h. (grid_of e.cell h).x_most) g)
+pub x_bounds : (es : List CellEntry) → length es ≤ 9 → All (λ e. on_grid e.cell ≡ true) es → Bounds x_of es
+x_bounds es n g = bounds x_of es n (all_map (λ e. on_grid e.cell ≡ true) (λ e. x_of e ≤ 65535) es (λ e h. (grid_of e.cell h).x_most) g)
 
-pub y_bounds : (es : List CellEntry) → length es ≤ 9 → All (λ e. on_grid e.cell ≡ true) es → Bounds yOf es
-y_bounds es n g = bounds yOf es n (all_map (λ e. on_grid e.cell ≡ true) (λ e. yOf e ≤ 65535) es (λ e h. (grid_of e.cell h).y_most) g)
+pub y_bounds : (es : List CellEntry) → length es ≤ 9 → All (λ e. on_grid e.cell ≡ true) es → Bounds y_of es
+y_bounds es n g = bounds y_of es n (all_map (λ e. on_grid e.cell ≡ true) (λ e. y_of e ≤ 65535) es (λ e h. (grid_of e.cell h).y_most) g)

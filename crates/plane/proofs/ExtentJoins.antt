@@ -7,7 +7,7 @@ use native.Mathlib.Omega.{arith}
 use Rattle.polygons.specs.Lists.{least}
 use Rattle.polygons.proofs.LeastLaws.{least_append}
 use Rattle.plane.specs.Best.{greatest}
-use Rattle.plane.specs.Lines.{CellEntry, xOf, yOf}
+use Rattle.plane.specs.Lines.{CellEntry, x_of, y_of}
 use Rattle.plane.specs.Candidates.{extent_of, cell_extent, join_extents}
 
 module _ {A : Type 0} (f : A → ℕ) (b : A) (m : List A) where
@@ -27,10 +27,10 @@ unfolding extent_of join_extents
 extent_append [] h m n = absurd (omega arith)
 extent_append (a ∷ g) [] m n = absurd (omega arith)
 extent_append (a ∷ g) (b ∷ h) m n = λ i. record {
-  min_x = least_append xOf b h a g i;
-  max_x = greatest_append xOf b h a g i;
-  min_y = least_append yOf b h a g i;
-  max_y = greatest_append yOf b h a g i;
+  min_x = least_append x_of b h a g i;
+  max_x = greatest_append x_of b h a g i;
+  min_y = least_append y_of b h a g i;
+  max_y = greatest_append y_of b h a g i;
 }
 
 -- the extent of a group with one entry more

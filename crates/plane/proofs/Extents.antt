@@ -16,7 +16,7 @@ use Rattle.tree.specs.Space.{Side, left, right}
 use Rattle.tree.specs.Pass.{Alike}
 use Rattle.tree.proofs.Lists.{all_map}
 use Rattle.plane.specs.Best.{greatest}
-use Rattle.plane.specs.Lines.{CellEntry, xOf, yOf, holds_on, fits, on_both, node_line}
+use Rattle.plane.specs.Lines.{CellEntry, x_of, y_of, holds_on, fits, on_both, node_line}
 use Rattle.plane.specs.Candidates.{extent_of, extents, extent_on}
 use Rattle.plane.specs.Plane.{plane_space}
 use Rattle.plane.proofs.Kept.{keep_same}
@@ -69,10 +69,10 @@ module _ {A : Type 0} (v : A → ℕ) (l : ℕ) where
 pub extent_holds : (s : Side Line) (g : List CellEntry) → 1 ≤ length g → holds_on s g ≡ extent_on s (extent_of g)
 unfolding below extent_of
 extent_holds s [] n = absurd (omega arith)
-extent_holds (left (AtX l)) (a ∷ g) n = left_extent xOf l a g
-extent_holds (left (AtY l)) (a ∷ g) n = left_extent yOf l a g
-extent_holds (right (AtX l)) (a ∷ g) n = right_extent xOf l a g
-extent_holds (right (AtY l)) (a ∷ g) n = right_extent yOf l a g
+extent_holds (left (AtX l)) (a ∷ g) n = left_extent x_of l a g
+extent_holds (left (AtY l)) (a ∷ g) n = left_extent y_of l a g
+extent_holds (right (AtX l)) (a ∷ g) n = right_extent x_of l a g
+extent_holds (right (AtY l)) (a ∷ g) n = right_extent y_of l a g
 
 -- no group is empty
 abbrev pub SomeEach : List (List CellEntry) → Type 0

@@ -32,7 +32,7 @@ use Rattle.tree.specs.Boxes.{extra}
 use Rattle.tree.proofs.Laws.{Laws}
 use Rattle.tree.proofs.BoxLaws.{BoxLaws}
 use Rattle.tree.proofs.BoxSpace.{space_laws}
-use Rattle.plane.specs.Lines.{CellEntry, xOf, yOf}
+use Rattle.plane.specs.Lines.{CellEntry, x_of, y_of}
 use Rattle.plane.specs.Plane.{rect_side, plane, plane_space}
 
 -- valid lists, as boxes and as rectangles
@@ -83,7 +83,7 @@ same_cell c d h =
     λ i. record { x = a i; y = b i }
 
 -- 'ties to the smaller x, then the smaller y': entries that tie in both are of one cell
-ties_cell : (e f : CellEntry) → xOf e ∷ yOf e ∷ [] ≡ xOf f ∷ yOf f ∷ [] → e.cell ≡ f.cell
+ties_cell : (e f : CellEntry) → x_of e ∷ y_of e ∷ [] ≡ x_of f ∷ y_of f ∷ [] → e.cell ≡ f.cell
 ties_cell e f h =
     let a : e.cell.x ≡ f.cell.x = ap (λ l. get_or l 0 0) h in let b : e.cell.y ≡ f.cell.y = ap (λ l. get_or l 1 0) h in
     λ i. record { x = a i; y = b i }

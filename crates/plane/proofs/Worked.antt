@@ -9,7 +9,7 @@ use Rattle.polygons.specs.Rules.{cut_each}
 use Rattle.geometry.specs.Cells.{on_grid, has_cell, non_empty, valid, area, cell_of, rect_of}
 use Rattle.geometry.specs.Common.{overlap, unless_empty, common}
 use Rattle.geometry.specs.Grow.{grown}
-use Rattle.geometry.specs.Cut.{cut, xCeiling, xFloor, yCeiling, yFloor}
+use Rattle.geometry.specs.Cut.{cut, x_ceiling, x_floor, y_ceiling, y_floor}
 use Rattle.geometry.specs.Refine.{first_from, within, strictly_within, contained, first_contained, stacked, abreast, joinable, union, joins, partner, has_partner, first_join, refine_step, refine_steps, refine}
 use Rattle.geometry.specs.Clip.{below, side_part, clip_rect}
 use Rattle.area.proofs.LackLaws.{extra_single}
@@ -80,5 +80,5 @@ right_extra = extra_area_lem 8 (rect_of 5 5 9 6 ∷ []) (rect_of 5 5 9 6) (cell_
     ∙ extra_single (rect_of 5 5 9 6) (cell_of 3 7) refl refl
 
 pub tenth : insert_tree (plane_space 8) (plane_root 8) (some after) (entry 3 7 9) ≡ some grown_after
-unfolding insert_tree insert_at bind split half flat_map leaf_line total choose grown_poly cut_each at_most any_has any first least has_cell area grown overlap common cut xCeiling xFloor yCeiling yFloor unless_empty non_empty within strictly_within stacked abreast joinable union joins refine refine_steps refine_step first_from contained partner has_partner first_contained first_join
+unfolding insert_tree insert_at bind split half flat_map leaf_line total choose grown_poly cut_each at_most any_has any first least has_cell area grown overlap common cut x_ceiling x_floor y_ceiling y_floor unless_empty non_empty within strictly_within stacked abreast joinable union joins refine refine_steps refine_step first_from contained partner has_partner first_contained first_join
 tenth = simp (left_extra, right_extra)

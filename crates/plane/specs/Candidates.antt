@@ -8,7 +8,7 @@ use Rattle.geometry.specs.declared.rect.Line.{Line}
 use Rattle.geometry.specs.declared.rect.Line.TheVariants.{AtX, AtY}
 use Rattle.tree.specs.Space.{Side, left, right}
 use Rattle.plane.specs.Best.{greatest, scan}
-use Rattle.plane.specs.Lines.{CellEntry, xOf, yOf, fits, on_both, line_or}
+use Rattle.plane.specs.Lines.{CellEntry, x_of, y_of, fits, on_both, line_or}
 
 -- the least and the greatest coordinates of a branch's entries
 pub record Extent : Type 0 where
@@ -19,7 +19,7 @@ pub record Extent : Type 0 where
 
 -- the extent of a branch, by the entries it holds
 unfoldable pub extent_of : List CellEntry → Extent
-extent_of g = record { min_x = least xOf g; max_x = greatest xOf g; min_y = least yOf g; max_y = greatest yOf g }
+extent_of g = record { min_x = least x_of g; max_x = greatest x_of g; min_y = least y_of g; max_y = greatest y_of g }
 
 -- the extents of a node's branches
 abbrev pub extents : List (List CellEntry) → List Extent

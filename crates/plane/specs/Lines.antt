@@ -32,14 +32,14 @@ abbrev pub OnGrid : List CellEntry → Type 0
 OnGrid es = All (λ e. on_grid e.cell ≡ true) es
 
 -- 'v: coordinate': an entry's x
-abbrev pub xOf : CellEntry → ℕ
-xOf e = e.cell.x
+abbrev pub x_of : CellEntry → ℕ
+x_of e = e.cell.x
 
 -- and its y
-abbrev pub yOf : CellEntry → ℕ
-yOf e = e.cell.y
+abbrev pub y_of : CellEntry → ℕ
+y_of e = e.cell.y
 
--- Leaf: 'n × Σv² − (Σv)²', where n is the number of entries. It is never negative (the law spread-least).
+-- Leaf: 'n × Σv² − (Σv)²', where n is the number of entries. It is never negative (the law spread_least).
 abbrev pub spread : (CellEntry → ℕ) → List CellEntry → ℕ
 spread v es = length es * total (λ e. v e * v e) es - total v es * total v es
 
@@ -49,7 +49,7 @@ mean_line v es = total v es / length es + 1
 
 -- 'the dimension with the larger n × Σv² − (Σv)², x on a tie'
 unfoldable pub leaf_line : List CellEntry → Line
-leaf_line es = cond (leb (spread yOf es) (spread xOf es)) (AtX (mean_line xOf es)) (AtY (mean_line yOf es))
+leaf_line es = cond (leb (spread y_of es) (spread x_of es)) (AtX (mean_line x_of es)) (AtY (mean_line y_of es))
 
 -- Routing node: a branch, given by the entries it holds, holds entries on the side
 abbrev pub holds_on : Side Line → List CellEntry → Bool
@@ -74,7 +74,7 @@ module _ {G : Type 0} (on : Side Line → G → Bool) where
 unfoldable pub lines : List Line
 lines = map AtX (up_from 1 65535) ++ map AtY (up_from 1 65535)
 
--- what the definition gives where no line fits: no line of the list above. It is never used (the law no-line-unused).
+-- what the definition gives where no line fits: no line of the list above. It is never used (the law no_line_unused).
 abbrev pub no_line : Line
 no_line = AtX 0
 

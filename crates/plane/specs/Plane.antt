@@ -18,7 +18,7 @@ use Rattle.tree.specs.Space.{Space, Side, left, right}
 use Rattle.tree.specs.Root.{Root}
 use Rattle.tree.specs.Boxes.{Boxes}
 use Rattle.tree.specs.BoxSpace.{space_of, root_of}
-use Rattle.plane.specs.Lines.{xOf, yOf, leaf_line, node_line}
+use Rattle.plane.specs.Lines.{x_of, y_of, leaf_line, node_line}
 
 -- the tree's side of a line as the geometry's
 abbrev pub rect_side : Side Line → RectSide
@@ -46,7 +46,7 @@ plane fanout = record {
   node_line = node_line fanout;
   distance = squared;
   min_distance = rect_distance;
-  ties = λ e. xOf e ∷ yOf e ∷ [];
+  ties = λ e. x_of e ∷ y_of e ∷ [];
   most = fanout;
 }
 

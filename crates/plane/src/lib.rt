@@ -1,1 +1,2 @@
 // The plane: definitions and laws only.
+#![tactic(auto)]

@@ -1,6 +1,6 @@
 -- Lists with the same elements in any order: `Bag` by counting, the kit's permutations by exchanging. Each gives the
 -- other.
-use Prim.Native.Nat.{ℕ, ◌+◌, ◌≤◌}
+use Prim.Native.Nat.{ℕ, ◌≤◌}
 use mathlib.Core.Bool.{Bool, true, false, cond, not, ◌&&◌}
 use mathlib.Core.Path.{◌≡◌, refl, sym, ap, ◌∙◌, subst}
 use mathlib.Core.List.Permᴰ

@@ -45,7 +45,7 @@ module _ (B : Boxes) (W : BoxLaws B) where
       let g = at_most_is most_pieces (flat_map (λ r. B.cut r s) l) f.0 f.1 in
       cut_each_lem f.0 ss m c f.2
       ∙ ap (λ (x : Poly B). any (λ r. B.has r c) x && not (any (λ r. B.has r c) ss)) g
-      ∙ ap (λ (x : Bool). x && not (any (λ r. B.has r c) ss)) (any_flat_map (λ q. B.has q c) (λ r. B.cut r s) l ∙ any_same (λ r. any (λ q. B.has q c) (B.cut r s)) (λ r. B.has r c && not (B.has s c)) l (λ r. W.cut_Cells r s c) ∙ any_and (λ r. B.has r c) (not (B.has s c)) l)
+      ∙ ap (λ (x : Bool). x && not (any (λ r. B.has r c) ss)) (any_flat_map (λ q. B.has q c) (λ r. B.cut r s) l ∙ any_same (λ r. any (λ q. B.has q c) (B.cut r s)) (λ r. B.has r c && not (B.has s c)) l (λ r. W.cut_cells r s c) ∙ any_and (λ r. B.has r c) (not (B.has s c)) l)
       ∙ neither_of (any (λ r. B.has r c) l) (B.has s c) (any (λ r. B.has r c) ss)
 
   -- the cells of the common parts

@@ -1,7 +1,7 @@
 -- Step 2 refuses only where a limit is passed.
 use Prim.Native.Nat.{ℕ, ◌≤◌, min}
 use mathlib.Core.Bool.{Bool, true, ◌||◌, or-true, false≢true}
-use mathlib.Core.Path.{◌≡◌, refl, sym, ap, ◌∙◌}
+use mathlib.Core.Path.{◌≡◌, refl, sym, ap, ◌∙◌, subst}
 use mathlib.Core.List.{List, [], ◌∷◌, ◌++◌, map, flat_map}
 use mathlib.Core.Option.{Option, none, some, bind}
 use lib.ListN.{length, length-append, length-map}
@@ -24,7 +24,7 @@ least_any f a (b ∷ l) = go (dec_le (f a) (least f (b ∷ l))) (least_any f b l
   where
     go : Dec (f a ≤ least f (b ∷ l)) → any (λ r. eqb (f r) (least f (b ∷ l))) (b ∷ l) ≡ true → eqb (f a) (min (f a) (least f (b ∷ l))) || any (λ r. eqb (f r) (min (f a) (least f (b ∷ l)))) (b ∷ l) ≡ true
     go (yes h) i = rw (eq-eqb (f a) (min (f a) (least f (b ∷ l))) (omega arith))
-    go (no h) i = let e : min (f a) (least f (b ∷ l)) ≡ least f (b ∷ l) = omega arith in rw (e, i) (or-true (eqb (f a) (least f (b ∷ l))))
+    go (no h) i = let e : min (f a) (least f (b ∷ l)) ≡ least f (b ∷ l) = omega arith in subst (λ (x : ℕ). eqb (f a) x || any (λ r. eqb (f r) x) (b ∷ l) ≡ true) (sym e) (ap (λ (z : Bool). eqb (f a) (least f (b ∷ l)) || z) i ∙ or-true (eqb (f a) (least f (b ∷ l))))
 
 finds : {A : Type 0} (t : A → Bool) (l : List A) → any t l ≡ true → (k : Focus A) × (first t l ≡ some k)
 finds {A = A} t l h = go (first t l) refl

@@ -1,5 +1,5 @@
 -- Document 01, step 2: "The list refined here may have up to 271 rectangles: 256 pieces and 15 others", and there is always a piece.
-use Prim.Native.Nat.{◌+◌, ◌≤◌}
+use Prim.Native.Nat.{◌≤◌}
 use mathlib.Core.Bool.{true, false, or-false}
 use mathlib.Core.List.{[], ◌∷◌, ◌++◌}
 use mathlib.Core.Option.{some}

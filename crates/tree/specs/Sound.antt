@@ -12,7 +12,7 @@ module _ (S : Space) where
   Within n p x = (c : S.Cell) → item_has S n x c ≡ true → S.has p c ≡ true
 
   -- "siblings share no cell"; "no cell has two entries", said of one leaf's entries: of two leaves it follows, as they
-  -- share no cell and contain their entries (cell-once in proofs/Leaves).
+  -- share no cell and contain their entries (cell_once in proofs/Leaves).
   abbrev pub Apart : (n : ℕ) → Item S n → Item S n → Type 0
   Apart n x y = (c : S.Cell) → item_has S n x c ≡ true → item_has S n y c ≡ true → ⊥
 

@@ -1,1 +1,2 @@
 // The tree: definitions and laws only.
+#![tactic(auto)]
