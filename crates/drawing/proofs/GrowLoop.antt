@@ -30,12 +30,21 @@ pub record Growing (list : List ℕ) (n : ℕ) (c : Cell) (out₀ out : List ℕ
   pub done : rects_in out i ≡ map (grown_to c) (rects_in list i)
   pub rest : drop (4 * i) out ≡ drop (4 * i) out₀
 
-pub grow_start : (list : List ℕ) (n : ℕ) (c : Cell) (out : List ℕ) → 4 * n ≤ length list → 4 * n ≤ length out → Growing list n c out out 0
+pub grow_start : (list : List ℕ) (n : ℕ) (c : Cell) (out : List ℕ) → 4 * n ≤ length list → 4 * n ≤ length out
+    → Growing list n c out out 0
 unfolding rects_in
-grow_start list n c out g h = record { i_le = omega arith; fits = g; room = h; same_length = refl; done = refl; rest = refl }
+grow_start list n c out g h = record {
+  i_le = omega arith;
+  fits = g;
+  room = h;
+  same_length = refl;
+  done = refl;
+  rest = refl;
+}
 
 module _ (list : List ℕ) (n : ℕ) (c : Cell) (out₀ out : List ℕ) (i : ℕ) (v : Growing list n c out₀ out i) where
-  pub grow_again : (r g : Rect) (out' : List ℕ) → i < n → r ≡ rect_at list i → g ≡ grown r c → out' ≡ put_at out i g → Growing list n c out₀ out' (i + 1)
+  pub grow_again : (r g : Rect) (out' : List ℕ) → i < n → r ≡ rect_at list i → g ≡ grown r c → out' ≡ put_at out i g
+      → Growing list n c out₀ out' (i + 1)
   unfolding grown_to
   grow_again r g out' h e f q =
       let a : 4 * (i + 1) ≡ 4 * i + 4 = omega arith in
@@ -57,13 +66,16 @@ module _ (list : List ℕ) (n : ℕ) (c : Cell) (out₀ out : List ℕ) (i : ℕ
       sym (take-append-drop (4 * n) out) ∙ rw (← numbers_take out n v.room, a, b)
 
 -- the answer of grow
-pub grow_wrote : (list out : List ℕ) (c : Cell) (b d : Bool) (out' : List ℕ) → length out ≡ 1024 → b ≡ is_list most_pieces list → b ≡ true → d ≡ on_grid c → d ≡ true
+pub grow_wrote : (list out : List ℕ) (c : Cell) (b d : Bool) (out' : List ℕ) → length out ≡ 1024
+    → b ≡ is_list most_pieces list → b ≡ true → d ≡ on_grid c → d ≡ true
     → out' ≡ numbers_of (map (grown_to c) (rects_in list (length list / 4))) ++ drop (4 * (length list / 4)) out
-    → Drawn (is_result out && is_list most_pieces list && on_grid c) (grow_drawn list c) out (Wrote (length list / 4)) out'
+    → Drawn (is_result out && is_list most_pieces list && on_grid c) (grow_drawn list c) out (Wrote (length list / 4))
+    out'
 unfolding grow_drawn
 grow_wrote list out c b d out' g e f h k q =
     let l = list_few most_pieces list b e f in
-    let m : length list / 4 ≡ length (map (grown_to c) (given list)) = sym (length-map (given list) (grown_to c) ∙ length_rects list (length list / 4)) in
+    let m : length list / 4 ≡ length (map (grown_to c) (given list)) =
+    sym (length-map (given list) (grown_to c) ∙ length_rects list (length list / 4)) in
     wrote _ _ out _ _ out' (valid_three list out (on_grid c) (grow_drawn list c) g b e f d h k) refl m (omega arith) q
 
 -- the answer of the extra area

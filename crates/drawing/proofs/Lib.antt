@@ -2,6 +2,4 @@ pub mod Returns
 pub mod GrowLoop
 pub mod PolygonCutReturns
 pub mod ContainsReturns
-pub mod ExportReturns
 pub mod WkbReturns
-pub mod WkbClaimed

@@ -3,4 +3,3 @@ pub mod Answers
 pub mod Calls
 pub mod PolygonCut
 pub mod Wkb
-pub mod WkbClaim

@@ -30,29 +30,3 @@ polygon_cut_result list p out = result_of (valid_with_polygon list p out) (cut_p
 pub record PolygonCutDrawn (list p out : List ℕ) (a : PolygonCut) (out' : List ℕ) : Type 0 where
   pub answer : a ≡ polygon_cut_answer list p out
   pub result : out' ≡ polygon_cut_result list p out
-
--- the number of each answer; 0 where the call accepts
-abbrev pub polygon_cut_number : PolygonCut → ℕ
-polygon_cut_number (P.Wrote n cells) = 0
-polygon_cut_number P.Invalid = 3
-polygon_cut_number P.TooMany = 7
-
--- the two reported numbers at exit, from those at entry: how many rectangles were written, and how many cells removed.
--- A refusal leaves both as they were.
-abbrev pub written_reported : PolygonCut → ℕ → ℕ
-written_reported (P.Wrote n cells) before = n
-written_reported P.Invalid before = before
-written_reported P.TooMany before = before
-
-abbrev pub removed_reported : PolygonCut → ℕ → ℕ
-removed_reported (P.Wrote n cells) before = cells
-removed_reported P.Invalid before = before
-removed_reported P.TooMany before = before
-
--- What the form for C promises: the number returned, the result list and both reported numbers at exit.
-pub record PolygonCutExported (list p out : List ℕ) (written cells n : ℕ) (out' : List ℕ) (written' cells' : ℕ)
-    : Type 0 where
-  pub refusal : n ≡ polygon_cut_number (polygon_cut_answer list p out)
-  pub result : out' ≡ polygon_cut_result list p out
-  pub written_told : written' ≡ written_reported (polygon_cut_answer list p out) written
-  pub removed_told : cells' ≡ removed_reported (polygon_cut_answer list p out) cells

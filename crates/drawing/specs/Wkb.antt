@@ -1,5 +1,5 @@
 -- A polygon written as Well-Known Binary (request A.4): the call's answer, its number, and what it leaves.
--- docs/RULES.md 2.19, 2.25, 2.31, 8.10
+-- docs/RULES.md 2.19, 2.31
 use Rattle.std.specs.Prelude.{ℕ, ◌/◌, Bool, true, false, List, ◌++◌, ◌≡◌, leb, length, drop}
 use Rattle.polygons.specs.Limits.{most_of_polygon}
 use Rattle.geometry.specs.declared.rect.Rect.{Rect}
@@ -35,21 +35,3 @@ wkb_output p out = output_of (wkb_answer p out) (given p) out
 pub record WkbWritten (p out : List ℕ) (a : Wkb) (out' : List ℕ) : Type 0 where
   pub answer : a ≡ wkb_answer p out
   pub output : out' ≡ wkb_output p out
-
--- the number of each answer; 0 where the call accepts
-abbrev pub wkb_number : Wkb → ℕ
-wkb_number (Bytes n) = 0
-wkb_number BadPolygon = 3
-wkb_number ShortOutput = 11
-
--- 'The length, which is returned': the reported number at exit, which a refusal leaves as it was
-abbrev pub length_reported : Wkb → ℕ → ℕ
-length_reported (Bytes n) before = n
-length_reported BadPolygon before = before
-length_reported ShortOutput before = before
-
--- What the form for C promises for a polygon: the number returned, the output and the length at exit.
-pub record WkbExported (p out : List ℕ) (told n : ℕ) (out' : List ℕ) (told' : ℕ) : Type 0 where
-  pub refusal : n ≡ wkb_number (wkb_answer p out)
-  pub output : out' ≡ wkb_output p out
-  pub length_told : told' ≡ length_reported (wkb_answer p out) told

@@ -1,8 +1,8 @@
-// What the calls answer. The definitions `number`, `contains_number` and `extra_number` of specs/Answers.antt,
-// `polygon_cut_number` of specs/PolygonCut.antt and `wkb_number` of specs/Wkb.antt give the number for each.
+// What the calls answer. The crate drawing_c gives the number for each: `number`, `contains_number`, `extra_number`,
+// `polygon_cut_number` and `wkb_number` of its specs/Exports.antt.
 use geometry::Containment;
 
-#[derive(Drop)]
+#[derive(Clone, Copy)]
 pub enum Answer {
     // accepted: how many rectangles were written
     Wrote(usize),
@@ -12,7 +12,7 @@ pub enum Answer {
     TooMany,
 }
 
-#[derive(Drop)]
+#[derive(Clone, Copy)]
 pub enum PolygonCut {
     // accepted: how many rectangles were written, and how many cells were removed
     Wrote { rects: usize, removed: u64 },
@@ -22,7 +22,7 @@ pub enum PolygonCut {
     TooMany,
 }
 
-#[derive(Drop)]
+#[derive(Clone, Copy)]
 pub enum Contains {
     // accepted: whether a rectangle has the cell, and how many were compared
     Tested(Containment),
@@ -30,7 +30,7 @@ pub enum Contains {
     Refused,
 }
 
-#[derive(Drop)]
+#[derive(Clone, Copy)]
 pub enum Extra {
     // accepted: the extra area
     Area(u64),
@@ -38,7 +38,7 @@ pub enum Extra {
     Unfit,
 }
 
-#[derive(Drop)]
+#[derive(Clone, Copy)]
 pub enum Wkb {
     // accepted: how many bytes were written
     Bytes(usize),

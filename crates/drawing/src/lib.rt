@@ -2,11 +2,12 @@
 // written for a map program.
 //
 // No call here has a `requires`: a bad argument is refused, and leaves every lent list as it was.
+#![tactic(auto)]
+
 mod answer;
 mod arguments;
 mod calls;
 mod containing;
-mod exports;
 mod polygon_cut;
 mod writing;
 
