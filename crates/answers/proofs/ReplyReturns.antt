@@ -1,10 +1,9 @@
 -- The reply to an answer whose case is known, and to one that is a refusal.
 use mathlib.Core.Path.{◌≡◌, refl, sym, ap, ◌∙◌}
 use mathlib.Core.Bool.{false}
-use mathlib.Core.List.{[], ◌∷◌}
+use mathlib.Core.List.{[]}
 use lib.Dec.{eqb}
-use types.Run.{OneOf, miss}
-use denote.Enum.Declared.{tag_of}
+use Prim.Native.Nat.{ℕ}
 use Rattle.answers.specs.Numbers.{with_seven, insert_reply, remove_reply, clear_reply, point_reply, window_reply, nearest_reply, empty_reply}
 use Rattle.answers.specs.declared.reply.Reply.{Reply}
 use Rattle.answers.specs.declared.answer.Inserted.{Inserted}
@@ -21,13 +20,6 @@ use Rattle.answers.specs.declared.answer.NearestFound.{NearestFound}
 use Rattle.answers.specs.declared.answer.NearestFound.TheVariants as N
 use Rattle.answers.specs.declared.answer.EmptyFound.{EmptyFound}
 use Rattle.answers.specs.declared.answer.EmptyFound.TheVariants as E
-use Rattle.answers.specs.contracts.answer.Inserted as Inserted'
-use Rattle.answers.specs.contracts.answer.Removed as Removed'
-use Rattle.answers.specs.contracts.answer.Cleared as Cleared'
-use Rattle.answers.specs.contracts.answer.PointFound as PointFound'
-use Rattle.answers.specs.contracts.answer.WindowFound as WindowFound'
-use Rattle.answers.specs.contracts.answer.NearestFound as NearestFound'
-use Rattle.answers.specs.contracts.answer.EmptyFound as EmptyFound'
 
 pub insert_case : (a b : Inserted) (r : Reply) → a ≡ b → r ≡ with_seven (insert_reply b) → r ≡ with_seven (insert_reply a)
 insert_case a b r e f = f ∙ ap (λ x. with_seven (insert_reply x)) (sym e)
@@ -60,9 +52,9 @@ pub record Refused (r : Reply) : Type 0 where
   pub number : eqb r.number 0 ≡ false
   pub values : r.values ≡ []
 
--- so is that of an answer whose place among the variants is that of a refusal without values
-pub insert_refused : (a : Inserted) → OneOf (1 ∷ 2 ∷ 3 ∷ 4 ∷ 5 ∷ 6 ∷ 7 ∷ []) (tag_of Inserted'.the_type a) → Refused (insert_reply a)
-insert_refused (I.Accepted n cells) q = absurd (miss (1 ∷ 2 ∷ 3 ∷ 4 ∷ 5 ∷ 6 ∷ 7 ∷ []) 0 tt q)
+-- so is that of an answer that is no variant with values
+pub insert_refused : (a : Inserted) → ((held removed : ℕ) → a ≡ I.Accepted held removed → ⊥) → Refused (insert_reply a)
+insert_refused (I.Accepted n cells) q = absurd (q n cells refl)
 insert_refused I.WrongLength q = record { number = refl; values = refl }
 insert_refused I.WorkLength q = record { number = refl; values = refl }
 insert_refused I.Invalid q = record { number = refl; values = refl }
@@ -71,41 +63,41 @@ insert_refused I.Held q = record { number = refl; values = refl }
 insert_refused I.OverLimit q = record { number = refl; values = refl }
 insert_refused I.TooManyNodes q = record { number = refl; values = refl }
 
-pub remove_refused : (a : Removed) → OneOf (1 ∷ 2 ∷ 3 ∷ 4 ∷ []) (tag_of Removed'.the_type a) → Refused (remove_reply a)
-remove_refused (R.Accepted n) q = absurd (miss (1 ∷ 2 ∷ 3 ∷ 4 ∷ []) 0 tt q)
+pub remove_refused : (a : Removed) → ((held : ℕ) → a ≡ R.Accepted held → ⊥) → Refused (remove_reply a)
+remove_refused (R.Accepted n) q = absurd (q n refl)
 remove_refused R.WrongLength q = record { number = refl; values = refl }
 remove_refused R.Invalid q = record { number = refl; values = refl }
 remove_refused R.NoSoundTree q = record { number = refl; values = refl }
 remove_refused R.NotHeld q = record { number = refl; values = refl }
 
-pub clear_refused : (a : Cleared) → OneOf (1 ∷ []) (tag_of Cleared'.the_type a) → Refused (clear_reply a)
-clear_refused (C.Accepted n) q = absurd (miss (1 ∷ []) 0 tt q)
+pub clear_refused : (a : Cleared) → ((held : ℕ) → a ≡ C.Accepted held → ⊥) → Refused (clear_reply a)
+clear_refused (C.Accepted n) q = absurd (q n refl)
 clear_refused C.WrongLength q = record { number = refl; values = refl }
 
-pub point_refused : (a : PointFound) → OneOf (2 ∷ 3 ∷ 4 ∷ []) (tag_of PointFound'.the_type a) → Refused (point_reply a)
-point_refused (P.Held tag visits) q = absurd (miss (2 ∷ 3 ∷ 4 ∷ []) 0 tt q)
-point_refused (P.NotHeld visits) q = absurd (miss (2 ∷ 3 ∷ 4 ∷ []) 1 tt q)
-point_refused P.WrongLength q = record { number = refl; values = refl }
-point_refused P.Invalid q = record { number = refl; values = refl }
-point_refused P.NoSoundTree q = record { number = refl; values = refl }
+pub point_refused : (a : PointFound) → ((tag visits : ℕ) → a ≡ P.Held tag visits → ⊥) → ((visits : ℕ) → a ≡ P.NotHeld visits → ⊥) → Refused (point_reply a)
+point_refused (P.Held tag visits) p q = absurd (p tag visits refl)
+point_refused (P.NotHeld visits) p q = absurd (q visits refl)
+point_refused P.WrongLength p q = record { number = refl; values = refl }
+point_refused P.Invalid p q = record { number = refl; values = refl }
+point_refused P.NoSoundTree p q = record { number = refl; values = refl }
 
-pub window_refused : (a : WindowFound) → OneOf (1 ∷ 2 ∷ 3 ∷ []) (tag_of WindowFound'.the_type a) → Refused (window_reply a)
-window_refused (W.Found matches visits) q = absurd (miss (1 ∷ 2 ∷ 3 ∷ []) 0 tt q)
-window_refused (W.ShortList matches) q = absurd (miss (1 ∷ 2 ∷ 3 ∷ []) 4 tt q)
-window_refused W.WrongLength q = record { number = refl; values = refl }
-window_refused W.Invalid q = record { number = refl; values = refl }
-window_refused W.NoSoundTree q = record { number = refl; values = refl }
+pub window_refused : (a : WindowFound) → ((matches visits : ℕ) → a ≡ W.Found matches visits → ⊥) → ((matches : ℕ) → a ≡ W.ShortList matches → ⊥) → Refused (window_reply a)
+window_refused (W.Found matches visits) p q = absurd (p matches visits refl)
+window_refused (W.ShortList matches) p q = absurd (q matches refl)
+window_refused W.WrongLength p q = record { number = refl; values = refl }
+window_refused W.Invalid p q = record { number = refl; values = refl }
+window_refused W.NoSoundTree p q = record { number = refl; values = refl }
 
-pub nearest_refused : (a : NearestFound) → OneOf (1 ∷ 2 ∷ 3 ∷ 4 ∷ []) (tag_of NearestFound'.the_type a) → Refused (nearest_reply a)
-nearest_refused (N.Found x y tag distance visits) q = absurd (miss (1 ∷ 2 ∷ 3 ∷ 4 ∷ []) 0 tt q)
+pub nearest_refused : (a : NearestFound) → ((x y tag distance visits : ℕ) → a ≡ N.Found x y tag distance visits → ⊥) → Refused (nearest_reply a)
+nearest_refused (N.Found x y tag distance visits) q = absurd (q x y tag distance visits refl)
 nearest_refused N.WrongLength q = record { number = refl; values = refl }
 nearest_refused N.Invalid q = record { number = refl; values = refl }
 nearest_refused N.NoSoundTree q = record { number = refl; values = refl }
 nearest_refused N.NothingHeld q = record { number = refl; values = refl }
 
-pub empty_refused : (a : EmptyFound) → OneOf (2 ∷ 3 ∷ 4 ∷ []) (tag_of EmptyFound'.the_type a) → Refused (empty_reply a)
-empty_refused (E.Empty visits) q = absurd (miss (2 ∷ 3 ∷ 4 ∷ []) 0 tt q)
-empty_refused (E.Occupied visits) q = absurd (miss (2 ∷ 3 ∷ 4 ∷ []) 1 tt q)
-empty_refused E.WrongLength q = record { number = refl; values = refl }
-empty_refused E.Invalid q = record { number = refl; values = refl }
-empty_refused E.NoSoundTree q = record { number = refl; values = refl }
+pub empty_refused : (a : EmptyFound) → ((visits : ℕ) → a ≡ E.Empty visits → ⊥) → ((visits : ℕ) → a ≡ E.Occupied visits → ⊥) → Refused (empty_reply a)
+empty_refused (E.Empty visits) p q = absurd (p visits refl)
+empty_refused (E.Occupied visits) p q = absurd (q visits refl)
+empty_refused E.WrongLength p q = record { number = refl; values = refl }
+empty_refused E.Invalid p q = record { number = refl; values = refl }
+empty_refused E.NoSoundTree p q = record { number = refl; values = refl }

@@ -1,7 +1,7 @@
 // What the calls answer. specs/Answers.antt defines which case it is, specs/Numbers.antt document 01's number and
 // values for each.
 
-#[derive(Drop)]
+#[derive(Clone, Copy)]
 pub enum Inserted {
     // the entries held after the call, and how many cells siblings removed
     Accepted { held: u32, removed: u64 },
@@ -15,7 +15,7 @@ pub enum Inserted {
     TooManyNodes,
 }
 
-#[derive(Drop)]
+#[derive(Clone, Copy)]
 pub enum Removed {
     // the entries held after the call
     Accepted(u32),
@@ -25,14 +25,14 @@ pub enum Removed {
     NotHeld,
 }
 
-#[derive(Drop)]
+#[derive(Clone, Copy)]
 pub enum Cleared {
     // the entries held after the call: none
     Accepted(u32),
     WrongLength,
 }
 
-#[derive(Drop)]
+#[derive(Clone, Copy)]
 pub enum PointFound {
     Held { tag: u32, visits: u32 },
     NotHeld { visits: u32 },
@@ -44,7 +44,7 @@ pub enum PointFound {
 // The numbers that an entry takes in the result list of a window query.
 pub const LIST_WIDTH: usize = 3;
 
-#[derive(Drop)]
+#[derive(Clone, Copy)]
 pub enum WindowFound {
     Found { matches: u32, visits: u32 },
     WrongLength,
@@ -54,7 +54,7 @@ pub enum WindowFound {
     ShortList { matches: u32 },
 }
 
-#[derive(Drop)]
+#[derive(Clone, Copy)]
 pub enum NearestFound {
     // the nearest entry, its squared distance, the nodes entered
     Found {
@@ -70,7 +70,7 @@ pub enum NearestFound {
     NothingHeld,
 }
 
-#[derive(Drop)]
+#[derive(Clone, Copy)]
 pub enum EmptyFound {
     // no entry is in the window; the nodes entered
     Empty { visits: u32 },

@@ -1,4 +1,6 @@
 // What the calls of the index answer.
+#![tactic(auto)]
+
 mod answer;
 mod reply;
 

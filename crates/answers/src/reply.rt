@@ -7,7 +7,7 @@ use crate::answer::{
 };
 
 // The number of the answer, 0 where the call accepts, and its values; 0 in the places behind them.
-#[derive(Drop)]
+#[derive(Clone, Copy)]
 pub struct Reply {
     pub number: u32,
     pub values: [u64; 7],

@@ -5,8 +5,6 @@ use mathlib.Core.Bool.{false}
 use mathlib.Core.List.{List, [], ◌∷◌, ◌++◌, append-nil, append_assoc, flat_map}
 use native.Mathlib.Numerals.{add-one}
 use native.Mathlib.Omega.{arith}
-use types.Run.{OneOf, miss}
-use denote.Enum.Declared.{tag_of}
 use lib.Dec.{eqb}
 use lib.ListN.{length, get_or}
 use Rattle.answers.specs.declared.answer.Inserted.{Inserted}
@@ -21,11 +19,6 @@ use Rattle.answers.specs.declared.answer.WindowFound.{WindowFound}
 use Rattle.answers.specs.declared.answer.WindowFound.TheVariants as W
 use Rattle.answers.specs.declared.reply.Reply.{Reply}
 use Rattle.answers.specs.Numbers.{with_seven, insert_reply, remove_reply, clear_reply, point_reply, window_reply}
-use Rattle.answers.specs.contracts.answer.Inserted as Inserted'
-use Rattle.answers.specs.contracts.answer.Removed as Removed'
-use Rattle.answers.specs.contracts.answer.Cleared as Cleared'
-use Rattle.answers.specs.contracts.answer.PointFound as PointFound'
-use Rattle.answers.specs.contracts.answer.WindowFound as WindowFound'
 use Rattle.answers.proofs.ReplyReturns.{seven_number, insert_refused, remove_refused, clear_refused, point_refused}
 use Rattle.commands.specs.Text.{digits_of, number_text, field_text, line_text, refusal_text, Appended}
 use Rattle.commands.specs.AnswerText.{held_text, found_text, insert_text, remove_text, clear_text, point_text, entries_text, listed, window_text, other_text}
@@ -57,9 +50,9 @@ record NotFound (r : WindowFound) : Type 0 where
   number : eqb (window_reply r).number 0 ≡ false
   unlisted : listed r ≡ 0
 
-not_found : (r : WindowFound) → OneOf (1 ∷ 2 ∷ 3 ∷ 4 ∷ []) (tag_of WindowFound'.the_type r) → NotFound r
+not_found : (r : WindowFound) → ((matches visits : ℕ) → r ≡ W.Found matches visits → ⊥) → NotFound r
 unfolding listed
-not_found (W.Found n v) q = absurd (miss (1 ∷ 2 ∷ 3 ∷ 4 ∷ []) 0 tt q)
+not_found (W.Found n v) q = absurd (q n v refl)
 not_found W.WrongLength q = record { number = refl; unlisted = refl }
 not_found W.Invalid q = record { number = refl; unlisted = refl }
 not_found W.NoSoundTree q = record { number = refl; unlisted = refl }
@@ -95,7 +88,7 @@ module _ (out : List ℕ) (at : ℕ) (out' : List ℕ) (next : ℕ) where
     unfolding insert_text held_text
     inserted_accepted held removed e v = rw e v
 
-    pub inserted_refused : (reply : Reply) → OneOf (1 ∷ 2 ∷ 3 ∷ 4 ∷ 5 ∷ 6 ∷ 7 ∷ []) (tag_of Inserted'.the_type r)
+    pub inserted_refused : (reply : Reply) → ((held removed : ℕ) → r ≡ I.Accepted held removed → ⊥)
         → reply ≡ with_seven (insert_reply r)
         → Appended 24 out at (refusal_text 73 reply.number) out' next → Appended 36 out at (insert_text r) out' next
     unfolding insert_text
@@ -110,7 +103,7 @@ module _ (out : List ℕ) (at : ℕ) (out' : List ℕ) (next : ℕ) where
     unfolding remove_text held_text
     removed_accepted n e v = rw e v
 
-    pub removed_refused : (reply : Reply) → OneOf (1 ∷ 2 ∷ 3 ∷ 4 ∷ []) (tag_of Removed'.the_type r)
+    pub removed_refused : (reply : Reply) → ((held : ℕ) → r ≡ R.Accepted held → ⊥)
         → reply ≡ with_seven (remove_reply r)
         → Appended 24 out at (refusal_text 82 reply.number) out' next → Appended 24 out at (remove_text r) out' next
     unfolding remove_text
@@ -123,7 +116,7 @@ module _ (out : List ℕ) (at : ℕ) (out' : List ℕ) (next : ℕ) where
     unfolding clear_text held_text
     cleared_accepted n e v = rw e v
 
-    pub cleared_refused : (reply : Reply) → OneOf (1 ∷ []) (tag_of Cleared'.the_type r)
+    pub cleared_refused : (reply : Reply) → ((held : ℕ) → r ≡ C.Accepted held → ⊥)
         → reply ≡ with_seven (clear_reply r)
         → Appended 24 out at (refusal_text 67 reply.number) out' next → Appended 24 out at (clear_text r) out' next
     unfolding clear_text
@@ -139,17 +132,17 @@ module _ (out : List ℕ) (at : ℕ) (out' : List ℕ) (next : ℕ) where
     unfolding point_text found_text
     point_not_held visits e v = rw e (append_wider out at 24 35 _ out' next (omega arith) v)
 
-    pub point_line_refused : (reply : Reply) → OneOf (2 ∷ 3 ∷ 4 ∷ []) (tag_of PointFound'.the_type r)
+    pub point_line_refused : (reply : Reply) → ((tag visits : ℕ) → r ≡ P.Held tag visits → ⊥) → ((visits : ℕ) → r ≡ P.NotHeld visits → ⊥)
         → reply ≡ with_seven (point_reply r)
         → Appended 24 out at (refusal_text 80 reply.number) out' next → Appended 35 out at (point_text r) out' next
     unfolding point_text
-    point_line_refused reply q e v =
+    point_line_refused reply p q e v =
         append_wider out at 24 35 _ out' next (omega arith)
-        (found_refused 80 (point_reply r) reply (point_refused r q).number e v)
+        (found_refused 80 (point_reply r) reply (point_refused r p q).number e v)
 
   -- the lines of a window query
   module _ (r : WindowFound) (list : List ℕ) where
-    pub window_refused : (reply : Reply) → OneOf (1 ∷ 2 ∷ 3 ∷ 4 ∷ []) (tag_of WindowFound'.the_type r)
+    pub window_refused : (reply : Reply) → ((matches visits : ℕ) → r ≡ W.Found matches visits → ⊥)
         → reply ≡ with_seven (window_reply r)
         → Appended 24 out at (refusal_text 83 reply.number) out' next
         → Appended (24 + 12 * length list) out at (window_text r list) out' next

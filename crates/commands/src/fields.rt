@@ -6,7 +6,7 @@ use crate::number::{Number, read_number};
 use crate::split::find_byte;
 
 // The numbers of the fields, the first `count` of `values`. No command has more than four.
-#[derive(Drop)]
+#[derive(Clone, Copy)]
 pub struct Fields {
     pub good: bool,
     pub count: usize,

@@ -1,4 +1,6 @@
 // The lines of the program `bench`: a command read from a line, an answer written as lines.
+#![tactic(auto)]
+
 mod answer_lines;
 mod fields;
 mod number;

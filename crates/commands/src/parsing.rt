@@ -5,7 +5,7 @@ ghost use Rattle.commands.specs.Commands.{command_for, command_of};
 use crate::fields::{Fields, read_fields};
 use crate::split::find_byte;
 
-#[derive(Drop)]
+#[derive(Clone, Copy)]
 pub enum Command {
     Insert {
         x: u32,

@@ -2,7 +2,7 @@
 use geometry::Cell;
 
 // 'an entry being a cell and a tag'
-#[derive(Drop)]
+#[derive(Clone, Copy)]
 pub struct Entry {
     pub cell: Cell,
     pub tag: u32,

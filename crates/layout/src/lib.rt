@@ -1,5 +1,7 @@
 // The layout of an index's memory: the one crate whose code knows where each number stands. All others deal in nodes
 // and part numbers.
+#![tactic(auto)]
+
 mod bits;
 mod copies;
 mod empty;

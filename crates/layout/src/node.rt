@@ -19,7 +19,7 @@ pub type Items = [u32; ITEM_NUMBERS];
 
 // How many entries or branches a node has, and their numbers. A node's polygon is the one its branch gives (document
 // 01): it is not part of the value, and is read where it stands.
-#[derive(Drop)]
+#[derive(Clone, Copy)]
 pub struct Node {
     pub count: u32,
     pub items: Items,

@@ -138,7 +138,11 @@ module _ (n : ℕ) (m : List ℕ) where
   apart_row b j lo hi [] bs q e = rw (row_none (read_node fanout n m) lo hi bs e)
   apart_row b j lo hi (k ∷ ks) bs q e =
       let r = row_parts (read_node fanout n m) lo hi k ks bs e in
-      rw (← r.whole, q, node_polygon n m lo k r.first r.head) (ap (λ t. apart (polygon_in (part m j)) (polygon_in (part m k)) && t) (rw q at (apart_row b j (k + 1) hi ks r.others q r.tail)))
+      let e : apart b.poly r.first.poly ≡ apart (polygon_in (part m j)) (polygon_in (part m k)) =
+      ap (λ x. apart x r.first.poly) q ∙ ap (apart (polygon_in (part m j))) (node_polygon n m lo k r.first r.head) in
+      rw (← r.whole)
+      (ap (λ t. t && all_pass (apart_test fanout (suc n) b) r.others) e
+      ∙ ap (λ t. apart (polygon_in (part m j)) (polygon_in (part m k)) && t) (apart_row b j (k + 1) hi ks r.others q r.tail))
 
   pairs_row : (lo hi : ℕ) (ks : List ℕ) (bs : List (Item index_space (suc n)))
       → read_row (read_node fanout n m) lo hi ks ≡ some bs → pairs_pass (apart_test fanout (suc n)) bs ≡ pairs_pass (parts_apart m) ks

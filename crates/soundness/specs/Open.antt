@@ -1,7 +1,6 @@
 -- What opening an index answers of its memory.
 use Rattle.std.specs.Prelude.{ℕ, List, ◌≡◌}
 use Rattle.std.proofs.Math.Option.{none, some}
-use Rattle.tree.specs.Tree.{Tree}
 use Rattle.plane.specs.Fanout.{fanout}
 use Rattle.memory.specs.Reading.{reading}
 use Rattle.memory.specs.TreeIn.{TreeIn}

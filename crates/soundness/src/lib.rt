@@ -1,4 +1,6 @@
 // Whether a memory reads as a sound tree: refusal 4.
+#![tactic(auto)]
+
 mod check;
 mod leaf;
 mod opening;

@@ -9,7 +9,7 @@ use layout::{
     all_zero, bits_set, head_rest_zero, others_zero, part_at, rect_count, root_part, tree_height,
 };
 
-#[derive(Drop)]
+#[derive(Clone, Copy)]
 pub enum Opened {
     // the memory reads as no sound tree
     NoSoundTree,

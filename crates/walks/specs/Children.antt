@@ -10,7 +10,7 @@ use Rattle.walks.specs.declared.child.ChildFound.TheVariants.{Child, NoChild}
 use Rattle.walks.specs.Walks.{has_test}
 
 -- The node at part k has children in lower parts, whose polygons can be read. A routing node has this (the law
--- children-of).
+-- children_of).
 pub record Children (m : List ℕ) (k : ℕ) : Type 0 where
   pub below : k < 256
   pub ends : PartIn m k

@@ -5,7 +5,7 @@ use crate::walk::polygon_has;
 use geometry::Cell;
 use layout::{children, part_at};
 
-#[derive(Drop)]
+#[derive(Clone, Copy)]
 pub enum ChildFound {
     // its place among the branches, the lower end of its subtree, its part
     Child { at: usize, low: u32, part: u32 },

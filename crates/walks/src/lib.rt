@@ -1,4 +1,6 @@
 // Walks in a memory that can be walked: children, polygons and entries of its nodes.
+#![tactic(auto)]
+
 mod child;
 mod count;
 mod walk;

@@ -1,0 +1,24 @@
+-- `reply::point_reply` meets its contract; the laws that it needs are in ReplyReturns.
+use Rattle.answers.specs.Numbers.{with_seven}
+use Rattle.answers.proofs.ReplyReturns.{point_case}
+use Rattle.answers.proofs.reply.point_reply.Goals as goal
+
+pub returns-in-Held : goal.returns-in-Held
+unfolding with_seven
+returns-in-Held c = search point_case
+
+pub returns-in-NotHeld : goal.returns-in-NotHeld
+unfolding with_seven
+returns-in-NotHeld c = search point_case
+
+pub returns-in-WrongLength : goal.returns-in-WrongLength
+unfolding with_seven
+returns-in-WrongLength c = search point_case
+
+pub returns-in-Invalid : goal.returns-in-Invalid
+unfolding with_seven
+returns-in-Invalid c = search point_case
+
+pub returns-in-NoSoundTree : goal.returns-in-NoSoundTree
+unfolding with_seven
+returns-in-NoSoundTree c = search point_case
