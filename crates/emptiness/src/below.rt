@@ -9,7 +9,7 @@ use layout::{child, node_at, part_at};
 use walks::polygon_meets;
 
 // How far the walk has come: whether it met an entry in the window, and the nodes that it entered.
-#[derive(Drop)]
+#[derive(Clone, Copy)]
 pub struct Walked {
     pub found: bool,
     pub visits: u32,

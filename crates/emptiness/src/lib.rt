@@ -1,4 +1,6 @@
 // The emptiness query: whether no entry is in a window, by a walk that stops at the first entry in it.
+#![tactic(auto)]
+
 mod below;
 mod leaf;
 mod query;

@@ -1,4 +1,6 @@
 // The nearest query: the entry nearest a cell, its squared distance, and the nodes that the walk enters.
+#![tactic(auto)]
+
 mod below;
 mod leaf;
 mod near;

@@ -11,7 +11,7 @@ use layout::Entry;
 
 // The nearest entry met so far, if any, its squared distance, and the nodes entered. Where none was met, the
 // other numbers are 0.
-#[derive(Drop)]
+#[derive(Clone, Copy)]
 pub struct Near {
     pub found: bool,
     pub distance: u64,

@@ -1,4 +1,6 @@
 // The point query and the window query, and whether a cell is held.
+#![tactic(auto)]
+
 mod holding;
 mod listing;
 mod point_query;

@@ -17,7 +17,7 @@ use walks::{ChildFound, child_with, is_of_cell, polygon_has};
 
 // What the walk of a point query found: whether an entry of the cell is held, its tag (0 where none is),
 // and the nodes visited.
-#[derive(Drop)]
+#[derive(Clone, Copy)]
 pub struct Found {
     pub held: bool,
     pub tag: u32,

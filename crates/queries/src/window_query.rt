@@ -16,7 +16,7 @@ use soundness::{Opened, open_known};
 use walks::{is_inside, polygon_meets};
 
 // How many entries match a window, and the nodes visited.
-#[derive(Drop)]
+#[derive(Clone, Copy)]
 pub struct Matched {
     pub matches: u32,
     pub visits: u32,

@@ -1,5 +1,7 @@
 // Clearing, and removal from the index, in place: along one path from the root to a leaf, and back up while nodes are
 // emptied.
+#![tactic(auto)]
+
 mod below;
 mod clearing;
 mod place;
