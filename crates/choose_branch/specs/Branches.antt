@@ -8,7 +8,7 @@ use Rattle.layout.specs.Nodes.{count_at, child_at, GoodPolygonPart}
 unfoldable pub polygons_in : List ℕ → ℕ → List (List Rect)
 polygons_in m k = map (λ j. polygon_in (part m j)) (children_in (part m k))
 
--- Part k has children, and each has a good polygon. A routing node has this (the law branches-of).
+-- Part k has children, and each has a good polygon. A routing node has this (the law branches_of).
 pub record Branches (m : List ℕ) (k : ℕ) : Type 0 where
   pub below : k < parts_of m
   pub some : 1 ≤ count_at m k

@@ -31,7 +31,7 @@ least_from c i best [] = best
 least_from c i best (q ∷ ps) = least_from c (i + 1) (least_of c i best q) ps
 
 -- The scan starts from a number that the least extra area does not exceed: t, or the least extra area of the
--- rectangles where each is taken as a polygon of one (law extra-alone: in its polygon none has more).
+-- rectangles where each is taken as a polygon of one (law extra_alone: in its polygon none has more).
 unfoldable pub alone_in : Cell → ℕ → List Rect → ℕ
 alone_in c t [] = t
 alone_in c t (r ∷ l) = alone_in c (min t (extra_area (r ∷ []) r c)) l

@@ -16,7 +16,7 @@ use geometry::{Cell, Count, Polygon, WORK_NUMBERS};
 use layout::{child_at, count_at};
 
 // The branch at a place of the node's row, or refusal 7.
-#[derive(Drop)]
+#[derive(Clone, Copy)]
 pub enum Taken {
     Branch(usize),
     Over,
@@ -24,7 +24,7 @@ pub enum Taken {
 
 // The branch that insertion goes to, its polygon from now on, and how many cells siblings removed. Over: the polygon
 // and the number mean nothing.
-#[derive(Drop)]
+#[derive(Clone, Copy)]
 pub struct Choice {
     pub taken: Taken,
     pub polygon: Polygon,

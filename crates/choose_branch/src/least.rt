@@ -13,7 +13,7 @@ use geometry::Cell;
 use layout::{child, node_at, part_at, rect_count, rects};
 
 // The rectangle of least extra area so far, by its branch and its place in the branch's polygon.
-#[derive(Drop)]
+#[derive(Clone, Copy)]
 pub struct Least {
     pub branch: usize,
     pub rect: usize,

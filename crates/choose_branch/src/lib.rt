@@ -1,4 +1,6 @@
 // Step 2 of an insertion on memory: the branch of a routing node that it goes to, and that branch's polygon.
+#![tactic(auto)]
+
 mod alone;
 mod branch;
 mod choosing;

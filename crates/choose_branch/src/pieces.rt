@@ -19,7 +19,7 @@ use layout::{child_at, part_at, rects};
 
 // A list that was written, or refusal 7, and how many cells siblings removed from the grown rectangle. Over: the
 // number means nothing.
-#[derive(Drop)]
+#[derive(Clone, Copy)]
 pub struct Grown {
     pub count: Count,
     pub removed: u64,

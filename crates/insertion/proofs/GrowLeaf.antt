@@ -94,7 +94,7 @@ module _ (path m : List ℕ) (e : CellEntry) (g : Growing 0 path m) where
   few_entries = let c = entries_count in let h = g.leaf in omega arith
 
   numbers_fit : length (flat_map entry_numbers es) ≤ 62
-  numbers_fit = let l = image.length-entries es in let f = few_entries in omega arith
+  numbers_fit = let l = image.length_entries es in let f = few_entries in omega arith
 
   put : ImagePut m k p (length es) (flat_map entry_numbers es) leaf'
   put =
@@ -105,11 +105,11 @@ module _ (path m : List ℕ) (e : CellEntry) (g : Growing 0 path m) where
   leaf_reads lo =
       let f = few_entries in
       make_leaf fanout leaf' lo k (record { poly = p; child = es }) (record {
-        fits = put.fits 3 (image.length-entries es);
+        fits = put.fits 3 (image.length_entries es);
         polygon = put.polygon;
         entries = sym (ap (λ (q : List ℕ). entries_in q (item_count q)) put.part_is
             ∙ ap (entries_in (node_part p (length es) (flat_map entry_numbers es))) (image.part_count p (length es) (flat_map entry_numbers es))
-            ∙ image.part-entries p (length es) es few_rects (omega arith));
+            ∙ image.part_entries p (length es) es few_rects (omega arith));
       })
 
   leaf_grown_lem : Grown 0 path m e leaf'

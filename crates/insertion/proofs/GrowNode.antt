@@ -200,7 +200,7 @@ module _ (n : ℕ) (path m : List ℕ) (e : CellEntry) (g : Growing (suc n) path
         change_node fanout m node' (own_parts ∙ same_parts) n lo k i b reads in_row parts_kept uses_kept
         (put.fits 1 (omega arith))
         p put.polygon
-        (grown_node n path m e) (ap children_in put.part_is ∙ image.part-children p (length ks) ks few_rects numbers_fit refl) child_read
+        (grown_node n path m e) (ap children_in put.part_is ∙ image.part_children p (length ks) ks few_rects numbers_fit refl) child_read
         ∙ ap (λ (l : List (Item index_space (suc n))). some (record { poly = p; child = set l i (grown_node n path m e) })) (sym (row_is lo b reads))
 
     node_beside : Beside m lo k node'

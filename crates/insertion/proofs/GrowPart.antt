@@ -9,7 +9,7 @@ use Rattle.geometry.specs.declared.rect.Rect.{Rect}
 use Rattle.plane.specs.Fanout.{fanout}
 use Rattle.memory.specs.Layout.{parts_of, part, in_use, bits_set, polygon_in, node_fits, others_zero}
 use Rattle.memory.specs.Image.{node_part}
-use Rattle.memory.proofs.NodeImage.{node_fits}
+use Rattle.memory.proofs.NodeImage.{node_fits_lem}
 use Rattle.memory.proofs.PartImage as image
 use Rattle.layout.specs.Beside.{Beside}
 use Rattle.layout.specs.PartSet.{set_part, UsedPart}
@@ -39,9 +39,9 @@ image_put m k u few others p c items some_rects few_rects some_items few_items f
     let same = set_part_lem m k q ends size in
     record {
       part_is = same;
-      polygon = sym (ap polygon_in same ∙ image.part-polygon p c items few_rects fit);
+      polygon = sym (ap polygon_in same ∙ image.part_polygon p c items few_rects fit);
       fits =
-          λ w e. node_fits fanout w (set_part m k q) k p c items (record { there = omega arith; used = set_in_use m k q ends size k u.below ∙ u.used; same = same }) some_rects few_rects some_items few_items fit e;
+          λ w e. node_fits_lem fanout w (set_part m k q) k p c items (record { there = omega arith; used = set_in_use m k q ends size k u.below ∙ u.used; same = same }) some_rects few_rects some_items few_items fit e;
       bits = set_bits m k q ends size;
       in_use = λ j h. set_in_use m k q ends size j h;
       unused = set_unused m k u few others q size;

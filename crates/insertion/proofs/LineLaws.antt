@@ -3,7 +3,6 @@ use Prim.Native.Nat.{ℕ, suc, ◌-◌, ◌<◌}
 use mathlib.Core.Bool.{true}
 use mathlib.Core.Path.{◌≡◌, refl, sym, ap, ◌∙◌, subst}
 use mathlib.Core.List.{List, [], ◌∷◌, ◌++◌, map, flat_map}
-use mathlib.Core.Option.{some}
 use native.Mathlib.Omega.{arith}
 use Rattle.geometry.specs.declared.rect.Cell.{Cell}
 use Rattle.geometry.specs.Cells.{on_grid}
@@ -101,7 +100,7 @@ module _ (n level : ℕ) (path m : List ℕ) (c : Cell) (f : Full (suc n) level 
       unmap l h = map_all (λ g. All (λ i. on_grid i.cell ≡ true) g) (held index_space (suc n)) l h
 
   under_grid : OnGrid (entries_at (suc n) m 0 at)
-  unfolding entries_at count.entriesOf held
+  unfolding entries_at count.entries_of held
   under_grid = rw here.reads held_grid
 
   place_in : place_on path (suc n) < count_at m at

@@ -10,7 +10,6 @@ use native.Mathlib.Omega.{arith}
 use borrow.Author.Tests.{leb-false}
 use Rattle.geometry.specs.declared.rect.Line.{Line}
 use Rattle.geometry.specs.Cells.{on_grid}
-use Rattle.geometry.specs.Clip.{below}
 use Rattle.tree.specs.Lists.{All, keep, Bag}
 use Rattle.tree.specs.Space.{left, right}
 use Rattle.tree.specs.Nodes.{Item, entry_on, held}

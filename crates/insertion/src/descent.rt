@@ -11,7 +11,7 @@ use path::{part_on, polygon_on, put_node_on, put_place_on};
 
 // Whether the leaf was reached, and how many cells siblings removed on the way. Not reached, where step 2 refuses: the
 // number means nothing.
-#[derive(Drop)]
+#[derive(Clone, Copy)]
 pub struct Descent {
     pub reached: bool,
     pub removed: u64,

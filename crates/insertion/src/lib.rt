@@ -1,4 +1,6 @@
 // Insertion: steps 1 to 4 of document 01.
+#![tactic(auto)]
+
 mod building;
 mod descent;
 mod first;

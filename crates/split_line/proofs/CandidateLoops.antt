@@ -185,7 +185,11 @@ candidates_more es r v =
     let w = valid_of r v in
     let a : r.urx - 1 + 1 ≡ r.urx = omega arith in
     let b : r.ury - 1 + 1 ≡ r.ury = omega arith in
-    flat_map_append _ es (rect_extent r ∷ []) ∙ ap (λ k. candidates es ++ k) (λ i. AtX (r.llx + 1) ∷ AtX (a i) ∷ AtY (r.lly + 1) ∷ AtY (b i) ∷ [])
+    flat_map_append
+    (λ (e : Extent). AtX (e.min_x + 1) ∷ AtX (e.max_x + 1) ∷ AtY (e.min_y + 1) ∷ AtY (e.max_y + 1) ∷ [])
+    es
+    (rect_extent r ∷ [])
+    ∙ ap (λ k. candidates es ++ k) (λ i. AtX (r.llx + 1) ∷ AtX (a i) ∷ AtY (r.lly + 1) ∷ AtY (b i) ∷ [])
 
 least_append : (es : List Extent) (k : ℕ) (a b : List Line) → least_key fanout es k (a ++ b) ≡ least_key fanout es (least_key fanout es k a) b
 unfolding least_key

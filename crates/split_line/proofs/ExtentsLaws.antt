@@ -15,7 +15,7 @@ use Rattle.tree.specs.Nodes.{on, entry_on}
 use Rattle.tree.specs.Pass.{on_all}
 use Rattle.tree.proofs.Lists.{all_map, keep_append}
 use Rattle.plane.specs.Best.{greatest}
-use Rattle.plane.specs.Lines.{CellEntry, xOf, yOf, Payload, some_payload, entry_of, OnGrid}
+use Rattle.plane.specs.Lines.{CellEntry, x_of, y_of, Payload, some_payload, entry_of, OnGrid}
 use Rattle.plane.specs.Candidates.{extent_of, extents}
 use Rattle.plane.specs.Fanout.{index_space}
 use Rattle.plane.proofs.Kept.{keep_all}
@@ -44,19 +44,19 @@ greatest_most f k (a ∷ b ∷ es) h = let i = greatest_most f k (b ∷ es) h.1 
 pub extent_valid : (es : List CellEntry) → OnGrid es → valid (extent_rect_of es) ≡ true
 unfolding extent_rect_of extent_rect extent_of
 extent_valid es g =
-    let a = least_greatest xOf es in
-    let b = least_greatest yOf es in
-    let c = greatest_most xOf 65535 es (all_map _ _ es (λ e h. (grid_of e.cell h).x_most) g) in
-    let d = greatest_most yOf 65535 es (all_map _ _ es (λ e h. (grid_of e.cell h).y_most) g) in
+    let a = least_greatest x_of es in
+    let b = least_greatest y_of es in
+    let c = greatest_most x_of 65535 es (all_map _ _ es (λ e h. (grid_of e.cell h).x_most) g) in
+    let d = greatest_most y_of 65535 es (all_map _ _ es (λ e h. (grid_of e.cell h).y_most) g) in
     of_valid _ (record { wide = omega arith; high = omega arith; x_most = omega arith; y_most = omega arith })
 
 -- and have their extent
 extent_rect_lem : (es : List CellEntry) → extent_of es ≡ rect_extent (extent_rect_of es)
 unfolding rect_extent extent_rect_of extent_rect extent_of
 extent_rect_lem es =
-    let a : greatest xOf es ≡ greatest xOf es + 1 - 1 = omega arith in
-    let b : greatest yOf es ≡ greatest yOf es + 1 - 1 = omega arith in
-    λ i. record { min_x = least xOf es; max_x = a i; min_y = least yOf es; max_y = b i }
+    let a : greatest x_of es ≡ greatest x_of es + 1 - 1 = omega arith in
+    let b : greatest y_of es ≡ greatest y_of es + 1 - 1 = omega arith in
+    λ i. record { min_x = least x_of es; max_x = a i; min_y = least y_of es; max_y = b i }
 
 pub extent_rects : (gs : List (List CellEntry)) → extents gs ≡ map rect_extent (map extent_rect_of gs)
 extent_rects [] = refl

@@ -17,7 +17,7 @@ use Rattle.geometry.proofs.CellLaws.{grid_of}
 use Rattle.tree.specs.Lists.{All, total}
 use Rattle.tree.proofs.Lists.{all_append, all_first, all_second, all_head}
 use Rattle.tree.proofs.Counts.{total_append}
-use Rattle.plane.specs.Lines.{CellEntry, xOf, yOf, spread, mean_line, leaf_line, Payload, some_payload, entry_of, OnGrid}
+use Rattle.plane.specs.Lines.{CellEntry, x_of, y_of, spread, mean_line, leaf_line, Payload, some_payload, entry_of, OnGrid}
 use Rattle.plane.specs.Fanout.{fanout}
 use Rattle.plane.proofs.Bounds.{x_bounds, y_bounds}
 use Rattle.plane.proofs.LeafLine.{leaf_range}
@@ -40,7 +40,7 @@ total_more v es e = let a = total_append v es (e ∷ []) in omega arith
 -- the sums of entries with one more
 sums_more : (es : List CellEntry) (e : CellEntry) → added_sums (sums_of es) e.cell ≡ sums_of (es ++ (e ∷ []))
 unfolding added_sums sums_of
-sums_more es e = rw (total_more xOf es e, total_more (λ e. xOf e * xOf e) es e, total_more yOf es e, total_more (λ e. yOf e * yOf e) es e)
+sums_more es e = rw (total_more x_of es e, total_more (λ e. x_of e * x_of e) es e, total_more y_of es e, total_more (λ e. y_of e * y_of e) es e)
 
 -- the sums of at most nine entries on the grid, with one cell more
 square : (a : ℕ) → a ≤ 65535 → a * a ≤ 4294836225
@@ -161,20 +161,20 @@ module _ (es : List CellEntry) (f : FullLeaf es) where
   at_x : length es * (sums_of es).yy - (sums_of es).y * (sums_of es).y ≤ length es * (sums_of es).xx - (sums_of es).x * (sums_of es).x → LineIs ((sums_of es).x / length es + 1) (leaf_line es)
   unfolding sums_of leaf_line
   at_x g =
-      let e : leaf_line es ≡ AtX (mean_line xOf es) = rw (le-leb (spread yOf es) (spread xOf es) g) in
-      let r : InRange (AtX (mean_line xOf es)) = subst InRange e in_range in
+      let e : leaf_line es ≡ AtX (mean_line x_of es) = rw (le-leb (spread y_of es) (spread x_of es) g) in
+      let r : InRange (AtX (mean_line x_of es)) = subst InRange e in_range in
       let a = r.0 in
       let b = r.1 in
-      record { is = sym (line_x (mean_line xOf es) (omega arith)) ∙ sym e; some = a; small = omega arith }
+      record { is = sym (line_x (mean_line x_of es) (omega arith)) ∙ sym e; some = a; small = omega arith }
 
   at_y : length es * (sums_of es).xx - (sums_of es).x * (sums_of es).x < length es * (sums_of es).yy - (sums_of es).y * (sums_of es).y → LineIs (65536 + (sums_of es).y / length es + 1) (leaf_line es)
   unfolding sums_of leaf_line
   at_y g =
-      let e : leaf_line es ≡ AtY (mean_line yOf es) = rw (lt-leb (spread yOf es) (spread xOf es) g) in
-      let r : InRange (AtY (mean_line yOf es)) = subst InRange e in_range in
+      let e : leaf_line es ≡ AtY (mean_line y_of es) = rw (lt-leb (spread y_of es) (spread x_of es) g) in
+      let r : InRange (AtY (mean_line y_of es)) = subst InRange e in_range in
       let b = r.1 in
-      let d : 65536 + total yOf es / length es + 1 - 65536 ≡ mean_line yOf es = omega arith in
-      record { is = sym (line_y (65536 + total yOf es / length es + 1) (omega arith)) ∙ ap AtY d ∙ sym e; some = omega arith; small = omega arith }
+      let d : 65536 + total y_of es / length es + 1 - 65536 ≡ mean_line y_of es = omega arith in
+      record { is = sym (line_y (65536 + total y_of es / length es + 1) (omega arith)) ∙ ap AtY d ∙ sym e; some = omega arith; small = omega arith }
 
 -- the entries of a leaf with the new one
 abbrev with_new : List ℕ → Cell → Payload → List CellEntry

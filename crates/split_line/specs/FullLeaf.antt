@@ -4,7 +4,7 @@ use Rattle.geometry.specs.declared.rect.Cell.{Cell}
 use Rattle.geometry.specs.Cells.{on_grid}
 use Rattle.tree.specs.Lists.{Pairs, total}
 use Rattle.tree.specs.Sound.{Apart}
-use Rattle.plane.specs.Lines.{CellEntry, xOf, yOf, leaf_line, Payload, entry_of, OnGrid}
+use Rattle.plane.specs.Lines.{CellEntry, x_of, y_of, leaf_line, Payload, entry_of, OnGrid}
 use Rattle.plane.specs.Fanout.{fanout, index_space}
 use Rattle.memory.specs.Layout.{item_count, entries_in}
 use Rattle.layout.specs.Nodes.{NodePart}
@@ -44,10 +44,10 @@ pub record SmallSums (s : Sums) (c : Cell) : Type 0 where
 -- Σv and Σv² of both dimensions
 unfoldable pub sums_of : List CellEntry → Sums
 sums_of es = record {
-  x = total xOf es;
-  xx = total (λ e. xOf e * xOf e) es;
-  y = total yOf es;
-  yy = total (λ e. yOf e * yOf e) es;
+  x = total x_of es;
+  xx = total (λ e. x_of e * x_of e) es;
+  y = total y_of es;
+  yy = total (λ e. y_of e * y_of e) es;
 }
 
 -- the sums with one more cell

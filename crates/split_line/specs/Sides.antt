@@ -21,7 +21,7 @@ sides_of (s ∷ ss) = side_of s ∷ sides_of ss
 unfoldable pub on_side : ℕ → Cell → Bool
 on_side s c = on index_space (side_of s) c
 
--- whether the cell is on every side of some numbers; the tag of an entry does not matter (the law entry-on)
+-- whether the cell is on every side of some numbers; the tag of an entry does not matter (the law entry_on_lem)
 unfoldable pub on_every : List ℕ → Cell → Bool
 on_every ss c = on_all index_space (sides_of ss) (record { cell = c; tag = 0 })
 

@@ -15,7 +15,7 @@ use layout::FANOUT;
 const LINES: u32 = 131072;
 
 // How many branches hold entries left of a line, right of it, and on both sides.
-#[derive(Drop)]
+#[derive(Clone, Copy)]
 struct Counts {
     lefts: u32,
     rights: u32,

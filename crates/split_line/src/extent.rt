@@ -10,7 +10,7 @@ use geometry::{Cell, Rect};
 use layout::{Node, cell, child, node_at, part_at};
 
 // Whether there are entries, and the smallest rectangle with their cells.
-#[derive(Drop)]
+#[derive(Clone, Copy)]
 pub struct GroupExtent {
     pub any: bool,
     pub rect: Rect,

@@ -7,7 +7,7 @@ use geometry::Cell;
 use layout::{Node, cell, item_count};
 
 // The sums of coordinates and of their squares.
-#[derive(Drop)]
+#[derive(Clone, Copy)]
 struct Sums {
     x: u64,
     xx: u64,

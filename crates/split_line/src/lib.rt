@@ -1,4 +1,6 @@
 // The line at which a node is split: document 01, 'Insertion', step 4, 'The line'. A line is given by its number.
+#![tactic(auto)]
+
 mod candidates;
 mod extent;
 mod leaf;

@@ -1,5 +1,7 @@
 // The tree after an insertion, written into the work area: a part for each node, children before their node,
 // append-only.
+#![tactic(auto)]
+
 mod counting;
 mod leaf;
 mod node;

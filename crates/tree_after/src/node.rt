@@ -36,7 +36,7 @@ pub fn write_node(p: Polygon, node: Node, sides: &[u32], work: &mut [u32], next:
 }
 
 // The next free part, and a node whose children are the branches that were written.
-#[derive(Drop)]
+#[derive(Clone, Copy)]
 pub struct Branches {
     pub next: u32,
     pub node: Node,

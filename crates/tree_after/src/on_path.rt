@@ -126,7 +126,7 @@ pub fn write_half(
 }
 
 // How many parts were written, the last of which is the root's, and the height of the tree.
-#[derive(Drop)]
+#[derive(Clone, Copy)]
 pub struct Written {
     pub parts: u32,
     pub height: u32,
