@@ -37,10 +37,10 @@ abbrev pub is_empty : Rect → PlaneIndex → Bool
 is_empty w i = tree.is_empty index_space index_window w i
 
 abbrev pub empty_visits : Rect → PlaneIndex → ℕ
-empty_visits w i = tree.emptyVisits index_space index_window w i
+empty_visits w i = tree.empty_visits index_space index_window w i
 
 abbrev window_visits : Rect → PlaneIndex → ℕ
-window_visits w i = query.windowVisits index_space index_window w i
+window_visits w i = query.window_visits index_space index_window w i
 
 module _ (m : List ℕ) (w : Rect) (i : PlaneIndex) (e : reading fanout m ≡ some i) where
   -- the yes exactly where the index has no match

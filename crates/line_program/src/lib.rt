@@ -1,4 +1,6 @@
 // A session of the program `bench`: lines answered by calls of the index.
+#![tactic(auto)]
+
 mod opening;
 mod response;
 mod stream;

@@ -7,7 +7,7 @@ use crate::opening::is_index;
 use crate::response::respond;
 use commands::find_byte;
 
-#[derive(Drop)]
+#[derive(Clone, Copy)]
 pub struct Progress {
     // where the first line that is not answered starts
     pub next: usize,

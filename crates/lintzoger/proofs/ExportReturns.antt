@@ -1,10 +1,8 @@
 -- The forms for C: the number and the values of each answer.
 use Prim.Native.Nat.{ℕ}
-use mathlib.Core.List.{List, [], ◌∷◌}
+use mathlib.Core.List.{List}
 use mathlib.Core.Path.{◌≡◌, ap, ◌∙◌, subst}
 use lib.ListN.{length}
-use types.Run.{OneOf}
-use denote.Enum.Declared.{tag_of}
 use Rattle.geometry.specs.declared.rect.Cell.{Cell}
 use Rattle.geometry.specs.declared.rect.Rect.{Rect}
 use Rattle.plane.specs.Lines.{CellEntry}
@@ -26,13 +24,6 @@ use Rattle.answers.specs.declared.reply.Reply.{Reply}
 use Rattle.answers.specs.Numbers.{with_seven, insert_reply, remove_reply, clear_reply, point_reply, window_reply, nearest_reply, empty_reply}
 use Rattle.answers.specs.Changes.{InsertMemory, work_after, InsertCall, RemoveMemory, RemoveCall}
 use Rattle.answers.specs.Answers.{clear_answer, cleared, point_answer, window_answer, window_list, nearest_answer, empty_answer}
-use Rattle.answers.specs.contracts.answer.Inserted as Inserted'
-use Rattle.answers.specs.contracts.answer.Removed as Removed'
-use Rattle.answers.specs.contracts.answer.Cleared as Cleared'
-use Rattle.answers.specs.contracts.answer.PointFound as PointFound'
-use Rattle.answers.specs.contracts.answer.WindowFound as WindowFound'
-use Rattle.answers.specs.contracts.answer.NearestFound as NearestFound'
-use Rattle.answers.specs.contracts.answer.EmptyFound as EmptyFound'
 use Rattle.answers.proofs.ReplyReturns.{seven_number, insert_refused, remove_refused, clear_refused, point_refused, window_refused, nearest_refused, empty_refused}
 use Rattle.lintzoger.specs.Exports.{stored, InsertExported, RemoveExported, ClearExported, PointExported, WindowExported, NearestExported, EmptyExported}
 
@@ -53,7 +44,7 @@ module _ (m w : List ℕ) (e : CellEntry) (held removed : ℕ) (m' w' : List ℕ
   pub insert_accepted : (n r : ℕ) → a ≡ I.Accepted n r → InsertExported m w e held removed 0 m' w' n r
   insert_accepted n r f = insert_reply_lem 0 n r (rw f) (rw f) (rw f)
 
-  pub insert_refusal : (reply : Reply) → OneOf (1 ∷ 2 ∷ 3 ∷ 4 ∷ 5 ∷ 6 ∷ 7 ∷ []) (tag_of Inserted'.the_type a)
+  pub insert_refusal : (reply : Reply) → ((held removed : ℕ) → a ≡ I.Accepted held removed → ⊥)
       → reply ≡ with_seven (insert_reply a) → InsertExported m w e held removed reply.number m' w' held removed
   insert_refusal reply q f =
       let z = (insert_refused a q).values in
@@ -71,7 +62,7 @@ module _ (m : List ℕ) (c : Cell) (held : ℕ) (m' : List ℕ) (a : Removed) (z
   pub remove_accepted : (n : ℕ) → a ≡ R.Accepted n → RemoveExported m c held 0 m' n
   remove_accepted n f = remove_reply_lem 0 n (rw f) (rw f)
 
-  pub remove_refusal : (reply : Reply) → OneOf (1 ∷ 2 ∷ 3 ∷ 4 ∷ []) (tag_of Removed'.the_type a)
+  pub remove_refusal : (reply : Reply) → ((held : ℕ) → a ≡ R.Accepted held → ⊥)
       → reply ≡ with_seven (remove_reply a) → RemoveExported m c held reply.number m' held
   remove_refusal reply q f =
       let z = (remove_refused a q).values in
@@ -81,7 +72,7 @@ module _ (m : List ℕ) (held : ℕ) (m' : List ℕ) (a : Cleared) (e : a ≡ cl
   pub clear_accepted : (n : ℕ) → a ≡ C.Accepted n → ClearExported m held 0 m' n
   clear_accepted n f = record { number = rw (← e, f); memory = g; held_is = rw (← e, f) }
 
-  pub clear_refusal : (reply : Reply) → OneOf (1 ∷ []) (tag_of Cleared'.the_type a)
+  pub clear_refusal : (reply : Reply) → ((held : ℕ) → a ≡ C.Accepted held → ⊥)
       → reply ≡ with_seven (clear_reply a) → ClearExported m held reply.number m' held
   clear_refusal reply q f =
       let z = (clear_refused a q).values in
@@ -94,10 +85,10 @@ module _ (m : List ℕ) (c : Cell) (held visits tag : ℕ) (a : PointFound) (e :
   pub point_not_held : (v : ℕ) → a ≡ P.NotHeld v → PointExported m c held visits tag 0 0 v tag
   point_not_held v f = record { number = rw (← e, f); held_is = rw (← e, f); visits_is = rw (← e, f); tag_is = rw (← e, f) }
 
-  pub point_refusal : (reply : Reply) → OneOf (2 ∷ 3 ∷ 4 ∷ []) (tag_of PointFound'.the_type a)
+  pub point_refusal : (reply : Reply) → ((tag visits : ℕ) → a ≡ P.Held tag visits → ⊥) → ((visits : ℕ) → a ≡ P.NotHeld visits → ⊥)
       → reply ≡ with_seven (point_reply a) → PointExported m c held visits tag reply.number held visits tag
-  point_refusal reply q f =
-      let z = (point_refused a q).values in
+  point_refusal reply p q f =
+      let z = (point_refused a p q).values in
       record {
         number = rw (← e) (seven_number reply (point_reply a) f);
         held_is = rw (← e, z);
@@ -118,11 +109,11 @@ module _ (m : List ℕ) (w : Rect) (list : List ℕ) (matches visits : ℕ) (lis
     visits_is = rw (← e, f);
   }
 
-  pub window_refusal : (reply : Reply) → OneOf (1 ∷ 2 ∷ 3 ∷ []) (tag_of WindowFound'.the_type a)
+  pub window_refusal : (reply : Reply) → ((matches visits : ℕ) → a ≡ W.Found matches visits → ⊥) → ((matches : ℕ) → a ≡ W.ShortList matches → ⊥)
       → reply ≡ with_seven (window_reply a)
       → WindowExported m w list matches visits reply.number list' matches visits
-  window_refusal reply q f =
-      let z = (window_refused a q).values in
+  window_refusal reply p q f =
+      let z = (window_refused a p q).values in
       record {
         number = rw (← e) (seven_number reply (window_reply a) f);
         list_is = g;
@@ -141,7 +132,7 @@ module _ (m : List ℕ) (c : Cell) (x y tag distance visits : ℕ) (a : NearestF
     visits_is = rw (← e, f);
   }
 
-  pub nearest_refusal : (reply : Reply) → OneOf (1 ∷ 2 ∷ 3 ∷ 4 ∷ []) (tag_of NearestFound'.the_type a)
+  pub nearest_refusal : (reply : Reply) → ((x y tag distance visits : ℕ) → a ≡ Near.Found x y tag distance visits → ⊥)
       → reply ≡ with_seven (nearest_reply a)
       → NearestExported m c x y tag distance visits reply.number x y tag distance visits
   nearest_refusal reply q f =
@@ -162,10 +153,10 @@ module _ (m : List ℕ) (w : Rect) (empty visits : ℕ) (a : EmptyFound) (e : a 
   pub empty_no : (v : ℕ) → a ≡ Empty.Occupied v → EmptyExported m w empty visits 0 0 v
   empty_no v f = record { number = rw (← e, f); empty_is = rw (← e, f); visits_is = rw (← e, f) }
 
-  pub empty_refusal : (reply : Reply) → OneOf (2 ∷ 3 ∷ 4 ∷ []) (tag_of EmptyFound'.the_type a)
+  pub empty_refusal : (reply : Reply) → ((visits : ℕ) → a ≡ Empty.Empty visits → ⊥) → ((visits : ℕ) → a ≡ Empty.Occupied visits → ⊥)
       → reply ≡ with_seven (empty_reply a) → EmptyExported m w empty visits reply.number empty visits
-  empty_refusal reply q f =
-      let z = (empty_refused a q).values in
+  empty_refusal reply p q f =
+      let z = (empty_refused a p q).values in
       record {
         number = rw (← e) (seven_number reply (empty_reply a) f);
         empty_is = rw (← e, z);

@@ -2,7 +2,7 @@
 ghost use Rattle.std.specs.Prelude.{◌≡◌, ◌+◌, ◌*◌, ◌≤◌, length};
 ghost use Rattle.replay.specs.Coded.{coded_at, call_fits};
 
-#[derive(Drop)]
+#[derive(Clone, Copy)]
 pub struct CodedCall {
     // 0 insertion, 1 removal, 2 clear, 3 point query, 4 window query, 5 nearest query, 6 emptiness query
     pub kind: u32,

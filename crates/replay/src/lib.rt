@@ -1,4 +1,6 @@
 // A function that makes the calls of a list: demand 3 as a function's own promise.
+#![tactic(auto)]
+
 mod calling;
 mod coded;
 mod replaying;
