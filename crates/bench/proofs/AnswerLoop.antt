@@ -25,7 +25,7 @@ pub record AllAnswered (input m₀ work₀ list₀ out₀ m work list out : List
   pub read : (more : List ℕ) → commands_of (input ++ more) ≡ served.commands ++ commands_of (drop from input ++ more)
 
 module _ (input m₀ work₀ list₀ out₀ : List ℕ) where
-  pub all_start : length list₀ ≤ 65536 → 64 + 12 * length list₀ ≤ length out₀ → AllAnswered input m₀ work₀ list₀ out₀ m₀ work₀ list₀ out₀ 0
+  abbrev pub all_start : length list₀ ≤ 65536 → 64 + 12 * length list₀ ≤ length out₀ → AllAnswered input m₀ work₀ list₀ out₀ m₀ work₀ list₀ out₀ 0
   all_start h g = record {
     within = omega arith;
     few = h;
@@ -40,13 +40,13 @@ module _ (input m₀ work₀ list₀ out₀ : List ℕ) where
 
   module _ (m work list out : List ℕ) (from : ℕ) (v : AllAnswered input m₀ work₀ list₀ out₀ m work list out from) where
     module _ (m' work' list' out' : List ℕ) (r : Progress) (d : LinesAnswered input from (lent m work list) (lent m' work' list') out' r) where
-      abbrev on : Served (lent m₀ work₀ list₀) (lent m' work' list')
+      abbrev pub on : Served (lent m₀ work₀ list₀) (lent m' work' list')
       on = lines_served m₀ work₀ list₀ m work list m' work' list' v.served input out' from r d
 
-      read_on : (more : List ℕ) → commands_of (input ++ more) ≡ (v.served.commands ++ d.commands) ++ commands_of (drop r.next input ++ more)
+      pub read_on : (more : List ℕ) → commands_of (input ++ more) ≡ (v.served.commands ++ d.commands) ++ commands_of (drop r.next input ++ more)
       read_on more = v.read more ∙ ap (λ cs. v.served.commands ++ cs) (d.read more) ∙ sym (append_assoc v.served.commands d.commands _)
 
-      pub all_again : length m' ≡ length m → length work' ≡ length work → length list' ≡ length list → length out' ≡ length out
+      abbrev pub all_again : length m' ≡ length m → length work' ≡ length work → length list' ≡ length list → length out' ≡ length out
           → AllAnswered input m₀ work₀ list₀ out₀ m' work' list' out' r.next
       all_again i w l o = record {
         within = d.within;

@@ -1,7 +1,7 @@
 -- Calls one after another are a session, of which the claim holds.
 use Prim.Native.Nat.{ℕ, ◌-◌, ◌≤◌, ◌<◌}
-use mathlib.Core.Path.{◌≡◌, refl}
-use mathlib.Core.List.{List, [], ◌∷◌, ◌++◌, map}
+use mathlib.Core.Path.{◌≡◌, refl, sym, ap, ◌∙◌}
+use mathlib.Core.List.{List, [], ◌∷◌, ◌++◌, map, append_assoc, append-nil}
 use native.Mathlib.Nat.{sub-zero}
 use native.Mathlib.Omega.{arith}
 use lib.ListN.{length, take, drop, length-take}
@@ -28,16 +28,24 @@ module _ (m₀ work₀ list₀ m work list m' work' list' : List ℕ) (v : Serve
   }
 
 -- the last line: no byte is no line
+pub no_line : [] ≡ map command_of (lines_in ([] ∷ []))
+unfolding lines_in
+no_line = refl
+
+abbrev pub none_last : (m work list : List ℕ) → LastServed [] (lent m work list) (lent m work list)
+none_last m work list = record { served = none_served m work list; line = no_line }
+
+-- no byte kept: the last line is none
 pub no_last : (input m work list : List ℕ) (kept : ℕ) → kept ≡ 0 → LastServed (take kept input) (lent m work list) (lent m work list)
 unfolding lines_in
 no_last input m work list kept e = rw e (record { served = none_served m work list; line = refl })
 
-some_line : (s : List ℕ) → 0 < length s → command_of s ∷ [] ≡ map command_of (lines_in (s ∷ []))
+pub some_line : (s : List ℕ) → 0 < length s → command_of s ∷ [] ≡ map command_of (lines_in (s ∷ []))
 unfolding lines_in
 some_line [] h = absurd (omega arith)
 some_line (b ∷ s) h = refl
 
-pub last_served : (input m work list out m' work' list' out' : List ℕ) (kept next : ℕ)
+abbrev pub last_served : (input m work list out m' work' list' out' : List ℕ) (kept next : ℕ)
     → Responded (take (kept - 0) (drop 0 input)) (lent m work list) (lent m' work' list') out 0 out' next
     → (kept ≡ 0 → ⊥) → kept ≤ 81 → 81 < length input → LastServed (take kept input) (lent m work list) (lent m' work' list')
 last_served input m work list out m' work' list' out' kept next d n k l = record {
@@ -55,6 +63,30 @@ on_served v (line {s = bytes} {out' = out'} {next = next} s d) =
 
 pub then_served : (a b d : Lent) → Served a b → Served b d → Served a d
 then_served a b d v w = on_served v w.session
+
+-- the commands and the text of two sessions one after another
+on_commands : {a b d : Lent} {cs : List Command} {text : List ℕ} (v : Served a b) (s : Session cs b d text) → (on_served v s).commands ≡ v.commands ++ cs
+unfolding on_served
+on_commands v start = sym (append-nil v.commands)
+on_commands v (lines {cs = cs} s d) = ap (λ (l : List Command). l ++ d.commands) (on_commands v s) ∙ append_assoc v.commands cs d.commands
+on_commands v (line {cs = cs} {s = bytes} s d) =
+    ap (λ (l : List Command). l ++ (command_of bytes ∷ [])) (on_commands v s) ∙ append_assoc v.commands cs (command_of bytes ∷ [])
+
+on_text : {a b d : Lent} {cs : List Command} {text : List ℕ} (v : Served a b) (s : Session cs b d text) → (on_served v s).text ≡ v.text ++ text
+unfolding on_served
+on_text v start = sym (append-nil v.text)
+on_text v (lines {text = text} {out' = out'} {r = r} s d) =
+    ap (λ (l : List ℕ). l ++ take r.written out') (on_text v s) ∙ append_assoc v.text text (take r.written out')
+on_text v (line {text = text} {out' = out'} {next = next} s d) =
+    ap (λ (l : List ℕ). l ++ take next out') (on_text v s) ∙ append_assoc v.text text (take next out')
+
+pub then_commands : (a b d : Lent) (v : Served a b) (w : Served b d) → (then_served a b d v w).commands ≡ v.commands ++ w.commands
+unfolding then_served
+then_commands a b d v w = on_commands v w.session
+
+pub then_text : (a b d : Lent) (v : Served a b) (w : Served b d) → (then_served a b d v w).text ≡ v.text ++ w.text
+unfolding then_served
+then_text a b d v w = on_text v w.session
 
 -- from a fresh index on
 pub served_claimed : (a b : Lent) → Served a b → a.index ≡ fresh_memory 64 → Claimed a b

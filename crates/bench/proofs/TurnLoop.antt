@@ -18,7 +18,7 @@ use Rattle.bench.specs.Served.{Served, Taken, TakenTo, AllServed, FirstServed, L
 use Rattle.bench.proofs.ServedLaws.{none_served, then_served, served_claimed}
 
 -- what is behind a place of the first bytes
-drop_take : (from to : ℕ) (l : List ℕ) → drop from (take to l) ≡ take (to - from) (drop from l)
+pub drop_take : (from to : ℕ) (l : List ℕ) → drop from (take to l) ≡ take (to - from) (drop from l)
 drop_take zero to l = rw (sub-zero to) refl
 drop_take (suc from) zero l = let e : 0 - suc from ≡ 0 = omega arith in rw e refl
 drop_take (suc from) (suc to) [] = sym (take-nil (suc to - suc from))
@@ -37,13 +37,13 @@ last_made bytes m work list m' work' list' w = w.served
 
 -- what a turn made of the lists: nothing where nothing was read, else what the lines made
 module _ (m work list : List ℕ) where
-  pub read_failed : TurnServed (lent m work list) (lent m work list) T.Failed
+  abbrev pub read_failed : TurnServed (lent m work list) (lent m work list) T.Failed
   read_failed = record { short = tt; served = none_served m work list }
 
-  pub read_ended : TurnServed (lent m work list) (lent m work list) T.End
+  abbrev pub read_ended : TurnServed (lent m work list) (lent m work list) T.End
   read_ended = record { short = tt; served = none_served m work list }
 
-  pub read_served : (bytes input m' work' list' : List ℕ) (t : Turn) → FirstServed bytes input (lent m work list) (lent m' work' list') t
+  abbrev pub read_served : (bytes input m' work' list' : List ℕ) (t : Turn) → FirstServed bytes input (lent m work list) (lent m' work' list') t
       → TurnServed (lent m work list) (lent m' work' list') t
   read_served bytes input m' work' list' t s = record { short = s.short; served = s.served }
 
