@@ -1,5 +1,5 @@
-# make run    proves and builds what is missing, then runs the line program on standard input
-# make test   the gate: all proofs from nothing, the edits that must fail, all tests
+# make run    proves and builds what is missing (scripts/build), then runs the line program on standard input
+# make test   the gate (.ci/run): all proofs, the edits that must fail, all tests
 # make map    writes the map of the crates anew, from crates.txt
 # make rules  writes the numbers of their rules to the files of definitions anew, from docs/RULES.md
 

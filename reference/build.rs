@@ -22,7 +22,7 @@ fn link(folder: &Path, name: &str, variable: &str) {
     let archive = folder.join(format!("lib{name}.a"));
     if !archive.is_file() {
         let archive = archive.display();
-        eprintln!("{archive} is missing: run rt staticlib {name} first");
+        eprintln!("{archive} is missing: run scripts/build {name} first");
         exit(1);
     }
     println!("cargo:rerun-if-changed={}", archive.display());

@@ -24,7 +24,7 @@ USE = re.compile(r"(?:^|\s)use\s+([^\s{;]+?)\.\{([^}]*)\}", re.S)
 COMMENT = re.compile(r"(?m)(?:--|//|^#).*$")
 HUMP = re.compile(r"[a-z0-9][A-Z]")
 # A name in lower case with a dash or a hump, or with a prime of the older form.
-IS_OLD = re.compile(r"[a-zμ](?=\w*(?:-|[a-z0-9][A-Z]|′))[\w'′₀-₉-]*")
+IS_OLD = re.compile(r"(?=\w*(?:-|[a-z0-9][A-Z]|′))[a-zμ][\w'′₀-₉-]*")
 SPAN = re.compile(r"(`+)(.+?)\1", re.S)
 # Names that meet a name of another kind, and the name that each gets in its place.
 OTHERWISE = {}

@@ -13,7 +13,7 @@ pub fn program() -> PathBuf {
     let shown = program.display();
     assert!(
         program.is_file(),
-        "{shown} is missing: run rt check bench first"
+        "{shown} is missing: run scripts/build bench first"
     );
     program
 }

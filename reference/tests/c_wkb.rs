@@ -95,6 +95,22 @@ fn no_polygon() {
     assert_eq!(fs::read_dir(&example.folder).expect("a folder").count(), 0);
 }
 
+/// A link for as long as a test runs: rt ci takes none below the repository's root.
+struct Link(PathBuf);
+
+impl Link {
+    fn new(to: &str, at: PathBuf) -> Link {
+        symlink(to, &at).expect("a link");
+        Link(at)
+    }
+}
+
+impl Drop for Link {
+    fn drop(&mut self) {
+        fs::remove_file(&self.0).expect("the link can be removed");
+    }
+}
+
 /// A folder that is not there, and a device that takes no bytes in the place of either file.
 #[test]
 fn no_file() {
@@ -102,7 +118,7 @@ fn no_file() {
     let message = "none/x.wkb: No such file or directory\n";
     example.fails("none/x 0 0 1 1", 1, message);
     for name in ["a.wkb", "b.csv"] {
-        symlink("/dev/full", example.folder.join(name)).expect("a link");
+        let _link = Link::new("/dev/full", example.folder.join(name));
         let message = format!("{name}: No space left on device\n");
         example.fails(&format!("{} 0 0 1 1", &name[..1]), 1, &message);
     }

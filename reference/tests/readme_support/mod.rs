@@ -2,7 +2,6 @@
 
 use std::fs;
 use std::io::Write;
-use std::os::unix::fs::symlink;
 use std::path::{Path, PathBuf};
 use std::process::{Command, Output};
 
@@ -83,19 +82,31 @@ pub fn texts(cell: &str) -> Vec<String> {
 }
 
 /// A new folder of that name with a folder lintzoger in it, which has of the repository what the
-/// commands use: headers, examples, the library.
+/// commands use: headers, examples, the libraries. (Copies, since rt ci takes no links below the
+/// repository's root.)
 pub fn copy_of_repository(name: &str) -> PathBuf {
     let folder = Path::new(env!("CARGO_TARGET_TMPDIR")).join(name);
     let _ = fs::remove_dir_all(&folder);
     let copy = folder.join("lintzoger");
-    fs::create_dir_all(copy.join("target")).expect("a folder");
-    for part in ["include", "examples"] {
-        symlink(root().join(part), copy.join(part)).expect("a link");
+    for part in ["include", "examples/c"] {
+        copy_files(&root().join(part), &copy.join(part));
     }
     let libraries = Path::new(env!("LINTZOGER_ARCHIVE")).parent();
     let libraries = libraries.expect("the archive is in a folder");
-    symlink(libraries, copy.join("target/staticlib")).expect("a link");
+    copy_files(libraries, &copy.join("target/staticlib"));
     copy
+}
+
+/// Copies the files of a folder to a new one.
+fn copy_files(from: &Path, to: &Path) {
+    fs::create_dir_all(to).expect("a folder");
+    for entry in fs::read_dir(from).expect("a folder") {
+        let path = entry.expect("a file").path();
+        if path.is_file() {
+            let name = path.file_name().expect("a name");
+            fs::copy(&path, to.join(name)).expect("a copy");
+        }
+    }
 }
 
 /// Whether the program is installed. Where it is not, that and what follows from it are said past

@@ -32,6 +32,12 @@ pub fn is_there(text: &str, known: &Known) -> bool {
     if let Some(name) = crate_of_command(text) {
         return is_place(name) || known.crates.has(name);
     }
+    if let Some(folder) = folder_of_command(text) {
+        return has_path(folder, known);
+    }
+    if let Some(names) = imported(text) {
+        return names.iter().all(|name| has_name(name, known));
+    }
     let parts = parts(text);
     if parts.iter().all(|part| is_name(part)) {
         return parts.iter().all(|part| has_name(part, known));
@@ -39,15 +45,30 @@ pub fn is_there(text: &str, known: &Known) -> bool {
     true
 }
 
-/// The crate in a command like `rt check NAME`.
+/// The crate in a command like `rt ci NAME`. Behind an option of a command for one crate stands the
+/// option's own word, as in `rt check --only FUNCTION`.
 fn crate_of_command(text: &str) -> Option<&str> {
     let words: Vec<&str> = text.split(' ').collect();
-    match words[..] {
-        ["rt", "check" | "dev" | "goals" | "mir" | "must-fail" | "staticlib" | "try", name, ..] => {
-            Some(name)
-        }
-        _ => None,
-    }
+    let name = match words[..] {
+        ["rt", "check" | "lib" | "run" | "test" | "tidy" | "try" | "verdict", name, ..] => name,
+        ["rt", "ci" | "must-fail", ..] => words[2..].iter().find(|w| !w.starts_with("--"))?,
+        ["scripts/build", name] => name,
+        _ => return None,
+    };
+    (!name.starts_with("--")).then_some(name)
+}
+
+/// The folder in a command like `cd crates/NAME && rt check`.
+fn folder_of_command(text: &str) -> Option<&str> {
+    text.strip_prefix("cd ")?.split(' ').next()
+}
+
+/// The names in a path by which antt imports, as `Rattle.sides.proofs.Laws.{one, other}`. What is of
+/// operators is left out.
+fn imported(text: &str) -> Option<Vec<&str>> {
+    let names = text.strip_prefix("Rattle.")?;
+    let names = names.split(['.', '{', '}', ',', ' ']);
+    Some(names.filter(|name| is_name(name)).collect())
 }
 
 /// The names of a dotted form, as `Rect::has_cell` or `InsertCall .work`; else the text itself.
@@ -87,6 +108,9 @@ fn has_path(text: &str, known: &Known) -> bool {
     if let Some(product) = product(&parts) {
         return is_place(product) || known.crates.has(product);
     }
+    if let ["crates", name, "out", ..] = parts[..] {
+        return is_place(name) || known.crates.has(name); // made by a build
+    }
     if parts.first() == Some(&"target") {
         return true; // made by a build
     }
@@ -99,7 +123,7 @@ fn has_path(text: &str, known: &Known) -> bool {
     known.paths.iter().any(is_it) || is_module(text, known)
 }
 
-/// Whether the text is a module's name, as `lib.ListN`.
+/// Whether the text is a module's name, as `std.specs.Prelude`.
 fn is_module(text: &str, known: &Known) -> bool {
     text.split('.').all(|part| known.words.contains(part))
 }

@@ -8,7 +8,8 @@ pub struct CrateList {
     pub uses: BTreeMap<String, Vec<String>>,
 }
 
-/// Reads the lines 'NAME: USED USED ..'; '#' starts a comment.
+/// Reads the lines 'NAME: USED USED ..', where words about the crate, as 'staticlib', may stand behind
+/// its name; '#' starts a comment.
 pub fn read(text: &str) -> CrateList {
     let mut list = CrateList {
         names: Vec::new(),
@@ -16,8 +17,8 @@ pub fn read(text: &str) -> CrateList {
     };
     for line in text.lines() {
         let line = line.split('#').next().unwrap_or("");
-        if let Some((name, used)) = line.split_once(':') {
-            let name = name.trim().to_string();
+        if let Some((head, used)) = line.split_once(':') {
+            let name = head.split_whitespace().next().unwrap_or("").to_string();
             let used = used.split_whitespace().map(str::to_string).collect();
             list.names.push(name.clone());
             list.uses.insert(name, used);

@@ -35,10 +35,10 @@ impl Known {
             let entry = entry?;
             let name = entry.file_name().to_string_lossy().into_owned();
             let is_folder = entry.file_type()?.is_dir();
-            if is_folder && (name == "target" || name == ".git") {
+            let way = [way, &[name.clone()]].concat();
+            if is_folder && is_made(&way) {
                 continue;
             }
-            let way = [way, &[name.clone()]].concat();
             self.words.insert(stem(&name).to_string());
             if is_folder {
                 self.add_folder(&entry.path(), &way)?;
@@ -59,6 +59,15 @@ impl Known {
             let words = code.split(|c| !is_word(c)).filter(|w| !w.is_empty());
             self.words.extend(words.map(str::to_string));
         }
+    }
+}
+
+/// Whether the folder is git's, or one that a build makes.
+fn is_made(way: &[String]) -> bool {
+    let last = way[way.len() - 1].as_str();
+    match last {
+        "target" | ".git" => true,
+        _ => way.len() == 3 && way[0] == "crates" && last == "out",
     }
 }
 

@@ -11,7 +11,7 @@ const LIST: &str = concat!(
     "other:\n",
     "middle: low\n",
     "high: low other middle\n",
-    "top: high low libc\n",
+    "top staticlib: high low libc\n",
     "beside: low\n",
 );
 

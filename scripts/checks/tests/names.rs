@@ -1,25 +1,37 @@
 //! The check of names: what is in a small repository is found in every form, and a made-up name of
 //! every form is reported.
 
+mod support;
+
 use checks::cited::missing;
 use checks::known::Known;
 use checks::page::{spans, Span};
 use std::fs;
-use std::path::{Path, PathBuf};
+use support::Folder;
 
-/// A small repository of that name with a crate, an edit, a proof, a test and a page.
-fn repository(name: &str) -> PathBuf {
-    let root = Path::new(env!("CARGO_TARGET_TMPDIR")).join(name);
+/// A small repository with a crate, an edit, a proof, a test, a page and what a build made, for the
+/// test of that name.
+fn repository(name: &str) -> Folder {
+    let root = Folder::new(name);
     let files = [
-        ("crates.txt", "sides: libc # of lines\n"),
+        ("crates.txt", "sides staticlib: io # of lines\n"),
         (
             "crates/sides/src/lib.rt",
             "// old_name\npub fn line_of() {}\n",
         ),
-        ("crates/sides/specs/Sides.antt", "-- gone\npub sideOf : ℕ\n"),
+        (
+            "crates/sides/specs/Sides.antt",
+            "-- gone\nuse Rattle.std.specs.Prelude.{ℕ}\npub side_of : ℕ\n",
+        ),
+        (
+            "crates/sides/proofs/line_of/Answers.antt",
+            "use Rattle.sides.proofs.line_of.Goals\nreturns c = search rules\n",
+        ),
         ("crates/sides/must-fail/line_late.edit", "# late\n"),
+        ("crates/sides/out/rlib/Built.antt", "pub built : ℕ\n"),
         ("reference/tests/limits.rs", "/* lost */ fn one_more() {}\n"),
         ("scripts/names.rs", "fn only_a_script() {}\n"),
+        ("scripts/build", "only_a_word\n"),
         ("docs/LAYOUT.md", "never_cited\n"),
     ];
     for (path, text) in files {
@@ -38,11 +50,14 @@ fn reported(name: &str, page: &str) -> Vec<String> {
 
 #[test]
 fn names_that_are_there() {
-    let page = "`line_of`, `sideOf`, `one_more`, `line_late`, `Sides`, `sides`, `libc`, `limits`,\n\
-        `sides::line_of`, `Sides .sideOf`, `line_..`, `*Of`,\n\
+    let page = "`line_of`, `side_of`, `one_more`, `line_late`, `Sides`, `sides`, `io`, `limits`,\n\
+        `sides::line_of`, `Sides .side_of`, `line_..`, `*_of`,\n\
         `crates/sides/src/lib.rt`, `specs/Sides.antt`, `Sides.antt`, `crates/NAME/specs/`, `*.edit`,\n\
-        `.antt`, `.sideOf`, `sides/line_late`, `docs/LAYOUT.md`, `crates/sides`,\n\
-        `sides.lib`, `libsides.a`, `target/bin/sides`, `target/log/NAME.out`, `rt check sides`, `rt dev NAME`\n";
+        `.antt`, `.side_of`, `sides/line_late`, `docs/LAYOUT.md`, `crates/sides`,\n\
+        `sides.lib`, `libsides.a`, `target/bin/sides`, `target/made/NAME`, `crates/sides/out/libsides.a`, `crates/NAME/out`,\n\
+        `rt ci sides`, `rt ci --anew`, `rt must-fail NAME`, `scripts/build`, `scripts/build sides`, `cd crates/NAME && rt check`,\n\
+        `proofs/line_of/Answers.antt`, `Answers.antt`, `std.specs.Prelude`, `Rattle.sides.specs.Sides.{side_of, ◌≡◌}`,\n\
+        `rt check sides`, `rt check --only line_of`, `rt lemma made up`, `#![tactic(auto)]`\n";
     assert_eq!(reported("there", page), Vec::<String>::new());
 }
 
@@ -58,7 +73,7 @@ fn made_up_names() {
         "never_cited",
         "sides::made_up",
         "made_up::line_of",
-        "Sides .madeUp",
+        "Sides .made_up",
         "made_..",
         "*Made",
         "crates/sides/src/made.rt",
@@ -73,6 +88,20 @@ fn made_up_names() {
         "libmade.a",
         "target/bin/made",
         "rt check made",
+        "rt try made",
+        "rt ci made",
+        "rt must-fail made",
+        "scripts/build made",
+        "crates/made/out",
+        "cd crates/made && rt check",
+        "proofs/line_of/Made.antt",
+        "Invariants.antt",
+        "built",
+        "Built.antt",
+        "only_a_word",
+        "std.specs.Made",
+        "Rattle.sides.specs.Sides.{side_of, made_up}",
+        "Rattle.sides.specs.Made.{side_of}",
     ] {
         let page = format!("First.\n\nThen `line_of`\nand `{text}`.\n");
         let expected = vec![format!("PAGE.md:4: `{text}` is not there")];
@@ -82,7 +111,7 @@ fn made_up_names() {
 
 #[test]
 fn files_by_their_crate() {
-    let page = "`sideOf` (sides Sides), `line_of` (sides), by sides Sides; `x` (as Before) and sides Of lines,\n";
+    let page = "`side_of` (sides Sides), `line_of` (sides), by sides Sides; `x` (as Before) and sides Of lines,\n";
     assert_eq!(
         reported("files", page),
         [
@@ -92,8 +121,8 @@ fn files_by_their_crate() {
         ]
     );
     for (text, lost) in [
-        ("`sideOf` (sides Made)", "sides Made"),
-        ("`sideOf` (gone Sides)", "gone Sides"),
+        ("`side_of` (sides Made)", "sides Made"),
+        ("`side_of` (gone Sides)", "gone Sides"),
         ("laws: sides Sides, Made", "sides Made"),
     ] {
         assert_eq!(
