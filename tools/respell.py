@@ -4,9 +4,9 @@
 usage: tools/respell.py [--show]      at the top of the repository, once, after port.py
 
 It turns the names that files of specs/ and proofs/ declare (a function's Proof.antt aside, whose own names stay) wherever they stand: in .antt
-files, in .rt files, in must-fail edits, in the code spans of the pages and in the files of names that scripts/checks reads. It leaves a name
-where the file imports it from a library, where the file declares it as a name of its own, and behind a dot unless it is a record's field.
-Types and modules keep their spelling. Each crate is laid out anew by `rt fmt`. --show prints the table of names and writes nothing.
+files, in .rt files, in must-fail edits and in the code spans of the pages. In a comment it turns what has a hump or stands in a code span. It
+leaves a name where the file imports it from a library, in a Proof.antt that declares it, and behind a dot unless it is a record's field or a module's
+name is before the dot. Types and modules keep their spelling. A lemma that would meet the definition of its name gets `_lem`. Each crate is laid out anew by `rt fmt`. --show prints the table of names and writes nothing.
 A line that begins 'meets:' lists a new name that stood in a file already.
 """
 
@@ -26,8 +26,6 @@ HUMP = re.compile(r"[a-z0-9][A-Z]")
 # A name in lower case with a dash or a hump, or with a prime of the older form.
 IS_OLD = re.compile(r"(?=\w*(?:-|[a-z0-9][A-Z]|′))[a-zμ][\w'′₀-₉-]*")
 SPAN = re.compile(r"(`+)(.+?)\1", re.S)
-# Names that meet a name of another kind, and the name that each gets in its place.
-OTHERWISE = {}
 
 
 def respelled(name):
@@ -36,12 +34,11 @@ def respelled(name):
 
 
 def files(*ends):
-    for top in ("crates",):
-        for folder, dirs, names in os.walk(top):
-            dirs[:] = sorted(d for d in dirs if d != "out")
-            for name in sorted(names):
-                if name.endswith(ends):
-                    yield os.path.join(folder, name)
+    for folder, dirs, names in os.walk("crates"):
+        dirs[:] = sorted(d for d in dirs if d != "out")
+        for name in sorted(names):
+            if name.endswith(ends):
+                yield os.path.join(folder, name)
 
 
 def read(path):
@@ -74,16 +71,15 @@ def declared(text):
     return names | fields, fields
 
 
-def imported(text):
-    """The names that a file imports from a library that is not the repository's."""
+def imported(text, from_own):
+    """The names that a file imports from the repository's own crates, or else from other libraries."""
     own = set(os.listdir("crates"))
     names = set()
     for path, items in USE.findall(text):
         steps = path.split(".")
-        if steps[0] == "Rattle" and len(steps) > 1 and steps[1] in own:
-            continue
-        for item in items.split(","):
-            names |= set(item.split())
+        is_own = steps[0] == "Rattle" and len(steps) > 1 and steps[1] in own
+        if is_own == from_own:
+            names |= {word for item in items.split(",") for word in item.split()}
     return names
 
 
@@ -97,7 +93,7 @@ def table():
         a, b = declared(text)
         snake |= a
         fields |= b
-        keep = imported(text)
+        keep = imported(text, from_own=False)
         for m in WORD.finditer(COMMENT.sub("", text)):
             word = m[0]
             if word not in keep and IS_OLD.fullmatch(word) and m.string[m.start() - 1 : m.start()] != ".":
@@ -163,9 +159,9 @@ def main(argv):
     new = {}
     for path in files(".antt", ".rt", ".edit"):
         text = read(path)
-        keep = imported(text)
+        keep = imported(text, from_own=False)
         if is_proof(path):
-            keep |= declared(text)[0] - imported_own(text)
+            keep |= declared(text)[0] - imported(text, from_own=True)
         if path.endswith(".antt"):
             words = set(WORD.findall(COMMENT.sub("", text)))
             for a in sorted(words & set(rows) - keep):
@@ -191,17 +187,6 @@ def main(argv):
         if os.path.isdir(f"crates/{crate}/src"):
             subprocess.run(["rt", "fmt"], cwd=f"crates/{crate}", stdout=subprocess.DEVNULL)
     print(f"{len(rows)} names, {changed} files")
-
-
-def imported_own(text):
-    own = set(os.listdir("crates"))
-    names = set()
-    for path, items in USE.findall(text):
-        steps = path.split(".")
-        if steps[0] == "Rattle" and len(steps) > 1 and steps[1] in own:
-            for item in items.split(","):
-                names |= set(item.split())
-    return names
 
 
 if __name__ == "__main__":

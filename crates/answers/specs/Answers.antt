@@ -129,7 +129,8 @@ nearest_read c (some i) = nearest_end c (nearest index_space c i) (walk index_sp
 
 -- nearest query: the index and the cell. Tests 1, 3, 4, 10
 unfoldable pub nearest_answer : List ℕ → Cell → NearestFound
-nearest_answer m c = cond (is_index_length m) (cond (on_grid c) (nearest_read c (reading fanout m)) N.Invalid) N.WrongLength
+nearest_answer m c =
+    cond (is_index_length m) (cond (on_grid c) (nearest_read c (reading fanout m)) N.Invalid) N.WrongLength
 
 -- 'a yes or no for a window', and the visits of the walk that 'stops at the first matching entry'
 unfoldable pub empty_end : Bool → ℕ → EmptyFound

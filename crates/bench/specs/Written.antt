@@ -80,8 +80,8 @@ pub record TurnWritten (left left' held held' : Option (List ℕ)) (kept : ℕ) 
   pub written : WrittenIn held held' answered.served.text t
 
 -- From a fresh index of 64 parts the first commands of the input were answered, and demand 3's claim holds of their
--- calls. What was written is a start of their answers. Where nothing failed, they are all commands of the input, and all
--- answers were written.
+-- calls. What was written is a start of their answers. Where nothing failed, they are all commands of the input, and
+-- all answers were written.
 pub record RunWritten (left held held' : Option (List ℕ)) (a b : Lent) (whole : Bool) : Type 0 where
   pub served : Served a b
   pub claim : LinesClaim 64 served.commands b served.text

@@ -37,7 +37,8 @@ pub record Descending (n : ℕ) (path m : List ℕ) (c : Cell) : Type 0 where
   pub has : index_space.has (polygon_on path n) c ≡ true
   pub items : SoundItems index_space n (polygon_on path n) (items_at n m (part_on path n))
   pub count : Count index_space (items_at n m (part_on path n))
-  pub fresh : Fresh index_space (entry_of c some_payload) (flat_map (held index_space n) (items_at n m (part_on path n)))
+  pub fresh : Fresh index_space (entry_of c some_payload)
+      (flat_map (held index_space n) (items_at n m (part_on path n)))
 
 -- What the descent from a level on leaves of the path as it was: all above the level, and the level's own part, line
 -- and polygon.

@@ -30,7 +30,10 @@ unfoldable pub child_among : List ℕ → ℕ → ℕ
 child_among l i = get_or l i 0
 
 unfoldable pub entry_among : List ℕ → ℕ → CellEntry
-entry_among l i = record { cell = record { x = get_or l (3 * i) 0; y = get_or l (3 * i + 1) 0 }; tag = get_or l (3 * i + 2) 0 }
+entry_among l i = record {
+  cell = record { x = get_or l (3 * i) 0; y = get_or l (3 * i + 1) 0 };
+  tag = get_or l (3 * i + 2) 0;
+}
 
 -- the same by the node
 abbrev pub node_child : Node → ℕ → ℕ

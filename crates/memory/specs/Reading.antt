@@ -31,7 +31,9 @@ module _ (fanout : ℕ) where
       cond (node_fits fanout 3 m k) (some (branch_of p (entries_in p (item_count p)))) none
   read_node (suc n) m lo k =
       let p = part m k in
-      cond (node_fits fanout 1 m k) (bind (read_row (read_node n m) lo k (children_in p)) λ bs. some (branch_of p bs)) none
+      cond (node_fits fanout 1 m k)
+      (bind (read_row (read_node n m) lo k (children_in p)) λ bs. some (branch_of p bs))
+      none
 
   -- the node at the root as a tree
   abbrev pub tree_of : (n : ℕ) → Item (plane_space fanout) (suc n) → Tree (plane_space fanout)
@@ -40,7 +42,9 @@ module _ (fanout : ℕ) where
   -- 'the number of bits set is the number of nodes', and 'Unused numbers are zero'
   unfoldable pub rest_fits : (n : ℕ) → List ℕ → Item (plane_space fanout) (suc n) → Bool
   rest_fits n m b =
-      eqb (bits_set m) (nodes (plane_space fanout) (suc n) b) && all_zero (drop 10 (take 64 m)) && others_zero m (parts_of m)
+      eqb (bits_set m) (nodes (plane_space fanout) (suc n) b)
+      && all_zero (drop 10 (take 64 m))
+      && others_zero m (parts_of m)
 
   unfoldable pub read_tree : (n : ℕ) → List ℕ → Option (Tree (plane_space fanout))
   read_tree n m =
