@@ -5,7 +5,7 @@ mod answer;
 mod reply;
 
 pub use answer::{
-    Cleared, EmptyFound, Inserted, LIST_WIDTH, NearestFound, PointFound, Removed, WindowFound,
+    EmptyFound, Inserted, LIST_WIDTH, NearestFound, PointFound, Refusal, WindowFound,
 };
 pub use reply::{
     Reply, clear_reply, empty_reply, insert_reply, nearest_reply, point_reply, remove_reply,

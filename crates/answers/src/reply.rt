@@ -1,13 +1,13 @@
 // Document 01's number and values of each answer.
-ghost use Rattle.std.specs.Prelude.{[], ◌∷◌, ◌≡◌};
-ghost use Rattle.answers.specs.Numbers.{seven_of, with_seven, insert_reply, remove_reply, clear_reply, point_reply, window_reply, nearest_reply, empty_reply};
+#![tactic(auto, unfolding(crate::specs::Numbers::with_seven))]
 
-use crate::answer::{
-    Cleared, EmptyFound, Inserted, NearestFound, PointFound, Removed, WindowFound,
-};
+ghost use Rattle.std.specs.Prelude.{[], ◌∷◌, ◌≡◌};
+ghost use Rattle.answers.specs.Numbers.{refusal_number, seven_of, with_seven, insert_reply, held_reply, remove_reply, clear_reply, point_reply, window_reply, nearest_reply, empty_reply};
+
+use crate::answer::{EmptyFound, Inserted, NearestFound, PointFound, Refusal, WindowFound};
 
 // The number of the answer, 0 where the call accepts, and its values; 0 in the places behind them.
-#[derive(Clone, Copy)]
+#[derive(Clone, Copy, Debug, PartialEq, Eq)]
 pub struct Reply {
     pub number: u32,
     pub values: [u64; 7],
@@ -29,117 +29,95 @@ fn accepts(first: u32, second: u32, third: u32) -> Reply
 }
 
 // A refused call, without values.
-fn refuses(number: u32) -> Reply
-    ensures { result ≡ record { number = number; values = seven_of [] } }
+fn refuses(refusal: Refusal) -> Reply
+    ensures { result ≡ record { number = refusal_number refusal; values = seven_of [] } }
 {
-    short_reply(number, 0, 0, 0)
+    short_reply(refusal.number(), 0, 0, 0)
 }
 
-// An accepted insertion: the entries held and the cells removed.
-fn inserted(held: u32, removed: u64) -> Reply
-    ensures { result ≡ record { number = 0; values = seven_of (held ∷ removed ∷ []) } }
-{
-    let values = [held as u64, removed, 0, 0, 0, 0, 0];
-    Reply { number: 0, values }
-}
-
-pub fn insert_reply(answer: Inserted) -> Reply
+pub fn insert_reply(answer: Result<Inserted, Refusal>) -> Reply
     ensures { result ≡ with_seven (insert_reply answer) }
 {
     match answer {
-        Inserted::Accepted { held, removed } => inserted(held, removed),
-        Inserted::WrongLength => refuses(1),
-        Inserted::WorkLength => refuses(2),
-        Inserted::Invalid => refuses(3),
-        Inserted::NoSoundTree => refuses(4),
-        Inserted::Held => refuses(5),
-        Inserted::OverLimit => refuses(7),
-        Inserted::TooManyNodes => refuses(8),
+        Ok(done) => {
+            let values = [done.held as u64, done.removed, 0, 0, 0, 0, 0];
+            Reply { number: 0, values }
+        }
+        Err(refusal) => refuses(refusal),
     }
 }
 
-pub fn remove_reply(answer: Removed) -> Reply
+// A removal or a clearing: the entries held.
+fn held_reply(answer: Result<u32, Refusal>) -> Reply
+    ensures { result ≡ with_seven (held_reply answer) }
+{
+    match answer {
+        Ok(held) => accepts(held, 0, 0),
+        Err(refusal) => refuses(refusal),
+    }
+}
+
+pub fn remove_reply(answer: Result<u32, Refusal>) -> Reply
     ensures { result ≡ with_seven (remove_reply answer) }
 {
-    match answer {
-        Removed::Accepted(n) => accepts(n, 0, 0),
-        Removed::WrongLength => refuses(1),
-        Removed::Invalid => refuses(3),
-        Removed::NoSoundTree => refuses(4),
-        Removed::NotHeld => refuses(6),
-    }
+    held_reply(answer)
 }
 
-pub fn clear_reply(answer: Cleared) -> Reply
+pub fn clear_reply(answer: Result<u32, Refusal>) -> Reply
     ensures { result ≡ with_seven (clear_reply answer) }
 {
-    match answer {
-        Cleared::Accepted(n) => accepts(n, 0, 0),
-        Cleared::WrongLength => refuses(1),
-    }
+    held_reply(answer)
 }
 
-pub fn point_reply(answer: PointFound) -> Reply
+pub fn point_reply(answer: Result<PointFound, Refusal>) -> Reply
     ensures { result ≡ with_seven (point_reply answer) }
 {
     match answer {
-        PointFound::Held { tag, visits } => accepts(1, visits, tag),
-        PointFound::NotHeld { visits } => accepts(0, visits, 0),
-        PointFound::WrongLength => refuses(1),
-        PointFound::Invalid => refuses(3),
-        PointFound::NoSoundTree => refuses(4),
+        Ok(found) => match found.tag {
+            Some(tag) => accepts(1, found.visits, tag),
+            None => accepts(0, found.visits, 0),
+        },
+        Err(refusal) => refuses(refusal),
     }
 }
 
-pub fn window_reply(answer: WindowFound) -> Reply
+pub fn window_reply(answer: Result<WindowFound, Refusal>) -> Reply
     ensures { result ≡ with_seven (window_reply answer) }
 {
     match answer {
-        WindowFound::Found { matches, visits } => accepts(matches, visits, 0),
-        WindowFound::WrongLength => refuses(1),
-        WindowFound::Invalid => refuses(3),
-        WindowFound::NoSoundTree => refuses(4),
-        WindowFound::ShortList { matches } => short_reply(9, matches, 0, 0),
+        Ok(found) => accepts(found.matches, found.visits, 0),
+        Err(refusal) => match refusal {
+            Refusal::ShortList { matches } => short_reply(refusal.number(), matches, 0, 0),
+            _ => refuses(refusal),
+        },
     }
 }
 
-pub fn nearest_reply(answer: NearestFound) -> Reply
+pub fn nearest_reply(answer: Result<NearestFound, Refusal>) -> Reply
     ensures { result ≡ with_seven (nearest_reply answer) }
 {
     match answer {
-        NearestFound::Found {
-            x,
-            y,
-            tag,
-            distance,
-            visits,
-        } => {
+        Ok(found) => {
             let values = [
-                x as u64,
-                y as u64,
-                tag as u64,
-                distance,
-                visits as u64,
+                found.x as u64,
+                found.y as u64,
+                found.tag as u64,
+                found.distance,
+                found.visits as u64,
                 0,
                 0,
             ];
             Reply { number: 0, values }
         }
-        NearestFound::WrongLength => refuses(1),
-        NearestFound::Invalid => refuses(3),
-        NearestFound::NoSoundTree => refuses(4),
-        NearestFound::NothingHeld => refuses(10),
+        Err(refusal) => refuses(refusal),
     }
 }
 
-pub fn empty_reply(answer: EmptyFound) -> Reply
+pub fn empty_reply(answer: Result<EmptyFound, Refusal>) -> Reply
     ensures { result ≡ with_seven (empty_reply answer) }
 {
     match answer {
-        EmptyFound::Empty { visits } => accepts(1, visits, 0),
-        EmptyFound::Occupied { visits } => accepts(0, visits, 0),
-        EmptyFound::WrongLength => refuses(1),
-        EmptyFound::Invalid => refuses(3),
-        EmptyFound::NoSoundTree => refuses(4),
+        Ok(found) => accepts(found.empty as u32, found.visits, 0),
+        Err(refusal) => refuses(refusal),
     }
 }

@@ -1,39 +1,26 @@
 -- The loop that unites the rectangles of a list.
-use mathlib.Core.Path.{◌≡◌, sym, ◌∙◌, ap}
-use mathlib.Core.List.{List}
-use Prim.Native.Nat.{ℕ, ◌+◌, ◌*◌, ◌≤◌, ◌<◌}
-use native.Mathlib.Omega.{arith}
-use lib.ListN.{length, drop}
+use mathlib.Core.Path.{◌≡◌, sym, ◌∙◌}
+use mathlib.Core.List.{List, [], ◌∷◌}
 use Rattle.geometry.specs.declared.rect.Rect.{Rect}
-use Rattle.geometry.specs.Numbers.{rect_at, rects_in}
+use Rattle.geometry.specs.declared.rects.Rects.{Rects}
 use Rattle.geometry.specs.Refine.{union}
-use Rattle.geometry.proofs.NumberLaws.{rects_next, rects_end}
+use Rattle.geometry.specs.Rects.{rects_left}
 use Rattle.area.specs.Bounds.{bounds_from, bounds_of}
 
--- The first i of n rectangles are united.
-pub record Uniting (m : List ℕ) (n : ℕ) (b : Rect) (i : ℕ) : Type 0 where
-  pub i_le : i ≤ n
-  pub fits : 4 * n ≤ length m
-  pub rest : bounds_of (rects_in m n) ≡ bounds_from b (drop i (rects_in m n))
+-- All but the rest are united.
+pub record Uniting (all rest : List Rect) (b : Rect) : Type 0 where
+  pub total : bounds_of all ≡ bounds_from b rest
 
-module _ (m : List ℕ) (n : ℕ) (b : Rect) where
-  pub unite_start : 1 ≤ n → 4 * n ≤ length m → b ≡ rect_at m 0 → Uniting m n b 1
+module _ (all : List Rect) where
+  pub unite_start : (b : Rect) (more it : Rects) → it ≡ more → all ≡ b ∷ rects_left more → Uniting all (rects_left it) b
   unfolding bounds_of
-  unite_start h k e = record {
-    i_le = h;
-    fits = k;
-    rest = ap bounds_of (rects_next m n 0 h) ∙ rw e;
-  }
+  unite_start b more it q e = rw q (record { total = rw e })
 
-  module _ (i : ℕ) (v : Uniting m n b i) where
-    pub unite_again : i < n → (s b' : Rect) → s ≡ rect_at m i → b' ≡ union b s → Uniting m n b' (i + 1)
+  module _ (rest : List Rect) (b : Rect) (v : Uniting all rest b) where
+    pub unite_again : (s : Rect) (rest' : List Rect) → rest ≡ s ∷ rest' → (b' : Rect) → b' ≡ union b s → Uniting all rest' b'
     unfolding bounds_from
-    unite_again h s b' e f = record {
-      i_le = omega arith;
-      fits = v.fits;
-      rest = v.rest ∙ ap (bounds_from b) (rects_next m n i h) ∙ rw (f, e);
-    }
+    unite_again s rest' e b' f = record { total = v.total ∙ rw (e, f) }
 
-    pub unite_end : n ≤ i → b ≡ bounds_of (rects_in m n)
+    pub unite_end : rest ≡ [] → b ≡ bounds_of all
     unfolding bounds_from
-    unite_end h = sym (v.rest ∙ rw (rects_end m n i h))
+    unite_end e = sym (v.total ∙ rw e)

@@ -4,7 +4,6 @@ use mathlib.Core.Bool.{true}
 use mathlib.Core.List.{List, [], ◌∷◌}
 use Prim.Native.Nat.{ℕ, ◌≤◌, ◌<◌, min}
 use native.Mathlib.Omega.{arith}
-use lib.ListN.{drop}
 use Rattle.geometry.specs.declared.rect.Cell.{Cell}
 use Rattle.geometry.specs.declared.rect.Rect.{Rect}
 use Rattle.geometry.specs.Cells.{on_grid, valid}
@@ -31,11 +30,8 @@ module _ (m : List ℕ) (i : ℕ) (r : Rect) (e : r ≡ rect_at m i) where
         let z : i ≡ 0 = omega arith in
         f ∙ rw (e, k, z, one_rect)
 
-    pub extra_below : x < l → x ≡ min l (extra_area (rects_in m n) (rect_at m i) c)
-    extra_below u = let d = single in omega arith
-
-    pub extra_above : l ≤ x → l ≡ min l (extra_area (rects_in m n) (rect_at m i) c)
-    extra_above u = let d = single in omega arith
+    pub extra_of_single : (y : ℕ) → y ≡ min l x → y ≡ min l (extra_area (rects_in m n) (rect_at m i) c)
+    extra_of_single y u = let d = single in omega arith
 
   -- a polygon of more
   module _ (c : Cell) (g : Rect) (f : g ≡ grown r c) where
@@ -55,6 +51,6 @@ module _ (m : List ℕ) (i : ℕ) (r : Rect) (e : r ≡ rect_at m i) where
         let z : extra_area (rects_in m n) (rect_at m i) c ≡ lacked (rects_in m n) g = rw (f, e) in
         omega arith
 
-    pub extra_counted : (n l x : ℕ) → x ≡ min l (lacked (drop 0 (rects_in m n)) g) → x ≡ min l (extra_area (rects_in m n) (rect_at m i) c)
+    pub extra_counted : (n l x : ℕ) → x ≡ min l (lacked (rects_in m n) g) → x ≡ min l (extra_area (rects_in m n) (rect_at m i) c)
     unfolding lacked extra_area
     extra_counted n l x u = u ∙ rw (f, e)

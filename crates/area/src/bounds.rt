@@ -1,21 +1,26 @@
 // The bounds of a list of rectangles.
-ghost use Rattle.std.specs.Prelude.{◌≡◌, ◌*◌, ◌≤◌, length};
-ghost use Rattle.geometry.specs.Numbers.{rects_in};
+ghost use Rattle.std.specs.Prelude.{◌≡◌};
+ghost use Rattle.geometry.specs.Rects.{rects_left};
 ghost use Rattle.area.specs.Bounds.{bounds_of};
 
-use geometry::{Rect, rect_at};
+use geometry::{Rect, Rects};
 
-// The smallest rectangle around the first n rectangles of a list.
-pub fn bounds_of(list: &[u32], n: usize) -> Rect
-    requires le_n { 1 ≤ n }
-    requires n_in_bounds { 4 * n ≤ length list.now }
-    ensures { result ≡ bounds_of (rects_in list.now n) }
+// The smallest rectangle around the rectangles; one with no cell where there are none.
+pub fn bounds_of(rects: Rects) -> Rect
+    ensures { result ≡ bounds_of (rects_left rects.entry) }
 {
-    let mut b = rect_at(list, 0);
-    let mut i = 1;
-    while i < n {
-        b = b.union(rect_at(list, i));
-        i += 1;
+    let mut rest = rects;
+    let Some(first) = rest.next() else {
+        return Rect {
+            llx: 0,
+            lly: 0,
+            urx: 0,
+            ury: 0,
+        };
+    };
+    let mut bounds = first;
+    for r in rest {
+        bounds = bounds.union(r);
     }
-    b
+    bounds
 }

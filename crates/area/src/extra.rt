@@ -7,7 +7,7 @@ ghost use Rattle.area.specs.Lacked.{lacked, extra_area};
 
 use crate::lacks::lacking;
 use crate::one::extra_of_one;
-use geometry::{Cell, Common, Rect, rect_at};
+use geometry::{Cell, Rect, Rects, rect_at};
 
 // How many cells of g are not in b.
 fn outside(g: Rect, b: Rect) -> u64
@@ -15,8 +15,8 @@ fn outside(g: Rect, b: Rect) -> u64
     ensures { result ≡ lacked (b ∷ []) g }
 {
     let a = g.area();
-    if let Common::Part(u) = g.common(b) {
-        return a - u.area();
+    if let Some(part) = g.common(b) {
+        return a - part.area();
     }
     a
 }
@@ -33,12 +33,11 @@ pub fn extra_area(list: &[u32], n: usize, i: usize, c: Cell, bounds: Rect, limit
 {
     let r = rect_at(list, i);
     if n == 1 {
-        let e = extra_of_one(r, c);
-        return if e < limit { e } else { limit };
+        return limit.min(extra_of_one(r, c));
     }
     let g = r.grow(c);
     if limit <= outside(g, bounds) {
         return limit;
     }
-    lacking(list, n, 0, g, limit)
+    lacking(Rects::new(list, n), g, limit)
 }

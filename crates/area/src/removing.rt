@@ -7,7 +7,7 @@ ghost use Rattle.area.specs.Removed.{removed};
 
 use crate::grid::ALL_CELLS;
 use crate::lacks::lacking;
-use geometry::rect_at;
+use geometry::{Rects, rect_at};
 
 // How many cells the polygon of the first k rectangles removes from the list of the n behind them. Each cell is
 // counted at the last of the polygon's rectangles that has it. The polygon stands first because it is short: what its
@@ -20,13 +20,11 @@ pub fn removed_cells(rects: &[u32], k: usize, n: usize) -> u64
     ensures { result ≡ removed (drop k (rects_in rects.now (k + n))) (rects_in rects.now k) }
 {
     let mut sum: u64 = 0;
-    let mut j = 0;
-    while j < k {
+    for j in 0..k {
         let s = rect_at(rects, j);
-        j += 1;
         // the cells that the polygon's later rectangles lack, and of these the ones that the list lacks too
-        let new = lacking(rects, k, j, s, ALL_CELLS);
-        let outside = lacking(rects, k + n, j, s, new);
+        let new = lacking(Rects::between(rects, j + 1, k), s, ALL_CELLS);
+        let outside = lacking(Rects::between(rects, j + 1, k + n), s, new);
         sum += new - outside;
     }
     sum

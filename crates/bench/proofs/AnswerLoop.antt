@@ -1,15 +1,13 @@
 -- The loop that answers and writes until no whole line is left.
-use Prim.Native.Nat.{ℕ, ◌+◌, ◌*◌, ◌-◌, ◌≤◌, ◌<◌}
+use Prim.Native.Nat.{ℕ, ◌+◌, ◌*◌, ◌≤◌}
 use mathlib.Core.Path.{◌≡◌, refl, sym, ap, ◌∙◌}
-use mathlib.Core.Bool.{true, false}
 use mathlib.Core.List.{List, ◌++◌, append_assoc}
 use native.Mathlib.Omega.{arith}
 use lib.ListN.{length, drop}
 use Rattle.line_program.specs.declared.stream.Progress.{Progress}
-use Rattle.line_program.specs.Response.{Lent, lent}
+use Rattle.line_program.specs.Response.{lent}
 use Rattle.line_program.specs.Stream.{LinesAnswered, commands_of}
-use Rattle.bench.specs.declared.Rest.TheVariants as R
-use Rattle.bench.specs.Served.{Served, AllServed}
+use Rattle.bench.specs.Served.{Served}
 use Rattle.bench.proofs.ServedLaws.{none_served, lines_served}
 
 -- The lines before a place are answered.
@@ -59,15 +57,3 @@ module _ (input m₀ work₀ list₀ out₀ : List ℕ) where
         served = on;
         read = read_on;
       }
-
-      -- the answers could not be written
-      pub all_failed : AllServed input (lent m₀ work₀ list₀) (lent m' work' list') R.Failed
-      all_failed = record { within = tt; served = on; taken = tt }
-
-      -- no whole line is left
-      pub all_done : (n : ℕ) → n ≡ r.next → r.done ≡ true → AllServed input (lent m₀ work₀ list₀) (lent m' work' list') (R.From n)
-      all_done n e f = rw e (record { within = d.within; served = on; taken = record { read = read_on; piece = d.rest f } })
-
-pub all_less : (input : List ℕ) (from : ℕ) (a b : Lent) (out : List ℕ) (r : Progress) → LinesAnswered input from a b out r → r.done ≡ false
-    → length input - r.next < length input - from
-all_less input from a b out r d f = let g = d.onward f in omega (arith, d.within)

@@ -1,20 +1,17 @@
 -- Reading the input in turns: the bytes read, and the loop over the turns.
 use Prim.Native.Nat.{ℕ, zero, suc, ◌-◌, ◌≤◌}
-use mathlib.Core.Path.{◌≡◌, refl, sym, ap, ◌∙◌, subst}
+use mathlib.Core.Path.{◌≡◌, refl, sym, ◌∙◌}
 use mathlib.Core.List.{List, [], ◌∷◌}
 use native.Mathlib.Nat.{sub-zero}
 use native.Mathlib.Omega.{arith}
-use lib.ListN.{length, take, drop, length-take}
+use lib.ListN.{length, take, drop}
 use lib.Seq.{take-nil}
 use Rattle.history.specs.Calls.{fresh_memory}
-use Rattle.line_program.specs.Response.{Lent, lent}
-use Rattle.line_program.specs.Stream.{Kept}
-use Rattle.bench.specs.declared.Rest.{Rest}
-use Rattle.bench.specs.declared.Rest.TheVariants as R
-use Rattle.bench.specs.declared.Turn.{Turn}
-use Rattle.bench.specs.declared.Turn.TheVariants as T
+use Rattle.line_program.specs.Response.{lent}
+use Rattle.std.specs.Prelude.{Option, None, Some, Result, Ok}
+use Rattle.bench.specs.declared.streams.Failed.{Failed}
 use Rattle.bench.specs.Bounds.{Lengths}
-use Rattle.bench.specs.Served.{Served, Taken, TakenTo, AllServed, FirstServed, LastServed, TurnServed, Claimed}
+use Rattle.bench.specs.Served.{Served, FirstServed, TurnServed, Claimed}
 use Rattle.bench.proofs.ServedLaws.{none_served, then_served, served_claimed}
 
 -- what is behind a place of the first bytes
@@ -24,48 +21,14 @@ drop_take (suc from) zero l = let e : 0 - suc from ≡ 0 = omega arith in rw e r
 drop_take (suc from) (suc to) [] = sym (take-nil (suc to - suc from))
 drop_take (suc from) (suc to) (x ∷ l) = let e : suc to - suc from ≡ to - from = omega arith in drop_take from to l ∙ rw e refl
 
--- the rest starts among the bytes read
-pub rest_within : (a b : Lent) (r : Rest) (from to : ℕ) (input : List ℕ) → r ≡ R.From from → AllServed (take (to - 0) (drop 0 input)) a b r → from ≤ to
-rest_within a b r from to input e w =
-    let g : from ≤ length (take (to - 0) (drop 0 input)) = rw e at w.within in
-    let k = rw length-take at g in
-    omega arith
-
--- what the last line made of the lists
-pub last_made : (bytes m work list m' work' list' : List ℕ) → LastServed bytes (lent m work list) (lent m' work' list') → Served (lent m work list) (lent m' work' list')
-last_made bytes m work list m' work' list' w = w.served
-
 -- what a turn made of the lists: nothing where nothing was read, else what the lines made
 module _ (m work list : List ℕ) where
-  abbrev pub read_failed : TurnServed (lent m work list) (lent m work list) T.Failed
-  read_failed = record { short = tt; served = none_served m work list }
-
-  abbrev pub read_ended : TurnServed (lent m work list) (lent m work list) T.End
+  abbrev pub read_ended : TurnServed (lent m work list) (lent m work list) (Ok None)
   read_ended = record { short = tt; served = none_served m work list }
 
-  abbrev pub read_served : (bytes input m' work' list' : List ℕ) (t : Turn) → FirstServed bytes input (lent m work list) (lent m' work' list') t
-      → TurnServed (lent m work list) (lent m' work' list') t
-  read_served bytes input m' work' list' t s = record { short = s.short; served = s.served }
-
-  module _ (to : ℕ) (input m' work' list' : List ℕ) (r : Rest) (w : AllServed (take (to - 0) (drop 0 input)) (lent m work list) (lent m' work' list') r) where
-    pub write_failed : (input' : List ℕ) → FirstServed (take to input) input' (lent m work list) (lent m' work' list') T.Failed
-    write_failed input' = record { short = tt; served = w.served; kept = tt }
-
-    pub some_kept : (input' : List ℕ) (from k : ℕ) → r ≡ R.From from → Kept input from to input' k
-        → FirstServed (take to input) input' (lent m work list) (lent m' work' list') (T.Kept k)
-    some_kept input' from k e h =
-        let z : take (to - 0) input ≡ take to input = rw (sub-zero to) refl in
-        let g : Taken (take (to - 0) input) w.served.commands (drop from (take (to - 0) input)) =
-        subst (TakenTo (take (to - 0) input) w.served.commands) e w.taken in
-        record {
-          short = h.few;
-          served = w.served;
-          kept = record {
-            rest = drop from (take to input);
-            taken = subst (λ l. Taken l w.served.commands (drop from l)) z g;
-            kept_is = h.bytes ∙ ap (take 81) (sym (drop_take from to input));
-          };
-        }
+  abbrev pub read_served : (bytes input m' work' list' : List ℕ) (n : ℕ)
+      → FirstServed bytes input (lent m work list) (lent m' work' list') (Ok n) → TurnServed (lent m work list) (lent m' work' list') (Ok (Some n))
+  read_served bytes input m' work' list' n s = record { short = s.short; served = s.served }
 
 -- Between two turns: few bytes are kept, and the lists are as long as at the start.
 pub record Turning (m₀ work₀ list₀ input₀ out₀ m work list input out : List ℕ) (kept : ℕ) : Type 0 where
@@ -101,11 +64,11 @@ module _ (m₀ work₀ list₀ input₀ out₀ : List ℕ) where
 
   pub turn_again : (m work list input out : List ℕ) (kept : ℕ) → Turning m₀ work₀ list₀ input₀ out₀ m work list input out kept
       → (m' work' list' input' out' : List ℕ) → length m' ≡ length m → length work' ≡ length work → length list' ≡ length list
-      → length input' ≡ length input → length out' ≡ length out → (t : Turn) (n : ℕ) → t ≡ T.Kept n → TurnServed (lent m work list) (lent m' work' list') t
+      → length input' ≡ length input → length out' ≡ length out → (n : ℕ) → TurnServed (lent m work list) (lent m' work' list') (Ok (Some n))
       → Turning m₀ work₀ list₀ input₀ out₀ m' work' list' input' out' n
-  turn_again m work list input out kept v m' work' list' input' out' i w l p o t n e s =
+  turn_again m work list input out kept v m' work' list' input' out' i w l p o n s =
       record {
-        short = rw e at s.short;
+        short = s.short;
         long = turn_long m work list input out kept v list' input' out' l p o;
         same_index = i ∙ v.same_index;
         same_work = w ∙ v.same_work;
@@ -120,7 +83,7 @@ module _ (m₀ work₀ list₀ input₀ out₀ : List ℕ) where
     pub turns_over : Claimed (lent m₀ work₀ list₀) (lent m work list)
     turns_over = served_claimed _ _ v.served f
 
-    module _ (m' work' list' : List ℕ) (t : Turn) (s : TurnServed (lent m work list) (lent m' work' list') t) where
+    module _ (m' work' list' : List ℕ) (t : Result (Option ℕ) Failed) (s : TurnServed (lent m work list) (lent m' work' list') t) where
       pub turn_failed : Claimed (lent m₀ work₀ list₀) (lent m' work' list')
       turn_failed = served_claimed _ _ (then_served _ _ _ v.served s.served) f
 

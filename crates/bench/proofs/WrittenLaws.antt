@@ -1,6 +1,6 @@
 -- What is written one after another, and what is taken from a reader one after another.
-use Rattle.std.proofs.Common.{ℕ, min, ◌≤◌, ◌-◌, ◌+◌, List, [], ◌++◌, ◌≡◌, None, Some, length, take, drop, refl, sym, ap, ◌∙◌, subst, append_assoc, append-nil, arith, take-append-drop}
-use Rattle.std.proofs.lemmas.List.{take-take, drop-take, length-take}
+use Rattle.std.proofs.Common.{ℕ, ◌-◌, List, [], ◌++◌, ◌≡◌, None, Some, length, take, drop, refl, sym, ap, ◌∙◌, subst, append_assoc, append-nil, arith, take-append-drop}
+use Rattle.std.proofs.lemmas.List.{length-drop, take_all}
 use Rattle.std.specs.Io.KnownBytes.{Appends, Consumes, Keeps}
 use Rattle.std.specs.declared.option.Option.{Option}
 use Rattle.bench.specs.Written.{StartWritten}
@@ -53,66 +53,41 @@ start_on a b d s t p q = record {
   appended = appends_on a b d s q.done p q.appended;
 }
 
--- the first bytes of a list in two parts
-pub bytes_parts : (out : List ℕ) (done n : ℕ) → done ≤ n → take n out ≡ take done out ++ take (n - done) (drop done out)
-bytes_parts out done n h =
-    let e : n ≡ done + (n - done) = omega arith in
-    let a : take done (take n out) ≡ take done out = take-take done n out h in
-    let b : drop done (take n out) ≡ take (n - done) (drop done out) =
-    ap (λ (k : ℕ). drop done (take k out)) e ∙ drop-take done (n - done) out in
-    sym (take-append-drop done (take n out)) ∙ ap (λ (l : List ℕ). l ++ drop done (take n out)) a ∙ ap (λ (l : List ℕ). take done out ++ l) b
-
--- a write behind the first bytes
-pub bytes_on : (a b d : Option (List ℕ)) (out : List ℕ) (done n put : ℕ) → done ≤ n → put ≤ n - done
-    → Appends a b (take done out) → Appends b d (take put (take (n - done) (drop done out))) → Appends a d (take (done + put) out)
-bytes_on a b d out done n put h k p q =
-    let e : (done + put) - done ≡ put = omega arith in
-    let f : take done out ++ take put (take (n - done) (drop done out)) ≡ take (done + put) out =
-    ap (λ (l : List ℕ). take done out ++ l) (take-take put (n - done) (drop done out) k ∙ ap (λ (j : ℕ). take j (drop done out)) (sym e))
-    ∙ sym (bytes_parts out done (done + put) (omega arith)) in
-    subst (λ (l : List ℕ). Appends a d l) f (appends_on a b d _ _ p q)
-
 pub appends_none : (b d : Option (List ℕ)) → Appends b d [] → Keeps b d
 appends_none None d p = tt
 appends_none (Some x) None p = absurd p
 appends_none (Some x) (Some y) p = p ∙ append-nil x
 
--- one write more
-pub record Put (a d : Option (List ℕ)) (out : List ℕ) (n done : ℕ) : Type 0 where
-  pub few : done ≤ n
-  pub appended : Appends a d (take done out)
+-- What is written of the text, where the rest of it is still to be written.
+pub record Put (a d : Option (List ℕ)) (text rest : List ℕ) : Type 0 where
+  pub done : List ℕ
+  pub parts : text ≡ done ++ rest
+  pub appended : Appends a d done
 
-pub put_on : (a b d : Option (List ℕ)) (out : List ℕ) (n done put next : ℕ) → Put a b out n done
-    → next ≡ done + put → put ≤ length (take (n - done) (drop done out)) → Appends b d (take put (take (n - done) (drop done out))) → Put a d out n next
-put_on a b d out n done put next p e h q =
-    let l : length (take (n - done) (drop done out)) ≡ min (n - done) (length (drop done out)) = length-take (n - done) (drop done out) in
-    let k : put ≤ n - done = omega arith in
-    let f : done ≤ n = p.few in
+pub put_none : (a : Option (List ℕ)) (text : List ℕ) → Put a a text text
+put_none a text = record { done = []; parts = refl; appended = appends_nil a }
+
+-- one write more: what is behind the n bytes that it took is still to be written
+pub put_on : (a b d : Option (List ℕ)) (text rest : List ℕ) (n : ℕ) → Put a b text rest → Appends b d (take n rest)
+    → Put a d text (take (length rest - n) (drop n rest))
+put_on a b d text rest n p q =
+    let e : length (drop n rest) ≡ length rest - n = length-drop n rest in
+    let behind : take (length rest - n) (drop n rest) ≡ drop n rest = take_all _ _ (omega arith) in
     record {
-      few = omega arith;
-      appended = subst (λ (j : ℕ). Appends a d (take j out)) (sym e) (bytes_on a b d out done n put p.few k p.appended q);
+      done = p.done ++ take n rest;
+      parts = p.parts
+          ∙ ap (λ (l : List ℕ). p.done ++ l) (sym (ap (λ (l : List ℕ). take n rest ++ l) behind ∙ take-append-drop n rest))
+          ∙ sym (append_assoc p.done (take n rest) _);
+      appended = appends_on a b d p.done (take n rest) p.appended q;
     }
 
-pub put_kept : (a b d : Option (List ℕ)) (out : List ℕ) (n done next : ℕ) → Put a b out n done → next ≡ done → Keeps b d → Put a d out n next
-put_kept a b d out n done next p e k =
-    let f : done ≤ n = p.few in
-    record {
-      few = omega arith;
-      appended = subst (λ (j : ℕ). Appends a d (take j out)) (sym e) (appends_kept a b d (take done out) p.appended k);
-    }
+pub put_kept : (a b d : Option (List ℕ)) (text rest : List ℕ) → Put a b text rest → Keeps b d → Put a d text rest
+put_kept a b d text rest p k = record { done = p.done; parts = p.parts; appended = appends_kept a b d p.done p.appended k }
 
--- what was written of the first n bytes, where a write failed or took nothing, or where the turns are used up
-pub put_start : (a b d : Option (List ℕ)) (out : List ℕ) (n done : ℕ) → Put a b out n done → Keeps b d → StartWritten a d (take n out)
-put_start a b d out n done p k = record {
-  done = take done out;
-  rest = take (n - done) (drop done out);
-  parts = bytes_parts out done n p.few;
-  appended = appends_kept a b d (take done out) p.appended k;
-}
+-- what was written, where a write failed or took nothing, or where the turns are used up
+pub put_start : (a b : Option (List ℕ)) (text rest : List ℕ) → Put a b text rest → StartWritten a b text
+put_start a b text rest p = record { done = p.done; rest = rest; parts = p.parts; appended = p.appended }
 
--- all of them, where no more are left
-pub put_all : (a b : Option (List ℕ)) (out : List ℕ) (n done : ℕ) → Put a b out n done → n ≤ done → Appends a b (take n out)
-put_all a b out n done p h =
-    let f : done ≤ n = p.few in
-    let e : done ≡ n = omega arith in
-    subst (λ (j : ℕ). Appends a b (take j out)) e p.appended
+-- all of it, where none is left
+pub put_all : (a b : Option (List ℕ)) (text : List ℕ) → Put a b text [] → Appends a b text
+put_all a b text p = subst (Appends a b) (sym (append-nil p.done) ∙ sym p.parts) p.appended

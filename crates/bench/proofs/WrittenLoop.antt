@@ -1,16 +1,14 @@
 -- The loop that answers and writes, and the loop over the turns, with what they write and take.
-use Rattle.std.proofs.Common.{ℕ, ◌≤◌, ◌<◌, ◌-◌, ◌+◌, ◌*◌, Bool, true, List, [], ◌≡◌, length, take, drop, refl, sym, ap, ◌∙◌, subst}
-use native.Mathlib.Nat.{sub-zero}
+use Rattle.std.proofs.Common.{ℕ, ◌≤◌, ◌<◌, ◌+◌, ◌*◌, true, List, [], ◌≡◌, length, take, drop, sym, ap, ◌∙◌}
 use Rattle.std.specs.Io.KnownBytes.{Appends}
 use Rattle.std.specs.declared.option.Option.{Option}
 use Rattle.line_program.specs.declared.stream.Progress.{Progress}
+use Rattle.commands.specs.declared.output.Output.{Output}
 use Rattle.line_program.specs.Response.{lent, Responded}
 use Rattle.line_program.specs.Stream.{LinesAnswered, Kept}
-use Rattle.bench.specs.declared.Rest.{Rest}
-use Rattle.bench.specs.declared.Rest.TheVariants as R
-use Rattle.bench.specs.declared.Turn.TheVariants as T
-use Rattle.bench.specs.Served.{Taken}
-use Rattle.bench.specs.Written.{StartWritten, Begun, AllWritten, FirstWritten, LastWritten}
+use Rattle.std.specs.Prelude.{Result, Ok, Err, IsErr, OnOk, ⊤}
+use Rattle.bench.specs.declared.streams.Failed.{Failed}
+use Rattle.bench.specs.Written.{StartWritten, AllWritten, FirstWritten, LastWritten}
 use Rattle.bench.proofs.ServedLaws.{none_last, last_served}
 use Rattle.bench.proofs.TurnLoop.{drop_take}
 use Rattle.bench.proofs.AnswerLoop.{AllAnswered, all_start, all_again, on, read_on}
@@ -38,9 +36,10 @@ module _ (input m₀ work₀ list₀ out₀ : List ℕ) (held : Option (List ℕ
     }
 
     -- the answers could not be written
-    pub put_failed_all : StartWritten held' held'' (take r.written out')
-        → AllWritten input held held'' (lent m₀ work₀ list₀) (lent m' work' list') R.Failed
-    put_failed_all p = record {
+    pub put_failed_all : (q : Result ℕ Failed) → IsErr q → StartWritten held' held'' (take r.written out')
+        → AllWritten input held held'' (lent m₀ work₀ list₀) (lent m' work' list') q
+    put_failed_all (Ok _) h p = cc
+    put_failed_all (Err _) h p = record {
       answered = record { within = tt; served = on input m₀ work₀ list₀ out₀ m work list out from v.all m' work' list' out' r d; taken = tt };
       begun = record { rest = drop r.next input; read = read_on input m₀ work₀ list₀ out₀ m work list out from v.all m' work' list' out' r d };
       written = start_on held held' held'' v.all.served.text (take r.written out') v.written p;
@@ -48,7 +47,7 @@ module _ (input m₀ work₀ list₀ out₀ : List ℕ) (held : Option (List ℕ
 
     -- no whole line is left
     pub put_done_all : (n : ℕ) → n ≡ r.next → r.done ≡ true → Appends held' held'' (take r.written out')
-        → AllWritten input held held'' (lent m₀ work₀ list₀) (lent m' work' list') (R.From n)
+        → AllWritten input held held'' (lent m₀ work₀ list₀) (lent m' work' list') (Ok n)
     put_done_all n e f p = rw e (record {
       answered = record {
         within = d.within;
@@ -61,55 +60,45 @@ module _ (input m₀ work₀ list₀ out₀ : List ℕ) (held : Option (List ℕ
 
 -- the whole lines of the first bytes were answered and written, and the rest is kept
 module _ (held held' : Option (List ℕ)) (m work list : List ℕ) (to : ℕ) (input m' work' list' : List ℕ) where
-  pub first_failed : (r : Rest) (input' : List ℕ) → r ≡ R.Failed → AllWritten (take (to - 0) (drop 0 input)) held held' (lent m work list) (lent m' work' list') r
-      → FirstWritten (take to input) input' held held' (lent m work list) (lent m' work' list') T.Failed
-  first_failed r input' e w =
-      let v : AllWritten (take (to - 0) (drop 0 input)) held held' (lent m work list) (lent m' work' list') R.Failed =
-      subst (AllWritten (take (to - 0) (drop 0 input)) held held' (lent m work list) (lent m' work' list')) e w in
-      let z : take (to - 0) input ≡ take to input = rw (sub-zero to) refl in
-      record {
-        answered = record { short = tt; served = v.answered.served; kept = tt };
-        begun = subst (λ (l : List ℕ). Begun l v.answered.served.commands) z v.begun;
-        written = v.written;
-      }
+  pub first_failed : (e : Failed) (q : Result ℕ Failed) (input' : List ℕ) → IsErr q
+      → AllWritten (take to input) held held' (lent m work list) (lent m' work' list') (Err e)
+      → FirstWritten (take to input) input' held held' (lent m work list) (lent m' work' list') q
+  first_failed e (Ok _) input' h v = cc
+  first_failed e (Err _) input' h v =
+      record { answered = record { short = tt; served = v.answered.served; kept = tt }; begun = v.begun; written = v.written }
 
-  pub first_kept : (r : Rest) (input' : List ℕ) (from k : ℕ) → r ≡ R.From from
-      → AllWritten (take (to - 0) (drop 0 input)) held held' (lent m work list) (lent m' work' list') r → Kept input from to input' k
-      → FirstWritten (take to input) input' held held' (lent m work list) (lent m' work' list') (T.Kept k)
-  first_kept r input' from k e w h =
-      let v : AllWritten (take (to - 0) (drop 0 input)) held held' (lent m work list) (lent m' work' list') (R.From from) =
-      subst (AllWritten (take (to - 0) (drop 0 input)) held held' (lent m work list) (lent m' work' list')) e w in
-      let z : take (to - 0) input ≡ take to input = rw (sub-zero to) refl in
-      record {
-        answered = record {
-          short = h.few;
-          served = v.answered.served;
-          kept = record {
-            rest = drop from (take to input);
-            taken = subst (λ (l : List ℕ). Taken l v.answered.served.commands (drop from l)) z v.answered.taken;
-            kept_is = h.bytes ∙ ap (take 81) (sym (drop_take from to input));
-          };
-        };
-        begun = subst (λ (l : List ℕ). Begun l v.answered.served.commands) z v.begun;
-        written = v.written;
-      }
+  pub first_kept : (input' : List ℕ) (from k : ℕ) → AllWritten (take to input) held held' (lent m work list) (lent m' work' list') (Ok from)
+      → Kept input from to input' k → FirstWritten (take to input) input' held held' (lent m work list) (lent m' work' list') (Ok k)
+  first_kept input' from k v h = record {
+    answered = record {
+      short = h.few;
+      served = v.answered.served;
+      kept = record {
+        rest = drop from (take to input);
+        taken = v.answered.taken;
+        kept_is = h.bytes ∙ ap (take 81) (sym (drop_take from to input));
+      };
+    };
+    begun = v.begun;
+    written = v.written;
+  }
 
 -- the last line was answered and written
 module _ (held : Option (List ℕ)) (input m work list : List ℕ) (kept : ℕ) where
-  pub last_none : kept ≡ 0 → LastWritten (take kept input) held held (lent m work list) (lent m work list) true
+  pub last_none : kept ≡ 0 → LastWritten (take kept input) held held (lent m work list) (lent m work list) (Ok tt)
   last_none e = rw e (record {
     answered = none_last m work list;
     start = start_all held held [] (appends_nil held);
-    all = λ _. appends_nil held;
+    all = appends_nil held;
   })
 
-  pub last_put : (held' : Option (List ℕ)) (out m' work' list' out' : List ℕ) (next : ℕ) (whole : Bool)
-      → Responded (take (kept - 0) (drop 0 input)) (lent m work list) (lent m' work' list') out 0 out' next
+  pub last_put : (held' : Option (List ℕ)) (m' work' list' : List ℕ) (out out' : Output) (at_exit : List ℕ) (r : Result ⊤ Failed) → out.at ≡ 0
+      → Responded (take kept input) (lent m work list) (lent m' work' list') out out' → at_exit ≡ out'.bytes.now
       → (kept ≡ 0 → ⊥) → kept ≤ 81 → 81 < length input
-      → StartWritten held held' (take next out') → (whole ≡ true → Appends held held' (take next out'))
-      → LastWritten (take kept input) held held' (lent m work list) (lent m' work' list') whole
-  last_put held' out m' work' list' out' next whole d n k l s all = record {
-    answered = last_served input m work list out m' work' list' out' kept next d n k l;
-    start = s;
-    all = all;
+      → StartWritten held held' (take out'.at at_exit) → OnOk r (Appends held held' (take out'.at at_exit))
+      → LastWritten (take kept input) held held' (lent m work list) (lent m' work' list') r
+  last_put held' m' work' list' out out' at_exit r z d q n k l s all = record {
+    answered = last_served input m work list m' work' list' out out' kept z d n k l;
+    start = rw q at s;
+    all = rw q at all;
   }

@@ -8,11 +8,12 @@ use Rattle.commands.specs.declared.parsing.Command.{Command}
 use Rattle.line_program.specs.Response.{lent}
 use Rattle.line_program.specs.Stream.{OnePiece, commands_of}
 use Rattle.line_program.proofs.StreamLaws.{piece_start, rest_kept}
-use Rattle.bench.specs.declared.Turn.{Turn}
-use Rattle.bench.specs.declared.Turn.TheVariants as T
-use Rattle.bench.specs.Served.{KeptIn, KeptOf}
-use Rattle.bench.specs.Written.{StartWritten, Begun, BegunFrom, WrittenIn, TakenFrom, TakenIn, FirstWritten, TurnWritten}
-use Rattle.bench.proofs.TurnLoop.{read_failed, read_ended, read_served}
+use Rattle.std.specs.Prelude.{Result, Ok, Err, IsErr}
+use Rattle.bench.specs.declared.streams.Failed.{Failed}
+use Rattle.bench.specs.Served.{KeptOf}
+use Rattle.bench.specs.Written.{StartWritten, Begun, BegunFrom, TakenFrom, FirstWritten, TurnWritten}
+use Rattle.bench.proofs.ServedLaws.{none_served}
+use Rattle.bench.proofs.TurnLoop.{read_ended, read_served}
 use Rattle.bench.proofs.WrittenLaws.{appends_nil, start_none}
 
 -- no command, and those of the bytes read behind the bytes kept
@@ -21,7 +22,7 @@ begun_none None before = tt
 begun_none (Some x) before =
     (commands_of (before ++ x), refl)
 
-begun_on : (left left' : Option (List ℕ)) (before new bytes : List ℕ) (cs : List Command) → Consumes left left' new → bytes ≡ before ++ new
+begun_on : (left left' : Option (List ℕ)) (before new bytes : List ℕ) (cs : List (Option Command)) → Consumes left left' new → bytes ≡ before ++ new
     → Begun bytes cs → BegunFrom left before cs
 begun_on None left' before new bytes cs h e b = tt
 begun_on (Some x) None before new bytes cs h e b = absurd h
@@ -34,10 +35,11 @@ begun_on (Some x) (Some y) before new bytes cs h e b = (
 )
 
 -- nothing was read
-pub none_read : (left left' held held' : Option (List ℕ)) (kept : ℕ) (input input' m work list : List ℕ) → held' ≡ held
-    → TurnWritten left left' held held' kept input input' (lent m work list) (lent m work list) T.Failed
-none_read left left' held held' kept input input' m work list e =
-    record { answered = read_failed m work list; taken = begun_none left (take kept input); written = subst (λ (h : Option (List ℕ)). StartWritten held h []) (sym e) (start_none held []) }
+pub none_read : (left left' held held' : Option (List ℕ)) (kept : ℕ) (input input' m work list : List ℕ) (q : Result (Option ℕ) Failed) → IsErr q → held' ≡ held
+    → TurnWritten left left' held held' kept input input' (lent m work list) (lent m work list) q
+none_read left left' held held' kept input input' m work list (Ok _) h e = cc
+none_read left left' held held' kept input input' m work list (Err f) h e =
+    record { answered = record { short = tt; served = none_served m work list }; taken = begun_none left (take kept input); written = subst (λ (h : Option (List ℕ)). StartWritten held h []) (sym e) (start_none held []) }
 
 taken_none : (left left' : Option (List ℕ)) (before : List ℕ) → Consumes left left' [] → TakenFrom left left' before before []
 taken_none None left' before h = tt
@@ -53,7 +55,7 @@ first_stand kept input behind h =
 -- the input ended
 pub end_read : (left left' held held' : Option (List ℕ)) (kept : ℕ) (input behind m work list : List ℕ) → held' ≡ held → kept ≤ length input
     → Consumes left left' [] → IsAtEnd left'
-    → TurnWritten left left' held held' kept input (take kept input ++ behind) (lent m work list) (lent m work list) T.End
+    → TurnWritten left left' held held' kept input (take kept input ++ behind) (lent m work list) (lent m work list) (Ok None)
 end_read left left' held held' kept input behind m work list e h r z = record {
   answered = read_ended m work list;
   taken = (taken_none left left' (take kept input) r, z, first_stand kept input behind h);
@@ -69,7 +71,7 @@ read_bytes kept n input buf behind h l =
     ∙ take-append-add (take kept input) (buf ++ behind) n
     ∙ ap (λ (s : List ℕ). take kept input ++ s) (take-append-le n buf behind l)
 
-taken_kept : (left left' : Option (List ℕ)) (before new bytes kept : List ℕ) (cs : List Command) → Consumes left left' new → bytes ≡ before ++ new
+taken_kept : (left left' : Option (List ℕ)) (before new bytes kept : List ℕ) (cs : List (Option Command)) → Consumes left left' new → bytes ≡ before ++ new
     → KeptOf bytes cs kept → TakenFrom left left' before kept cs
 taken_kept None left' before new bytes kept cs h e k = tt
 taken_kept (Some x) None before new bytes kept cs h e k = absurd h
@@ -78,26 +80,34 @@ taken_kept (Some x) (Some y) before new bytes kept cs h e k =
     ∙ ap commands_of (sym (append_assoc before new y))
     ∙ ap (λ (l : List ℕ). commands_of (l ++ y)) (sym e)
     ∙ k.taken.read y
-    ∙ ap (λ (l : List Command). cs ++ l) (sym (rest_kept k.rest y k.taken.piece) ∙ ap (λ (l : List ℕ). commands_of (l ++ y)) (sym k.kept_is))
-
-taken_in : (left left' : Option (List ℕ)) (kept : ℕ) (input new bytes input' : List ℕ) (cs : List Command) (t : Turn) → Consumes left left' new
-    → bytes ≡ take kept input ++ new → KeptIn bytes cs input' t → Begun bytes cs → TakenIn left left' kept input input' cs t
-taken_in left left' kept input new bytes input' cs (T.Kept k) h e v b =
-    (taken_kept left left' (take kept input) new bytes (take k input') cs h e v, subst OnePiece (sym v.kept_is) (piece_start 81 v.rest v.taken.piece))
-taken_in left left' kept input new bytes input' cs T.End h e v b = absurd v
-taken_in left left' kept input new bytes input' cs T.Failed h e v b = begun_on left left' (take kept input) new bytes cs h e b
+    ∙ ap (λ (l : List (Option Command)). cs ++ l) (sym (rest_kept k.rest y k.taken.piece) ∙ ap (λ (l : List ℕ). commands_of (l ++ y)) (sym k.kept_is))
 
 -- the lines that were whole after a read
-pub lines_read : (left left' left'' held held' held'' : Option (List ℕ)) (kept n to : ℕ) (input buf behind input' m work list m' work' list' : List ℕ) (t : Turn)
-    → to ≡ kept + n → kept ≤ length input → n ≤ length buf → Consumes left left' (take n buf) → left'' ≡ left' → held' ≡ held
-    → FirstWritten (take to (take kept input ++ (buf ++ behind))) input' held' held'' (lent m work list) (lent m' work' list') t
-    → TurnWritten left left'' held held'' kept input input' (lent m work list) (lent m' work' list') t
-lines_read left left' left'' held held' held'' kept n to input buf behind input' m work list m' work' list' t e h l r s p v =
-    let b : take to (take kept input ++ (buf ++ behind)) ≡ take kept input ++ take n buf =
-    ap (λ (k : ℕ). take k (take kept input ++ (buf ++ behind))) e ∙ read_bytes kept n input buf behind h l in
-    record {
-      answered = read_served m work list _ input' m' work' list' t v.answered;
-      taken = subst (λ (o : Option (List ℕ)). TakenIn left o kept input input' v.answered.served.commands t) (sym s)
-          (taken_in left left' kept input (take n buf) _ input' v.answered.served.commands t r b v.answered.kept v.begun);
-      written = subst (λ (o : Option (List ℕ)). WrittenIn o held'' v.answered.served.text t) p v.written;
-    }
+module _ (left left' left'' held held' held'' : Option (List ℕ)) (kept n to : ℕ) (input buf behind input' m work list m' work' list' : List ℕ)
+    (e : to ≡ kept + n) (h : kept ≤ length input) (l : n ≤ length buf) (r : Consumes left left' (take n buf)) (s : left'' ≡ left') (p : held' ≡ held) where
+  bytes : take to (take kept input ++ (buf ++ behind)) ≡ take kept input ++ take n buf
+  bytes = ap (λ (k : ℕ). take k (take kept input ++ (buf ++ behind))) e ∙ read_bytes kept n input buf behind h l
+
+  pub lines_read : (k : ℕ) → FirstWritten (take to (take kept input ++ (buf ++ behind))) input' held' held'' (lent m work list) (lent m' work' list') (Ok k)
+      → TurnWritten left left'' held held'' kept input input' (lent m work list) (lent m' work' list') (Ok (Some k))
+  lines_read k v =
+      let o = v.answered.kept in
+      record {
+        answered = read_served m work list _ input' m' work' list' k v.answered;
+        taken = (
+          subst (λ (x : Option (List ℕ)). TakenFrom left x (take kept input) (take k input') v.answered.served.commands) (sym s)
+              (taken_kept left left' (take kept input) (take n buf) _ (take k input') v.answered.served.commands r bytes o),
+          subst OnePiece (sym o.kept_is) (piece_start 81 o.rest o.taken.piece),
+        );
+        written = subst (λ (x : Option (List ℕ)). Appends x held'' v.answered.served.text) p v.written;
+      }
+
+  pub lines_failed : (f : Failed) (q : Result (Option ℕ) Failed) → IsErr q
+      → FirstWritten (take to (take kept input ++ (buf ++ behind))) input' held' held'' (lent m work list) (lent m' work' list') (Err f)
+      → TurnWritten left left'' held held'' kept input input' (lent m work list) (lent m' work' list') q
+  lines_failed f (Ok _) i v = cc
+  lines_failed f (Err _) i v = record {
+    answered = record { short = tt; served = v.answered.served };
+    taken = begun_on left left' (take kept input) (take n buf) _ v.answered.served.commands r bytes v.begun;
+    written = subst (λ (x : Option (List ℕ)). StartWritten x held'' v.answered.served.text) p v.written;
+  }

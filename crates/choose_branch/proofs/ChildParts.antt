@@ -4,25 +4,18 @@ use mathlib.Core.Path.{◌≡◌, sym, ap, ◌∙◌}
 use mathlib.Core.List.{List, [], ◌∷◌}
 use native.Mathlib.Omega.{arith}
 use native.Mathlib.Numerals.{add-one}
-use lib.ListN.{length, drop, get_or, drop_of_length-le, get_or-map}
+use lib.ListN.{length, drop, get_or, drop_of_length-le, get_or-map, length-map}
 use lib.Seq.{drop-cons, get_or-drop}
-use Rattle.geometry.specs.declared.polygon.Polygon.{Polygon}
-use Rattle.geometry.specs.Numbers.{rects_in, PolygonOf}
-use Rattle.memory.specs.Layout.{part, rect_count, polygon_in, children_in, rect_numbers}
-use Rattle.layout.specs.declared.node.Node.{Node}
-use Rattle.layout.specs.Loaded.{node_in, node_child}
+use Rattle.geometry.specs.declared.rect.Rect.{Rect}
+use Rattle.geometry.proofs.NumberLaws.{length_rects}
+use Rattle.memory.specs.Layout.{part, polygon_in, children_in}
 use Rattle.layout.specs.Nodes.{count_at, child_at, PolygonPart}
-use Rattle.layout.proofs.NodeLaws.{lent_polygon, child_in_lem}
-use Rattle.layout.proofs.LoadedLaws.{count_at_lem, child_at_lem}
+use Rattle.layout.proofs.NodeLaws.{child_in_lem}
 use Rattle.choose_branch.specs.Branches.{polygons_in, Branches}
 
--- the polygon loaded from the part p of a node, by its rectangles r and their count n
-module _ (m : List ℕ) (k : ℕ) (p r : List ℕ) (n : ℕ) (e : p ≡ part m k) (f : r ≡ rect_numbers p) (g : n ≡ rect_count p) where
-  pub loaded : (q : Polygon) → PolygonOf (rects_in r n) q → PolygonOf (polygon_in (part m k)) q
-  loaded q v = rw (← (lent_polygon m k p r n e f g)) v
-
-  pub count_few : PolygonPart m k → n ≤ 16
-  count_few v = rw (g, e) v.few_rects
+-- the rectangles of a node's polygon are few enough
+pub rects_few : (m : List ℕ) (k : ℕ) (r : List Rect) → PolygonPart m k → r ≡ polygon_in (part m k) → length r ≤ 16
+rects_few m k r v e = rw (e, length_rects) v.few_rects
 
 module _ (m : List ℕ) (k : ℕ) (v : Branches m k) where
   module _ (i : ℕ) (h : i < count_at m k) where
@@ -53,22 +46,20 @@ module _ (m : List ℕ) (k : ℕ) (v : Branches m k) where
       let s : length (polygons_in m k) ≤ i = omega arith in
       drop_of_length-le (polygons_in m k) s
 
--- the children of the node as it was loaded, up to one of them
-module _ (m : List ℕ) (k : ℕ) (v : Branches m k) (node : Node) (q : node ≡ node_in (part m k)) where
-  module _ (to : ℕ) (l : to ≤ count_at m k) (i : ℕ) (h : i < to) where
-    pub branch_nine : i < 9
-    branch_nine = let f = v.few in omega arith
+-- the children ks of the node, as they are lent
+module _ (m : List ℕ) (k : ℕ) (v : Branches m k) (ks : List ℕ) (q : ks ≡ children_in (part m k)) where
+  pub children_here : length ks ≡ count_at m k
+  unfolding polygons_in
+  children_here =
+      let c = v.count in
+      let l : length (polygons_in m k) ≡ length ks = simp length-map (ap length (sym q)) in
+      omega arith
 
-    pub branch_child : (j : ℕ) → j ≡ node_child node i → j ≡ child_at m k i
-    branch_child j e = let f = v.few in child_at_lem m k node q i j (omega arith) e
+  module _ (i : ℕ) (h : i < length ks) where
+    pub child_here : get_or ks i 0 ≡ child_at m k i
+    child_here =
+        let c = children_here in
+        ap (λ l. get_or l i 0) q ∙ child_in_lem (part m k) i (omega arith)
 
-  -- up to the last
-  module _ (i : ℕ) (h : i < node.count) where
-    each_below : i < count_at m k
-    each_below = let c = count_at_lem m k node q in omega arith
-
-    pub each_nine : i < 9
-    each_nine = let f = v.few in let g = each_below in omega arith
-
-    pub each_child : (j : ℕ) → j ≡ node_child node i → j ≡ child_at m k i
-    each_child j e = let f = v.few in let g = each_below in child_at_lem m k node q i j (omega arith) e
+    pub polygon_here : PolygonPart m (get_or ks i 0)
+    polygon_here = let c = children_here in rw child_here (v.good i (omega arith)).polygon

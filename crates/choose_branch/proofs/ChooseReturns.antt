@@ -7,14 +7,13 @@ use mathlib.Core.Option.{none, some, bind}
 use native.Mathlib.Omega.{arith}
 use native.Mathlib.Numerals.{add-one}
 use lib.ListN.{length, take, drop, get_or}
-use lib.Seq.{split_at, length-take-le, take_all}
-use Rattle.polygons.specs.Lists.{first_place}
-use Rattle.polygons.proofs.PlaceLaws.{place_passes}
+use lib.Seq.{split_at, length-take-le}
+use Rattle.std.proofs.Common.{Some, None, Result, Ok, Err, IsErr}
+use Rattle.std.specs.List.{position}
+use Rattle.std.proofs.lemmas.List.Quantifiers.{position-Some}
 use Rattle.geometry.specs.declared.rect.Cell.{Cell}
 use Rattle.geometry.specs.declared.rect.Rect.{Rect}
 use Rattle.geometry.specs.declared.polygon.Polygon.{Polygon}
-use Rattle.geometry.specs.declared.cut.Count.{Count}
-use Rattle.geometry.specs.declared.cut.Count.TheVariants.{Rects, Over}
 use Rattle.geometry.specs.Numbers.{rects_in, rects_of, counted, Written, PolygonOf}
 use Rattle.geometry.proofs.NumberLaws.{length_rects}
 use Rattle.area.specs.Removed.{removed}
@@ -26,17 +25,17 @@ use Rattle.plane.specs.Fanout.{fanout, index_space}
 use Rattle.memory.specs.Layout.{part, polygon_in}
 use Rattle.layout.specs.Nodes.{count_at, child_at, PolygonPart}
 use Rattle.walks.specs.Walks.{has_test}
-use Rattle.choose_branch.specs.declared.choosing.Taken.TheVariants as B
+use Rattle.choose_branch.specs.declared.choosing.Choice.{Choice}
+use Rattle.geometry.specs.declared.cut.TooMany.{TooMany}
 use Rattle.choose_branch.specs.declared.least.Least.{Least}
-use Rattle.choose_branch.specs.declared.pieces.Grown.{Grown}
 use Rattle.choose_branch.specs.Branches.{polygons_in, Branches}
-use Rattle.choose_branch.specs.Choose.{ChosenBranch, ChosenAt, NoneChosen}
+use Rattle.choose_branch.specs.Choose.{ChosenBranch, ChosenAt, ChoiceIs}
 use Rattle.choose_branch.specs.Least.{least_all}
 use Rattle.choose_branch.specs.Pieces.{siblings, grown_at, grown_rect}
 use Rattle.choose_branch.specs.Removed.{RemovedBy, RemovedAt}
 use Rattle.choose_branch.proofs.ChildParts.{next_polygon, child_polygon, polygon_there}
 use Rattle.choose_branch.proofs.ReadBranches.{polygons_read}
-use Rattle.choose_branch.proofs.FirstLoop.{none_before}
+use Rattle.choose_branch.proofs.FirstLoop.{none_passes, none_before}
 use Rattle.choose_branch.proofs.LeastLaws.{FoundLeast, least_first}
 use Rattle.choose_branch.proofs.PieceLaws.{grown_few}
 use Rattle.choose_branch.proofs.ChooseLaws.{BranchAt, branch_at, choose_has, choose_grown, removed_has, removed_grown, place_below, polygon_at, rect_below}
@@ -53,57 +52,54 @@ chosen_branch n b p c i before after x q s e = record {
   chosen = rw (add-one i) e;
 }
 
--- one of the x branches, at part j
-pub has_polygon : (m : List ℕ) (k x place j : ℕ) → Branches m k → x ≡ count_at m k → place < x → j ≡ child_at m k place → PolygonPart m j
-has_polygon m k x place j v y h o = child_polygon m k v place j (rw y at h) o
+-- the place of the first branch that has the cell
+module _ (m : List ℕ) (k : ℕ) (c : Cell) (v : Branches m k) (place : ℕ) (e : Some place ≡ position (has_test c) (polygons_in m k)) where
+  place_inside : place < length (polygons_in m k)
+  place_inside = (position-Some (has_test c) (polygons_in m k) place [] (sym e)).0
 
-module _ (m : List ℕ) (k : ℕ) (p : List Rect) (c : Cell) (v : Branches m k) where
-  -- the first of the x branches that has the cell, at part j
-  pub has_way : (x place j : ℕ) (q : Polygon) → x ≡ count_at m k → place ≡ first_place (has_test c) (polygons_in m k) → place < x
-      → j ≡ child_at m k place → PolygonOf (polygon_in (part m j)) q → ChosenAt m k p c place q
-  has_way x place j q y e h o w = record { few = w.fits; each = λ n lo b r. one n b (polygons_read n m lo k b r) }
+  first_has : has_test c (get_or (polygons_in m k) place []) ≡ true
+  first_has = (position-Some (has_test c) (polygons_in m k) place [] (sym e)).1
+
+  pub has_counted : place < count_at m k
+  has_counted = let l = place_inside in let z = v.count in omega arith
+
+  pub has_few : place < 8
+  has_few = let l = has_counted in let f = v.few in omega arith
+
+  pub has_polygon : (j : ℕ) → j ≡ child_at m k place → PolygonPart m j
+  has_polygon j o = child_polygon m k v place j has_counted o
+
+  -- the branch there in the row of a reading
+  module _ (n : ℕ) (b : Item index_space (suc (suc n))) (r : map (λ x. x.poly) b.child ≡ polygons_in m k) where
+    first_at : BranchAt b.child place (take place (polygons_in m k)) (get_or (polygons_in m k) place []) (drop (suc place) (polygons_in m k))
+    first_at =
+        let ps = polygons_in m k in
+        let l = place_inside in
+        subst (λ (i : ℕ). BranchAt b.child i (take place ps) (get_or ps place []) (drop (suc place) ps)) (length-take-le place ps (omega arith))
+        (branch_at b.child (take place ps) (get_or ps place []) (drop (suc place) ps) (r ∙ split_at ps place [] l))
+
+  pub has_way : (p : List Rect) (j : ℕ) (q : Polygon) → j ≡ child_at m k place → PolygonOf (polygon_in (part m j)) q → ChosenAt m k p c place q
+  has_way p j q o w = record { few = w.fits; each = λ n lo b r. one n b (polygons_read n m lo k b r) }
     where
       one : (n : ℕ) (b : Item index_space (suc (suc n))) → map (λ x. x.poly) b.child ≡ polygons_in m k → ChosenBranch n b p c place (rects_of q)
       one n b r =
           let ps = polygons_in m k in
-          let l : place < length ps = let z = v.count in omega arith in
-          let at : get_or ps place [] ≡ rects_of q = polygon_there m k v place j (rw y at h) o ∙ sym w.list in
-          let len : length (take place ps) ≡ place = length-take-le place ps (omega arith) in
-          let none_has : All (λ x. has_test c x ≡ false) (take place ps) = rw e (none_before (has_test c) ps) in
-          let has : has_test c (get_or ps place []) ≡ true = rw e (place_passes (has_test c) ps [] (rw (← e) l)) in
-          let s : BranchAt b.child place (take place ps) (get_or ps place []) (drop (suc place) ps) =
-          subst (λ (i : ℕ). BranchAt b.child i (take place ps) (get_or ps place []) (drop (suc place) ps)) len
-          (branch_at b.child (take place ps) (get_or ps place []) (drop (suc place) ps) (r ∙ split_at ps place [] l)) in
+          let l = place_inside in
+          let at : get_or ps place [] ≡ rects_of q = polygon_there m k v place j has_counted o ∙ sym w.list in
+          let none_has : All (λ x. has_test c x ≡ false) (take place ps) =
+          none_before (has_test c) ps place [] (position-Some (has_test c) ps place [] (sym e)).2 (omega arith) in
           subst (λ (x : List Rect). ChosenBranch n b p c place x) at
-          (chosen_branch n b p c place (take place ps) (drop (suc place) ps) (get_or ps place []) (get_or ps place []) s
-          (choose_has p c b.child place (take place ps) (drop (suc place) ps) (get_or ps place []) s none_has has))
+          (chosen_branch n b p c place (take place ps) (drop (suc place) ps) (get_or ps place []) (get_or ps place []) (first_at n b r)
+          (choose_has p c b.child place (take place ps) (drop (suc place) ps) (get_or ps place []) (first_at n b r) none_has first_has))
 
   -- then no cell is removed
-  pub has_removed : (x place : ℕ) (q : Polygon) → x ≡ count_at m k → place ≡ first_place (has_test c) (polygons_in m k)
-      → place < x
-      → RemovedAt m k c (record { taken = B.Branch place; polygon = q; removed = 0 })
-  has_removed x place q y e h = record {
-    is = λ i z n lo b r. sym (one n b (polygons_read n m lo k b r));
-    small = omega arith;
-  }
-    where
-      one : (n : ℕ) (b : Item index_space (suc (suc n))) → map (λ x. x.poly) b.child ≡ polygons_in m k
-          → tree_removed (plane fanout) b.child c ≡ 0
-      one n b r =
-          let ps = polygons_in m k in
-          let l : place < length ps = let z = v.count in omega arith in
-          let has : has_test c (get_or ps place []) ≡ true = rw e (place_passes (has_test c) ps [] (rw (← e) l)) in
-          let s = branch_at b.child (take place ps) (get_or ps place []) (drop (suc place) ps) (r ∙ split_at ps place [] l) in
-          removed_has p c b.child (length (take place ps)) (take place ps) (drop (suc place) ps)
-          (get_or ps place []) s has
-
-  -- step 2 refuses: the number means nothing
-  pub over_removed : (q : Polygon) → RemovedAt m k c (record { taken = B.Over; polygon = q; removed = 0 })
-  over_removed q = record {
-    is = λ i z n lo b r. let w : ◌≡◌ {A = ℕ} 0 1 = cc in absurd (omega arith);
+  pub has_removed : RemovedAt m k c 0
+  has_removed = record {
+    is = λ n lo b r. sym (removed_has [] c b.child place _ _ _ (first_at n b (polygons_read n m lo k b r)) first_has);
     small = omega arith;
   }
 
+module _ (m : List ℕ) (k : ℕ) (p : List Rect) (c : Cell) (v : Branches m k) where
   module _ (x : Least) (e : x ≡ least_all c (polygons_in m k)) where
     found : FoundLeast c (polygons_in m k) x
     found =
@@ -128,11 +124,9 @@ module _ (m : List ℕ) (k : ℕ) (p : List Rect) (c : Cell) (v : Branches m k) 
         let q : get_or (polygons_in m k) x.branch [] ≡ f.polygon = ap (λ i. get_or (polygons_in m k) i []) found.branch ∙ polygon_at c (polygons_in m k) _ f in
         rw q (omega arith)
 
-    module _ (h : first_place (has_test c) (polygons_in m k) ≡ count_at m k) where
+    module _ (h : position (has_test c) (polygons_in m k) ≡ None) where
       none_has : All (λ y. has_test c y ≡ false) (polygons_in m k)
-      none_has =
-          let z = v.count in
-          subst (λ (l : List (List Rect)). All (λ y. has_test c y ≡ false) l) (take_all (first_place (has_test c) (polygons_in m k)) (polygons_in m k) (omega arith)) (none_before (has_test c) (polygons_in m k))
+      none_has = none_passes (has_test c) (polygons_in m k) h
 
       -- what the choice among the branches gives, by the grown polygon
       module _ (n : ℕ) (b : Item index_space (suc (suc n))) (r : map (λ y. y.poly) b.child ≡ polygons_in m k) where
@@ -166,29 +160,30 @@ module _ (m : List ℕ) (k : ℕ) (p : List Rect) (c : Cell) (v : Branches m k) 
             rw found.branch (chosen_branch n b p c (length found.first.before) found.first.before found.first.after found.first.polygon q taken (choice ∙ rw w))
 
       -- the cells that the siblings of the grown one remove
-      pub grown_removed : (u : Grown)
-          → RemovedBy (grown_rect (polygons_in m k) x.branch x.rect c) (siblings (polygons_in m k) x.branch) u
-          → (n : ℕ) → u.count ≡ Rects n → (q : Polygon)
-          → RemovedAt m k c (record { taken = B.Branch x.branch; polygon = q; removed = u.removed })
-      grown_removed u z n o q = record {
-        is = λ i y j lo b r. z.is n o ∙ sym (one_removed j b (polygons_read j m lo k b r));
+      pub grown_removed : (cells : ℕ)
+          → RemovedBy (grown_rect (polygons_in m k) x.branch x.rect c) (siblings (polygons_in m k) x.branch) cells
+          → RemovedAt m k c cells
+      grown_removed cells z = record {
+        is = λ j lo b r. z.is ∙ sym (one_removed j b (polygons_read j m lo k b r));
         small = z.small;
       }
 
-      module _ (l₀ l : List ℕ) (a : Count) (w : Written l₀ (grown_at p (polygons_in m k) x.branch x.rect c) a l) where
-        pub over_way : a ≡ Over → NoneChosen m k p c
+      pub over_way : (l₀ l : List ℕ) (t : TooMany) → Written l₀ (grown_at p (polygons_in m k) x.branch x.rect c) (Err t) l
+          → (r : Result Choice TooMany) → IsErr r → ChoiceIs m k p c r
+      unfolding counted
+      over_way l₀ l t w (Ok y) i = absurd cc
+      over_way l₀ l t w (Err y) i =
+          let e : grown_at p (polygons_in m k) x.branch x.rect c ≡ none = sym w.list in
+          record { each = λ n lo b r. one_none n b (polygons_read n m lo k b r) e }
+
+      module _ (l₀ l : List ℕ) (n : ℕ) (w : Written l₀ (grown_at p (polygons_in m k) x.branch x.rect c) (Ok n) l)
+          (left : List Rect) (t : left ≡ rects_in l n) where
+        grown : grown_at p (polygons_in m k) x.branch x.rect c ≡ some left
         unfolding counted
-        over_way o =
-            let z : grown_at p (polygons_in m k) x.branch x.rect c ≡ none = sym w.list ∙ rw o in
-            record { each = λ n lo b r. one_none n b (polygons_read n m lo k b r) z }
+        grown = rw t (sym w.list)
 
-        module _ (n : ℕ) (o : a ≡ Rects n) where
-          grown : grown_at p (polygons_in m k) x.branch x.rect c ≡ some (rects_in l n)
-          unfolding counted
-          grown = sym w.list ∙ rw o
+        pub rects_few : length left ≤ 16
+        rects_few = grown_few p (polygons_in m k) x.branch x.rect c left grown
 
-          pub rects_few : n ≤ 16
-          rects_few = rw (length_rects l n) at (grown_few p (polygons_in m k) x.branch x.rect c (rects_in l n) grown)
-
-          pub grown_way : (q : Polygon) → PolygonOf (rects_in l n) q → ChosenAt m k p c x.branch q
-          grown_way q u = record { few = u.fits; each = λ i lo b r. one_some i b (polygons_read i m lo k b r) (rects_of q) (grown ∙ ap some (sym u.list)) }
+        pub grown_way : (q : Polygon) → PolygonOf left q → ChosenAt m k p c x.branch q
+        grown_way q u = record { few = u.fits; each = λ i lo b r. one_some i b (polygons_read i m lo k b r) (rects_of q) (grown ∙ ap some (sym u.list)) }

@@ -1,30 +1,30 @@
 -- The loop that looks for the first child whose polygon has the cell, and what its place says.
 use Prim.Native.Nat.{ℕ, zero, suc, ◌+◌, ◌≤◌, ◌<◌}
-use mathlib.Core.Path.{◌≡◌, refl}
+use mathlib.Core.Path.{◌≡◌, refl, sym, ◌∙◌}
 use mathlib.Core.Bool.{Bool, true, false, cond}
 use mathlib.Core.List.{List, [], ◌∷◌}
 use native.Mathlib.Omega.{arith}
-use lib.ListN.{take, drop}
-use Rattle.polygons.specs.Lists.{first_place}
-use Rattle.polygons.proofs.PlaceLaws.{place_le}
+use lib.ListN.{length, take, drop, get_or}
+use Rattle.std.proofs.Common.{Some, None}
+use Rattle.std.specs.List.{position, position_from}
+use Rattle.std.proofs.lemmas.Iterator.Adapters.{position_from-zero}
 use Rattle.geometry.specs.declared.rect.Cell.{Cell}
 use Rattle.tree.specs.Lists.{All}
 use Rattle.memory.specs.Layout.{part, polygon_in}
 use Rattle.layout.specs.Nodes.{count_at, child_at, PolygonPart}
 use Rattle.walks.specs.Walks.{has_test}
 use Rattle.choose_branch.specs.Branches.{polygons_in, Branches}
-use Rattle.choose_branch.proofs.ChildParts.{next_polygon, no_polygon}
+use Rattle.choose_branch.proofs.ChildParts.{next_polygon}
 
 -- The first i of the n children do not have the cell.
 pub record Looking (m : List ℕ) (k : ℕ) (c : Cell) (n i : ℕ) : Type 0 where
   pub branches : Branches m k
   pub count : n ≡ count_at m k
-  pub i_le : i ≤ n
-  pub rest : first_place (has_test c) (polygons_in m k) ≡ i + first_place (has_test c) (drop i (polygons_in m k))
+  pub rest : position (has_test c) (polygons_in m k) ≡ position_from (has_test c) i (drop i (polygons_in m k))
 
 module _ (m : List ℕ) (k : ℕ) (c : Cell) (n : ℕ) where
   pub look_start : Branches m k → n ≡ count_at m k → Looking m k c n 0
-  look_start v q = record { branches = v; count = q; i_le = omega arith; rest = omega arith }
+  look_start v q = record { branches = v; count = q; rest = position_from-zero (has_test c) (polygons_in m k) }
 
   module _ (i : ℕ) (v : Looking m k c n i) where
     module _ (j : ℕ) (h : i < n) (q : j ≡ child_at m k i) where
@@ -35,39 +35,36 @@ module _ (m : List ℕ) (k : ℕ) (c : Cell) (n : ℕ) where
       next = rw q (next_polygon m k v.branches i (rw v.count at h))
 
       module _ (b : Bool) (e : b ≡ has_test c (polygon_in (part m j))) where
-        pub look_hit : b ≡ true → i ≡ first_place (has_test c) (polygons_in m k)
-        unfolding first_place
-        look_hit f = rw (v.rest, next, ← e, f) (omega arith)
+        pub look_hit : b ≡ true → Some i ≡ position (has_test c) (polygons_in m k)
+        look_hit f = sym (v.rest ∙ rw (next, ← e, f))
 
         pub look_again : b ≡ false → Looking m k c n (i + 1)
-        unfolding first_place
         look_again f = record {
           branches = v.branches;
           count = v.count;
-          i_le = omega arith;
-          rest = rw (v.rest, next, ← e, f) (omega arith);
+          rest = v.rest ∙ rw (next, ← e, f);
         }
-
-    pub look_end : n ≤ i → n ≡ first_place (has_test c) (polygons_in m k)
-    unfolding first_place
-    look_end h = rw (v.rest, no_polygon m k v.branches i (rw v.count at h)) (let l = v.i_le in omega arith)
 
 -- What the first place says of a list.
 module _ {A : Type 0} (t : A → Bool) where
-  -- none before it passes
-  pub none_before : (l : List A) → All (λ a. t a ≡ false) (take (first_place t l) l)
-  unfolding first_place All
-  none_before [] = tt
-  none_before (a ∷ l) = go (t a) refl (none_before l)
+  -- none passes, where there is no place
+  from_none : (l : List A) (i : ℕ) → position_from t i l ≡ None → All (λ a. t a ≡ false) l
+  unfolding All
+  from_none [] i h = tt
+  from_none (a ∷ l) i h = go (t a) refl (from_none l (i + 1)) h
     where
-      go : (b : Bool) → t a ≡ b → All (λ x. t x ≡ false) (take (first_place t l) l) → All (λ x. t x ≡ false) (take (cond b zero (suc (first_place t l))) (a ∷ l))
-      go true e h = tt
-      go false e h = (e, h)
+      go : (b : Bool) → t a ≡ b → (position_from t (i + 1) l ≡ None → All (λ x. t x ≡ false) l)
+          → cond b (Some i) (position_from t (i + 1) l) ≡ None → All (λ x. t x ≡ false) (a ∷ l)
+      go true e f h = absurd cc
+      go false e f h = (e, f h)
 
--- none of the n children has the cell
-pub none_first : (m : List ℕ) (k : ℕ) (c : Cell) (n place : ℕ) → Branches m k → n ≡ count_at m k → place ≡ first_place (has_test c) (polygons_in m k) → n ≤ place
-    → first_place (has_test c) (polygons_in m k) ≡ count_at m k
-none_first m k c n place v q e h =
-    let l = place_le (has_test c) (polygons_in m k) in
-    let s = v.count in
-    omega arith
+  pub none_passes : (l : List A) → position t l ≡ None → All (λ a. t a ≡ false) l
+  none_passes l h = from_none l 0 (sym (position_from-zero t l) ∙ h)
+
+  -- none passes before the place
+  pub none_before : (l : List A) (i : ℕ) (d : A) → ((k : ℕ) → k < i → t (get_or l k d) ≡ false) → i ≤ length l
+      → All (λ a. t a ≡ false) (take i l)
+  unfolding All
+  none_before l zero d f h = tt
+  none_before [] (suc i) d f h = absurd (omega arith)
+  none_before (a ∷ l) (suc i) d f h = (f 0 (omega arith), none_before l i d (λ k g. f (suc k) (omega arith)) (omega arith))

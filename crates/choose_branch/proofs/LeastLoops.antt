@@ -1,6 +1,6 @@
 -- The loops that look for the rectangle of least extra area.
 use Prim.Native.Nat.{ℕ, ◌+◌, ◌*◌, ◌≤◌, ◌<◌, min}
-use mathlib.Core.Path.{◌≡◌, refl, sym, ap, ◌∙◌}
+use mathlib.Core.Path.{◌≡◌, sym, ap, ◌∙◌}
 use mathlib.Core.Bool.{true}
 use mathlib.Core.List.{List}
 use native.Mathlib.Omega.{arith}
@@ -14,9 +14,8 @@ use Rattle.geometry.proofs.CellLaws.{valid_at}
 use Rattle.geometry.proofs.NumberLaws.{length_rects, rects_at, rects_next, rects_end}
 use Rattle.area.specs.Bounds.{bounds_of}
 use Rattle.area.specs.Lacked.{extra_area}
-use Rattle.memory.specs.Layout.{part, rect_count, polygon_in, rect_numbers}
+use Rattle.memory.specs.Layout.{part, polygon_in}
 use Rattle.layout.specs.Nodes.{count_at, child_at, GoodPolygonPart}
-use Rattle.layout.proofs.NodeLaws.{lent_polygon, polygon_few}
 use Rattle.choose_branch.specs.declared.least.Least.{Least}
 use Rattle.choose_branch.specs.Branches.{polygons_in, Branches}
 use Rattle.choose_branch.specs.Least.{extra_in, lesser, least_in, least_of, least_from, alone_from, all_cells, start_at, least_all}
@@ -25,17 +24,12 @@ use Rattle.choose_branch.proofs.ChildParts.{next_polygon, no_polygon}
 
 -- The first i of a branch's n rectangles are compared; b is the bounds of all n.
 pub record Comparing (c : Cell) (list : List ℕ) (n branch : ℕ) (b : Rect) (known best : Least) (i : ℕ) : Type 0 where
-  pub i_le : i ≤ n
   pub fits : 4 * n ≤ length list
   pub bounds : b ≡ bounds_of (rects_in list n)
   pub valid : all_valid (rects_in list n) ≡ true
   pub rest : least_of c branch known (rects_in list n) ≡ least_in (extra_in (rects_in list n) c) branch i best (drop i (rects_in list n))
 
 module _ (c : Cell) (list : List ℕ) (n branch : ℕ) (b : Rect) (known : Least) where
-  pub compare_start : 4 * n ≤ length list → b ≡ bounds_of (rects_in list n) → all_valid (rects_in list n) ≡ true
-      → Comparing c list n branch b known known 0
-  compare_start h e v = record { i_le = omega arith; fits = h; bounds = e; valid = v; rest = refl }
-
   module _ (best : Least) (i : ℕ) (v : Comparing c list n branch b known best i) where
     module _ (h : i < n) where
       pub compared_valid : valid (rect_at list i) ≡ true
@@ -48,7 +42,6 @@ module _ (c : Cell) (list : List ℕ) (n branch : ℕ) (b : Rect) (known : Least
         next : (x' : Least) → lesser (extra_in (rects_in list n) c) branch i best (rect_at list i) ≡ x' → Comparing c list n branch b known x' (i + 1)
         unfolding least_in
         next x' q = record {
-          i_le = omega arith;
           fits = v.fits;
           bounds = v.bounds;
           valid = v.valid;
@@ -72,21 +65,10 @@ module _ (c : Cell) (list : List ℕ) (n branch : ℕ) (b : Rect) (known : Least
     unfolding least_in
     compare_end h = sym (v.rest ∙ rw (rects_end list n i h))
 
--- the rectangles s of the part p of a child, and their count n
-module _ (m : List ℕ) (j : ℕ) (p s : List ℕ) (n : ℕ) (e : p ≡ part m j) (f : s ≡ rect_numbers p) (g : n ≡ rect_count p) where
-  module _ (v : GoodPolygonPart m j) where
-    pub good_fit : 4 * n ≤ length s
-    good_fit = polygon_few m j p s n v.polygon e f g
-
-  pub compared_at : (c : Cell) (branch : ℕ) (known r : Least) → r ≡ least_of c branch known (rects_in s n)
-      → r ≡ least_of c branch known (polygon_in (part m j))
-  compared_at c branch known r q = q ∙ ap (least_of c branch known) (lent_polygon m j p s n e f g)
-
 -- The first i of the n children are compared.
 pub record ComparingAll (c : Cell) (m : List ℕ) (k n : ℕ) (best : Least) (i : ℕ) : Type 0 where
   pub branches : Branches m k
   pub count : n ≡ count_at m k
-  pub i_le : i ≤ n
   pub rest : least_all c (polygons_in m k) ≡ least_from c i best (drop i (polygons_in m k))
 
 module _ (c : Cell) (m : List ℕ) (k n : ℕ) where
@@ -95,7 +77,6 @@ module _ (c : Cell) (m : List ℕ) (k n : ℕ) where
   all_start top start v q e f = record {
     branches = v;
     count = q;
-    i_le = omega arith;
     rest = ap (λ y. least_from c 0 y (polygons_in m k)) (sym (f ∙ ap start_at e));
   }
 
@@ -113,7 +94,6 @@ module _ (c : Cell) (m : List ℕ) (k n : ℕ) where
       all_again best' e = record {
         branches = v.branches;
         count = v.count;
-        i_le = omega arith;
         rest = v.rest ∙ ap (least_from c i best) (next_polygon m k v.branches i (rw v.count at h))
             ∙ ap (λ y. least_from c (i + 1) y (drop (i + 1) (polygons_in m k))) (sym (rw q at e));
       }

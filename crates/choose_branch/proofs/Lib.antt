@@ -1,4 +1,3 @@
-pub mod ChoiceCases
 pub mod ChildParts
 pub mod ReadBranches
 pub mod FirstLoop
@@ -6,6 +5,7 @@ pub mod AloneLaws
 pub mod AloneLoops
 pub mod LeastLoops
 pub mod LeastLaws
+pub mod LimitLaws
 pub mod ReplacedReturns
 pub mod PieceLaws
 pub mod SiblingLoop

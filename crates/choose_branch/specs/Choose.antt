@@ -1,6 +1,6 @@
 -- Document 01, 'Insertion', step 2, on memory: which branch of a routing node insertion goes to, and the polygon that
 -- it gets.
-use Rattle.std.specs.Prelude.{ℕ, suc, ◌+◌, ◌≤◌, ◌<◌, true, List, ◌∷◌, ◌++◌, ◌≡◌, length, take, drop}
+use Rattle.std.specs.Prelude.{ℕ, suc, ◌+◌, ◌≤◌, ◌<◌, true, List, ◌∷◌, ◌++◌, ◌≡◌, length, take, drop, Result, Ok, Err}
 use Rattle.std.proofs.Math.Option.{none, some}
 use Rattle.geometry.specs.declared.rect.Cell.{Cell}
 use Rattle.geometry.specs.declared.rect.Rect.{Rect}
@@ -11,9 +11,8 @@ use Rattle.tree.specs.Nodes.{Item}
 use Rattle.plane.specs.Fanout.{fanout, index_space}
 use Rattle.memory.specs.Layout.{is_index_length}
 use Rattle.memory.specs.Reading.{read_node}
-use Rattle.choose_branch.specs.declared.choosing.Taken.{Taken}
-use Rattle.choose_branch.specs.declared.choosing.Taken.TheVariants.{Branch, Over}
 use Rattle.choose_branch.specs.declared.choosing.Choice.{Choice}
+use Rattle.geometry.specs.declared.cut.TooMany.{TooMany}
 
 -- Part k of a memory of a right length is a routing node, and the polygons of its children are good ones.
 pub record Routing (m : List ℕ) (k : ℕ) : Type 0 where
@@ -47,10 +46,7 @@ pub record NoneChosen (m : List ℕ) (k : ℕ) (p : List Rect) (c : Cell) : Type
   pub each : (n lo : ℕ) (b : Item index_space (suc (suc n))) → read_node fanout (suc n) m lo k ≡ some b
       → index_space.choose p b.child c ≡ none
 
--- 'go to the branch that has the cell. If none has it, choose ..': what was chosen, with the polygon q
-abbrev pub TakenIs : List ℕ → ℕ → List Rect → Cell → Taken → Polygon → Type 0
-TakenIs m k p c (Branch place) q = ChosenAt m k p c place q
-TakenIs m k p c Over q = NoneChosen m k p c
-
-abbrev pub ChoiceIs : List ℕ → ℕ → List Rect → Cell → Choice → Type 0
-ChoiceIs m k p c r = TakenIs m k p c r.taken r.polygon
+-- 'go to the branch that has the cell. If none has it, choose ..': what was chosen, or refusal 7
+abbrev pub ChoiceIs : List ℕ → ℕ → List Rect → Cell → Result Choice TooMany → Type 0
+ChoiceIs m k p c (Ok r) = ChosenAt m k p c r.place r.polygon
+ChoiceIs m k p c (Err e) = NoneChosen m k p c

@@ -5,14 +5,12 @@ use Rattle.geometry.specs.declared.polygon.Polygon.{Polygon}
 use Rattle.geometry.specs.declared.rect.Cell.{Cell}
 use Rattle.geometry.specs.declared.rect.Rect.{Rect}
 use Rattle.geometry.specs.Cells.{on_grid, valid}
-use Rattle.layout.specs.Nodes.{count_at}
+use Rattle.layout.specs.Nodes.{count_at, PolygonPart}
 use Rattle.choose_branch.specs.Branches.{polygons_in, Branches}
 
--- A list of n rectangles is to be cut by children of the node at part k, from one place up to another.
-pub record ChildrenCut (m : List ℕ) (k from to : ℕ) (list : List ℕ) (n : ℕ) (spare : List ℕ) : Type 0 where
-  pub branches : Branches m k
-  pub ordered : from ≤ to
-  pub inside : to ≤ count_at m k
+-- A list of n rectangles is to be cut by the polygons of the nodes at some parts.
+pub record PartsCut (m parts list : List ℕ) (n : ℕ) (spare : List ℕ) : Type 0 where
+  pub each : (i : ℕ) → i < length parts → PolygonPart m (get_or parts i 0)
   pub few : n ≤ 256
   pub list_room : 1088 ≤ length list
   pub spare_room : 1088 ≤ length spare
@@ -30,7 +28,6 @@ pub record GrownCut (m : List ℕ) (k place : ℕ) (g : Rect) (p : Polygon) (lis
   pub branches : Branches m k
   pub inside : place < count_at m k
   pub good : valid g ≡ true
-  pub few : p.count ≤ 16
   pub list_room : 1088 ≤ length list
   pub out_room : 1088 ≤ length out
 
@@ -39,7 +36,6 @@ pub record BranchGrowth (m : List ℕ) (k place rect : ℕ) (p : Polygon) (c : C
   pub branches : Branches m k
   pub inside : place < count_at m k
   pub rect_inside : rect < length (get_or (polygons_in m k) place [])
-  pub few : p.count ≤ 16
   pub grid : on_grid c ≡ true
   pub list_room : 1088 ≤ length list
   pub spare_room : 1088 ≤ length spare

@@ -2,5 +2,6 @@ pub mod Choose
 pub mod Branches
 pub mod Cuts
 pub mod Least
+pub mod Limit
 pub mod Pieces
 pub mod Removed

@@ -9,8 +9,8 @@ ghost use Rattle.choose_branch.specs.Least.{least_of, least_all};
 
 use crate::alone::least_alone;
 use area::{bounds_of, extra_area};
-use geometry::Cell;
-use layout::{child, node_at, part_at, rect_count, rects};
+use geometry::{Cell, Rects};
+use layout::{children_at, part_at, rect_count, rects};
 
 // The rectangle of least extra area so far, by its branch and its place in the branch's polygon.
 #[derive(Clone, Copy)]
@@ -29,10 +29,10 @@ fn least_in(list: &[u32], n: usize, branch: usize, c: Cell, known: Least) -> Lea
     requires c_value { on_grid c ≡ true }
     ensures { result ≡ least_of c branch known (rects_in list.now n) }
 {
-    let bounds = bounds_of(list, n);
+    let bounds = bounds_of(Rects::new(list, n));
     let mut best = known;
-    let mut i = 0;
-    while i < n {
+    // over places: an extra area is asked for by the place in the numbers
+    for i in 0..n {
         let extra = extra_area(list, n, i, c, bounds, best.extra);
         if extra < best.extra {
             best = Least {
@@ -41,7 +41,6 @@ fn least_in(list: &[u32], n: usize, branch: usize, c: Cell, known: Least) -> Lea
                 extra,
             };
         }
-        i += 1;
     }
     best
 }
@@ -64,19 +63,15 @@ pub fn find_least(m: &[u32], k: u32, c: Cell) -> Least
     ensures { result ≡ least_all c (polygons_in m.now k) }
 {
     let top = least_alone(m, k, c);
+    // no Option: some rectangle's extra area is at most the top, so one is taken
     let extra = top + 1;
-    let node = node_at(m, k);
-    let n = node.count as usize;
     let mut best = Least {
         branch: 0,
         rect: 0,
         extra,
     };
-    let mut i = 0;
-    while i < n {
-        let j = child(&node.items, i);
-        best = least_at(m, j, i, c, best);
-        i += 1;
+    for (branch, &part) in children_at(m, k).iter().enumerate() {
+        best = least_at(m, part, branch, c, best);
     }
     best
 }

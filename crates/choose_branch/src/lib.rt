@@ -9,4 +9,4 @@ mod pieces;
 mod replacing;
 mod siblings;
 
-pub use choosing::{Choice, Taken, choose};
+pub use choosing::{Choice, choose};

@@ -1,46 +1,36 @@
 // Cutting a list of rectangles by the polygons of a node's children.
-ghost use Rattle.std.specs.Prelude.{◌≡◌, length, take, drop};
+ghost use Rattle.std.specs.Prelude.{◌≡◌, length};
 ghost use Rattle.geometry.specs.Cut.{cut_limited};
 ghost use Rattle.geometry.specs.Numbers.{rects_in, Written};
-ghost use Rattle.choose_branch.specs.Branches.{polygons_in};
-ghost use Rattle.choose_branch.specs.Cuts.{ChildrenCut, SiblingsCut};
+ghost use Rattle.choose_branch.specs.Branches.{polygons_at, polygons_in};
+ghost use Rattle.choose_branch.specs.Cuts.{PartsCut, SiblingsCut};
 ghost use Rattle.choose_branch.specs.Pieces.{rects_all, siblings};
 
 use crate::branch::polygon_at;
-use geometry::{Count, cut_polygon};
-use layout::{child, count_at, node_at};
+use geometry::{TooMany, cut_polygon};
+use layout::children_at;
 
-// Cuts the first n rectangles of a list by the children of the node at part k, from the given one up to
-// before another, in place; the spare list holds the pieces on the way.
-fn cut_by_children(
+// Cuts the first n rectangles of a list by the polygons of the nodes at some parts, in order and in place; the spare
+// list holds the pieces on the way.
+fn cut_by_parts(
     m: &[u32],
-    k: u32,
-    from: usize,
-    to: usize,
+    parts: &[u32],
     list: &mut [u32],
     n: usize,
     spare: &mut [u32],
-) -> Count
-    requires { ChildrenCut m.now k from to list.old n spare.old }
+) -> Result<usize, TooMany>
+    requires { PartsCut m.now parts.now list.old n spare.old }
     ensures written { Written list.old
-        (cut_limited (rects_in list.old n) (rects_all (drop from (take to (polygons_in m.now k))))) result
+        (cut_limited (rects_in list.old n) (rects_all (polygons_at m.now parts.now))) result
         list.new }
     ensures spare_len_unchanged { length spare.new ≡ length spare.old }
 {
-    let node = node_at(m, k);
     let mut remaining = n;
-    let mut i = from;
-    while i < to {
-        let j = child(&node.items, i);
-        let p = polygon_at(m, j);
-        let c = cut_polygon(list, remaining, p, spare);
-        let Count::Rects(rects) = c else {
-            return Count::Over;
-        };
-        remaining = rects;
-        i += 1;
+    for &part in parts {
+        let p = polygon_at(m, part);
+        remaining = cut_polygon(list, remaining, p, spare)?;
     }
-    Count::Rects(remaining)
+    Ok(remaining)
 }
 
 // Cuts the first n rectangles of a list by the polygons of all children but the one at a place, in order.
@@ -51,17 +41,14 @@ pub fn cut_by_siblings(
     list: &mut [u32],
     n: usize,
     spare: &mut [u32],
-) -> Count
+) -> Result<usize, TooMany>
     requires { SiblingsCut m.now k place list.old n spare.old }
     ensures written { Written list.old
         (cut_limited (rects_in list.old n) (siblings (polygons_in m.now k) place)) result
         list.new }
     ensures spare_len_unchanged { length spare.new ≡ length spare.old }
 {
-    let before = cut_by_children(m, k, 0, place, list, n, spare);
-    let Count::Rects(remaining) = before else {
-        return Count::Over;
-    };
-    let count = count_at(m, k) as usize;
-    cut_by_children(m, k, place + 1, count, list, remaining, spare)
+    let children = children_at(m, k);
+    let remaining = cut_by_parts(m, &children[..place], list, n, spare)?;
+    cut_by_parts(m, &children[place + 1..], list, remaining, spare)
 }

@@ -1,5 +1,5 @@
 pub mod Cases
-pub mod SplitLoop
+pub mod SplitLaws
 pub mod NumberLoop
 pub mod FieldLoop
 pub mod CommandReturns

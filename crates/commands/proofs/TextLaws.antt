@@ -1,34 +1,28 @@
--- Texts put behind others: bytes, the digits of a number, fields and lines.
-use Prim.Native.Nat.{ℕ, zero, suc, ◌+◌, ◌*◌, ◌/◌, ◌%◌, ◌^◌, ◌≤◌, ◌<◌}
-use mathlib.Core.Path.{◌≡◌, refl, sym, ◌∙◌}
-use mathlib.Core.List.{List, [], ◌∷◌, ◌++◌, append-nil, append_assoc, flat_map}
+-- Texts put behind others: the digits of a number, fields and lines.
+use Rattle.std.proofs.Common.{◌≡◌, ℕ, zero, suc, ◌+◌, ◌*◌, ◌/◌, ◌%◌, ◌^◌, ◌≤◌, ◌<◌, List, [], ◌∷◌, ◌++◌, length, get_or, take, refl, sym, ◌∙◌, arith, add-one, append_assoc, length-append}
 use native.Mathlib.Nat.{pow-suc, div-lt_iff_lt-mul}
-use native.Mathlib.Numerals.{add-one}
-use native.Mathlib.Omega.{arith}
 use native.Mathlib.Decide.{dec_lt}
 use borrow.Author.Tests.{lt-ltb, le-ltb}
-use lib.ListN.{length, set, length-append, length-set}
-use lib.Seq.{take-suc-set}
-use Rattle.commands.specs.Text.{digits_of, number_text, field_text, line_text, refusal_text, Appended}
+use lib.Seq.{take-suc}
+use Rattle.std.specs.List.{flat_map}
+use Rattle.std.proofs.lemmas.List.{flat_map_more, take_all}
+use Rattle.std.proofs.lemmas.List.Folds.{length-flat_map-take}
+use Rattle.commands.specs.declared.output.Output.{Output}
+use Rattle.commands.specs.Text.{digits_of, number_text, field_text, line_text, refusal_text}
+use Rattle.commands.specs.Output.{HasRoom, Appended}
 
-pub append_byte : (out : List ℕ) (at b : ℕ) → at + 1 ≤ length out → Appended 1 out at (b ∷ []) (set out at b) (at + 1)
-append_byte out at b h =
-    let l : at < length out = omega arith in
-    record { bytes = rw (add-one, take-suc-set out at b l); next_is = refl; few = omega arith; same_length = length-set out at b }
+-- one text, and then another
+pub append_more : (a b c : Output) (s t : List ℕ) → Appended a s b → Appended b t c → Appended a (s ++ t) c
+append_more a b c s t v w = record {
+  bytes = w.bytes ∙ rw (v.bytes, append_assoc);
+  next_is = rw length-append (omega (arith, v.next_is, w.next_is));
+  same_length = w.same_length ∙ v.same_length;
+  same_slice = w.same_slice ∙ v.same_slice;
+}
 
-module _ (out : List ℕ) (at : ℕ) where
-  -- one text, and then another
-  pub append_more : (j k : ℕ) (a b out₁ out₂ : List ℕ) (n₁ n₂ : ℕ) → Appended j out at a out₁ n₁ → Appended k out₁ n₁ b out₂ n₂ → Appended (j + k) out at (a ++ b) out₂ n₂
-  append_more j k a b out₁ out₂ n₁ n₂ v w = record {
-    bytes = w.bytes ∙ rw (v.bytes, append_assoc);
-    next_is = rw length-append (omega (arith, v.next_is, w.next_is));
-    few = rw length-append (omega (arith, v.few, w.few));
-    same_length = w.same_length ∙ v.same_length;
-  }
-
-  -- another bound
-  pub append_wider : (j k : ℕ) (a out₁ : List ℕ) (n₁ : ℕ) → j ≤ k → Appended j out at a out₁ n₁ → Appended k out at a out₁ n₁
-  append_wider j k a out₁ n₁ h v = record { bytes = v.bytes; next_is = v.next_is; few = omega (arith, v.few); same_length = v.same_length }
+-- the room behind a text
+pub room_more : (a b : Output) (s : List ℕ) (n : ℕ) → Appended a s b → HasRoom a (length s + n) → HasRoom b n
+room_more a b s n v h = omega (arith, v.next_is, v.same_length)
 
 -- digits
 digits_short : (k v : ℕ) → v < 10 → digits_of (suc k) v ≡ (48 + v) ∷ []
@@ -96,74 +90,92 @@ module _ (v : ℕ) where
   unfolding number_text
   number_short f = digits_within 9 20 v (omega arith) (omega arith)
 
-module _ (out : List ℕ) (at v : ℕ) where
-  pub room_long : at + 20 ≤ length out → at + length (number_text v) ≤ length out
-  room_long h = let l = number_few v in omega arith
+-- one digit, or the digits of the tenth and then the last
+module _ (a : Output) (v : ℕ) where
+  pub room_digit : v < 10 → HasRoom a (length (number_text v)) → HasRoom a 1
+  room_digit s h = rw (number_digit v s) at h
 
-  -- a number of 32 bits
-  pub room_number : v < 4294967296 → at + 10 ≤ length out → at + length (number_text v) ≤ length out
-  room_number f h = let l = number_short v f in omega arith
-
-  pub put_number : (out₁ : List ℕ) (n₁ : ℕ) → v < 4294967296
-      → Appended 20 out at (number_text v) out₁ n₁ → Appended 10 out at (number_text v) out₁ n₁
-  put_number out₁ n₁ f w =
-      record { bytes = w.bytes; next_is = w.next_is; few = number_short v f; same_length = w.same_length }
-
-  -- one digit
-  pub room_digit : v < 10 → at + length (number_text v) ≤ length out → at + 1 ≤ length out
-  room_digit s h = let l : length (number_text v) ≡ 1 = rw (number_digit v s) in omega arith
-
-  pub put_digit : (out₁ : List ℕ) (n₁ : ℕ) → v < 10
-      → Appended 1 out at ((48 + v) ∷ []) out₁ n₁ → Appended 20 out at (number_text v) out₁ n₁
-  put_digit out₁ n₁ s w = rw (number_digit v s) (append_wider out at 1 20 _ out₁ n₁ (omega arith) w)
-
-  -- the digits of the tenth, and then the last
   module _ (f : v < 18446744073709551616) (g : 10 ≤ v) where
-    pub room_tenth : at + length (number_text v) ≤ length out → at + length (number_text (v / 10)) ≤ length out
-    room_tenth h = let l : length (number_text v) ≡ length (number_text (v / 10)) + 1 = rw (number_more v f g, length-append) in omega arith
+    room_last : HasRoom a (length (number_text v)) → HasRoom a (length (number_text (v / 10)) + 1)
+    room_last h = let l : length (number_text v) ≡ length (number_text (v / 10)) + 1 = rw (number_more v f g, length-append) in omega arith
 
-    module _ (out₁ : List ℕ) (n₁ : ℕ) (w : Appended 20 out at (number_text (v / 10)) out₁ n₁) where
-      pub room_last : at + length (number_text v) ≤ length out → n₁ + 1 ≤ length out₁
-      room_last h =
-          let l : length (number_text v) ≡ length (number_text (v / 10)) + 1 = rw (number_more v f g, length-append) in
-          omega (arith, w.next_is, w.same_length)
+    pub room_tenth : HasRoom a (length (number_text v)) → HasRoom a (length (number_text (v / 10)))
+    room_tenth h = let r = room_last h in omega arith
 
-      pub put_last : (out₂ : List ℕ) (n₂ : ℕ) → Appended 1 out₁ n₁ ((48 + v % 10) ∷ []) out₂ n₂
-          → Appended 20 out at (number_text v) out₂ n₂
-      put_last out₂ n₂ x =
-          let z = append_more out at 20 1 _ _ out₁ out₂ n₁ n₂ w x in
-          let y : Appended 21 out at (number_text v) out₂ n₂ = rw (number_more v f g) z in
-          record { bytes = y.bytes; next_is = y.next_is; few = number_few v; same_length = y.same_length }
+    module _ (b : Output) (w : Appended a (number_text (v / 10)) b) where
+      pub room_digit_more : HasRoom a (length (number_text v)) → HasRoom b 1
+      room_digit_more h = room_more a b (number_text (v / 10)) 1 w (room_last h)
 
--- a space, and then a number of at most k digits
-pub put_field : (k : ℕ) (out : List ℕ) (at v : ℕ) (out₁ out₂ : List ℕ) (n₁ n₂ : ℕ)
-    → Appended 1 out at (32 ∷ []) out₁ n₁ → Appended k out₁ n₁ (number_text v) out₂ n₂
-    → Appended (1 + k) out at (field_text v) out₂ n₂
+      pub put_last : (c : Output) → Appended b ((48 + v % 10) ∷ []) c → Appended a (number_text v) c
+      put_last c x = rw (number_more v f g) (append_more a b c _ _ w x)
+
+-- a line: its letter, its fields one after another, and its line feed
+module _ (a : Output) (letter : ℕ) (vs : List ℕ) where
+  -- The letter and the first i fields are put.
+  abbrev pub LineSoFar : ℕ → Output → Type 0
+  LineSoFar i b = Appended a (letter ∷ flat_map field_text (take i vs)) b
+
+  line_length : length (line_text letter vs) ≡ length (flat_map field_text vs) + 2
+  unfolding line_text
+  line_length = rw length-append (omega arith)
+
+  pub room_letter : HasRoom a (length (line_text letter vs)) → HasRoom a 1
+  room_letter h = omega (arith, line_length)
+
+  module _ (b : Output) (i : ℕ) (v : LineSoFar i b) where
+    pub room_field : i < length vs → HasRoom a (length (line_text letter vs)) → HasRoom b (length (field_text (get_or vs i 0)))
+    room_field h r = room_more a b _ _ v (omega (arith, length-flat_map-take field_text vs i 0 h, line_length))
+
+    pub line_more : (c : Output) → i < length vs → Appended b (field_text (get_or vs i 0)) c → LineSoFar (i + 1) c
+    line_more c h w = rw (add-one, take-suc vs i 0 h, ← (flat_map_more field_text (letter ∷ []) (take i vs) (get_or vs i 0))) (append_more a b c _ _ v w)
+
+    pub room_feed : length vs ≤ i → HasRoom a (length (line_text letter vs)) → HasRoom b 1
+    room_feed h r = room_more a b _ 1 (rw (take_all i vs h) at v) (omega (arith, line_length))
+
+    pub line_end : (c : Output) → length vs ≤ i → Appended b (10 ∷ []) c → Appended a (line_text letter vs) c
+    unfolding line_text
+    line_end c h w = append_more a b c _ _ (rw (take_all i vs h) at v) w
+
+pub put_refusal : (letter m n : ℕ) (a b c d e f : Output) → m ≡ n → Appended a (letter ∷ []) b → Appended b (32 ∷ []) c → Appended c (33 ∷ []) d
+    → Appended d (field_text m) e → Appended e (10 ∷ []) f → Appended a (refusal_text letter n) f
+unfolding refusal_text
+put_refusal letter m n a b c d e f q s t u v w =
+    rw (sym q) (append_more a e f _ _ (append_more a d e _ _ (append_more a c d _ _ (append_more a b c _ _ s t) u) v) w)
+
+-- the lengths of fields and lines
+field_few : (v : ℕ) → v < 4294967296 → length (field_text v) ≤ 11
 unfolding field_text
-put_field k out at v out₁ out₂ n₁ n₂ a b = append_more out at 1 k _ _ out₁ out₂ n₁ n₂ a b
+field_few v h = omega (arith, number_short v h)
 
--- lines
-module _ (out : List ℕ) (at letter : ℕ) where
-  pub put_line_two : (v w : ℕ) (out₁ out₂ out₃ out₄ : List ℕ) (n₁ n₂ n₃ n₄ : ℕ)
-      → Appended 1 out at (letter ∷ []) out₁ n₁ → Appended 11 out₁ n₁ (field_text v) out₂ n₂ → Appended 11 out₂ n₂ (field_text w) out₃ n₃
-      → Appended 1 out₃ n₃ (10 ∷ []) out₄ n₄ → Appended 24 out at (line_text letter (v ∷ w ∷ [])) out₄ n₄
-  unfolding line_text flat_map
-  put_line_two v w out₁ out₂ out₃ out₄ n₁ n₂ n₃ n₄ a b c d =
-      let e : line_text letter (v ∷ w ∷ []) ≡ (letter ∷ []) ++ field_text v ++ field_text w ++ (10 ∷ []) = simp (append-nil, append_assoc) in
-      rw e (append_more out at 23 1 _ _ out₃ out₄ n₃ n₄ (append_more out at 12 11 _ _ out₂ out₃ n₂ n₃ (append_more out at 1 11 _ _ out₁ out₂ n₁ n₂ a b) c) d)
+field_long : (v : ℕ) → length (field_text v) ≤ 21
+unfolding field_text
+field_long v = omega (arith, number_few v)
 
-  pub put_line_three : (v w x : ℕ) (out₁ out₂ out₃ out₄ out₅ : List ℕ) (n₁ n₂ n₃ n₄ n₅ : ℕ)
-      → Appended 1 out at (letter ∷ []) out₁ n₁ → Appended 11 out₁ n₁ (field_text v) out₂ n₂ → Appended 11 out₂ n₂ (field_text w) out₃ n₃
-      → Appended 11 out₃ n₃ (field_text x) out₄ n₄ → Appended 1 out₄ n₄ (10 ∷ []) out₅ n₅ → Appended 35 out at (line_text letter (v ∷ w ∷ x ∷ [])) out₅ n₅
-  unfolding line_text flat_map
-  put_line_three v w x out₁ out₂ out₃ out₄ out₅ n₁ n₂ n₃ n₄ n₅ a b c d f =
-      let e : line_text letter (v ∷ w ∷ x ∷ []) ≡ (letter ∷ []) ++ field_text v ++ field_text w ++ field_text x ++ (10 ∷ []) = simp (append-nil, append_assoc) in
-      rw e (append_more out at 34 1 _ _ out₄ out₅ n₄ n₅ (append_more out at 23 11 _ _ out₃ out₄ n₃ n₄ (append_more out at 12 11 _ _ out₂ out₃ n₂ n₃ (append_more out at 1 11 _ _ out₁ out₂ n₁ n₂ a b) c) d) f)
+zero_few : length (field_text 0) ≤ 2
+unfolding field_text number_text digits_of
+zero_few = omega arith
 
-  pub put_line_refusal : (number : ℕ) (out₁ out₂ out₃ out₄ out₅ : List ℕ) (n₁ n₂ n₃ n₄ n₅ : ℕ)
-      → Appended 1 out at (letter ∷ []) out₁ n₁ → Appended 1 out₁ n₁ (32 ∷ []) out₂ n₂ → Appended 1 out₂ n₂ (33 ∷ []) out₃ n₃
-      → Appended 11 out₃ n₃ (field_text number) out₄ n₄ → Appended 1 out₄ n₄ (10 ∷ []) out₅ n₅ → Appended 24 out at (refusal_text letter number) out₅ n₅
+module _ (letter : ℕ) where
+  line_none : length (line_text letter []) ≡ 2
+  unfolding line_text
+  line_none = refl
+
+  line_cons : (v : ℕ) (vs : List ℕ) → length (line_text letter (v ∷ vs)) ≡ length (field_text v) + length (line_text letter vs)
+  unfolding line_text
+  line_cons v vs = rw (length-append, length-append, length-append) (omega arith)
+
+  pub line_two_few : (v w : ℕ) → v < 4294967296 → w < 4294967296 → length (line_text letter (v ∷ w ∷ [])) ≤ 24
+  line_two_few v w f g = rw (line_cons, line_cons) (omega (arith, line_none, field_few v f, field_few w g))
+
+  pub line_three_few : (v w x : ℕ) → v < 4294967296 → w < 4294967296 → x < 4294967296 → length (line_text letter (v ∷ w ∷ x ∷ [])) ≤ 35
+  line_three_few v w x f g h = rw (line_cons, line_cons, line_cons) (omega (arith, line_none, field_few v f, field_few w g, field_few x h))
+
+  -- an accepted insertion's line, whose last number has 64 bits
+  pub line_long_few : (w x : ℕ) → w < 4294967296 → length (line_text letter (0 ∷ w ∷ x ∷ [])) ≤ 36
+  line_long_few w x g = rw (line_cons, line_cons, line_cons) (omega (arith, line_none, zero_few, field_few w g, field_long x))
+
+  pub refusal_few : (n : ℕ) → n < 4294967296 → length (refusal_text letter n) ≤ 15
   unfolding refusal_text
-  put_line_refusal number out₁ out₂ out₃ out₄ out₅ n₁ n₂ n₃ n₄ n₅ a b c d f =
-      append_wider out at 15 24 _ out₅ n₅ (omega arith)
-      (append_more out at 14 1 _ _ out₄ out₅ n₄ n₅ (append_more out at 3 11 _ _ out₃ out₄ n₃ n₄ (append_more out at 2 1 _ _ out₂ out₃ n₂ n₃ (append_more out at 1 1 _ _ out₁ out₂ n₁ n₂ a b) c) d) f)
+  refusal_few n h = rw length-append (omega (arith, field_few n h))
+
+pub ruleset few_bytes = (line_two_few, line_three_few, line_long_few, refusal_few)

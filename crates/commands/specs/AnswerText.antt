@@ -1,12 +1,10 @@
 -- Document 01, the line program: what each answer prints.
 -- docs/RULES.md 9.6, 9.7
-use Rattle.std.specs.Prelude.{ℕ, zero, suc, ◌+◌, ◌*◌, cond, List, [], ◌∷◌, ◌++◌, eqb, get_or}
+use Rattle.std.specs.Prelude.{ℕ, zero, suc, ◌+◌, ◌*◌, cond, List, [], ◌∷◌, ◌++◌, eqb, get_or, Result, Ok, Err}
 use Rattle.answers.specs.declared.answer.Inserted.{Inserted}
-use Rattle.answers.specs.declared.answer.Removed.{Removed}
-use Rattle.answers.specs.declared.answer.Cleared.{Cleared}
 use Rattle.answers.specs.declared.answer.PointFound.{PointFound}
 use Rattle.answers.specs.declared.answer.WindowFound.{WindowFound}
-use Rattle.answers.specs.declared.answer.WindowFound.TheVariants as W
+use Rattle.answers.specs.declared.answer.Refusal.{Refusal}
 use Rattle.answers.specs.declared.reply.Reply.{Reply}
 use Rattle.answers.specs.Listing.{list_width}
 use Rattle.answers.specs.Numbers.{insert_reply, remove_reply, clear_reply, point_reply, window_reply}
@@ -15,24 +13,24 @@ use Rattle.commands.specs.Text.{line_text, refusal_text}
 
 -- 'I, R and C print 0 and entries held.' A.6, of the total removed by siblings: 'The line program prints it after the
 -- entries held in an accepted `I` line'.
-unfoldable pub held_text : ℕ → Reply → List ℕ
+abbrev pub held_text : ℕ → Reply → List ℕ
 held_text letter t = cond (eqb t.number 0) (line_text letter (0 ∷ t.values)) (refusal_text letter t.number)
 
 -- the values that a query tells, or its refusal
-unfoldable pub found_text : ℕ → Reply → List ℕ
+abbrev pub found_text : ℕ → Reply → List ℕ
 found_text letter t = cond (eqb t.number 0) (line_text letter t.values) (refusal_text letter t.number)
 
-unfoldable pub insert_text : Inserted → List ℕ
+unfoldable pub insert_text : Result Inserted Refusal → List ℕ
 insert_text r = held_text letter_i (insert_reply r)
 
-unfoldable pub remove_text : Removed → List ℕ
+unfoldable pub remove_text : Result ℕ Refusal → List ℕ
 remove_text r = held_text letter_r (remove_reply r)
 
-unfoldable pub clear_text : Cleared → List ℕ
+unfoldable pub clear_text : Result ℕ Refusal → List ℕ
 clear_text r = held_text letter_c (clear_reply r)
 
 -- 'P prints 1 or 0, visits, then the tag if held.'
-unfoldable pub point_text : PointFound → List ℕ
+unfoldable pub point_text : Result PointFound Refusal → List ℕ
 point_text r = found_text letter_p (point_reply r)
 
 -- 'an E line per entry: x, y, tag', for the first n entries of a list, three numbers an entry
@@ -43,15 +41,12 @@ entries_text list (suc n) =
     (get_or list (list_width * n) 0 ∷ get_or list (list_width * n + 1) 0 ∷ get_or list (list_width * n + 2) 0 ∷ [])
 
 -- how many entries a window query wrote to its list
-unfoldable pub listed : WindowFound → ℕ
-listed (W.Found n v) = n
-listed W.WrongLength = 0
-listed W.Invalid = 0
-listed W.NoSoundTree = 0
-listed (W.ShortList n) = 0
+abbrev pub listed : Result WindowFound Refusal → ℕ
+listed (Ok found) = found.matches
+listed (Err r) = 0
 
 -- 'S prints matches and visits, then an E line per entry'
-unfoldable pub window_text : WindowFound → List ℕ → List ℕ
+abbrev pub window_text : Result WindowFound Refusal → List ℕ → List ℕ
 window_text r list = found_text letter_s (window_reply r) ++ entries_text list (listed r)
 
 -- 'Other lines, or lines over 80 bytes, print `?`.'

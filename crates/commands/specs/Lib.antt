@@ -3,4 +3,5 @@ pub mod Split
 pub mod Fields
 pub mod Commands
 pub mod Text
+pub mod Output
 pub mod AnswerText

@@ -1,7 +1,7 @@
 -- Numbers and lines as bytes.
 -- docs/RULES.md 9.7, 9.8
-use Rattle.std.specs.Prelude.{ℕ, zero, suc, ◌+◌, ◌/◌, ◌%◌, ◌≤◌, cond, ◌≡◌, ltb, length, take}
-use mathlib.Core.List.{List, [], ◌∷◌, ◌++◌, flat_map}
+use Rattle.std.specs.Prelude.{ℕ, zero, suc, ◌+◌, ◌/◌, ◌%◌, cond, ltb, List, [], ◌∷◌, ◌++◌}
+use Rattle.std.specs.List.{flat_map}
 use Rattle.commands.specs.Bytes.{line_feed, space, exclamation_mark, digit_zero}
 
 -- the decimal digits of a number, if it has at most k, without leading zeros
@@ -24,11 +24,3 @@ line_text letter vs = (letter ∷ flat_map field_text vs) ++ (line_feed ∷ [])
 -- 'A refusal prints the letter, `!`, the number.'
 unfoldable pub refusal_text : ℕ → ℕ → List ℕ
 refusal_text letter n = (letter ∷ space ∷ exclamation_mark ∷ field_text n) ++ (line_feed ∷ [])
-
--- A text of at most k bytes was put into out at a place, which gives out'. The bytes before the place are kept; next
--- is the place behind the text.
-pub record Appended (k : ℕ) (out : List ℕ) (at : ℕ) (text out' : List ℕ) (next : ℕ) : Type 0 where
-  pub bytes : take next out' ≡ take at out ++ text
-  pub next_is : next ≡ at + length text
-  pub few : length text ≤ k
-  pub same_length : length out' ≡ length out

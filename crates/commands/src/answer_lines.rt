@@ -1,122 +1,117 @@
 // The answer of each call as lines.
-ghost use Rattle.std.specs.Prelude.{[], ◌∷◌, ◌+◌, ◌*◌, ◌≤◌, length};
+ghost use Rattle.std.specs.Prelude.{◌+◌, ◌*◌, ◌≤◌, length};
 ghost use Rattle.answers.specs.Listing.{list_width};
-ghost use Rattle.commands.specs.Bytes.{letter_i};
-ghost use Rattle.commands.specs.Text.{line_text, Appended};
-ghost use Rattle.commands.specs.AnswerText.{insert_text, remove_text, clear_text, point_text, entries_text, window_text, other_text, listed};
+ghost use Rattle.answers.specs.Numbers.{held_reply};
+ghost use Rattle.commands.specs.Output.{Appended, HasRoom};
+ghost use Rattle.commands.specs.AnswerText.{insert_text, remove_text, clear_text, held_text, point_text, entries_text, window_text, other_text, listed};
 
-use crate::text::{put_byte, put_field, put_long_field, put_refusal, put_three, put_two};
-use answers::{
-    Cleared, Inserted, LIST_WIDTH, PointFound, Removed, WindowFound, clear_reply, insert_reply,
-    point_reply, remove_reply, window_reply,
-};
+use crate::output::Output;
+use answers::{Inserted, LIST_WIDTH, PointFound, Refusal, WindowFound};
 
-// The line of an accepted insertion: 0, the entries held and the cells that siblings removed.
-fn put_accepted(out: &mut [u8], at: usize, held: u32, removed: u64) -> usize
-    requires { at + 36 ≤ length out.old }
-    ensures { Appended 36 out.old at (line_text letter_i (0 ∷ held ∷ removed ∷ []))
-        out.new result }
+// The line of an insertion: 0, the entries held and the cells that siblings removed, or its refusal.
+#[tactic(auto, using(crate::proofs::TextLaws::few_bytes), unfolding(crate::specs::AnswerText::insert_text))]
+pub fn put_inserted(out: &mut Output, answer: Result<Inserted, Refusal>)
+    requires { HasRoom out.old 36 }
+    ensures few { length (insert_text answer) ≤ 36 }
+    ensures put { Appended out.old (insert_text answer) out.new }
 {
-    let first = put_byte(out, at, b'I');
-    let second = put_byte(out, first, b' ');
-    let third = put_byte(out, second, b'0');
-    let fourth = put_field(out, third, held);
-    let end = put_long_field(out, fourth, removed);
-    put_byte(out, end, b'\n')
+    match answer {
+        Ok(done) => out.line(b'I', &[0, u64::from(done.held), done.removed]),
+        Err(refusal) => out.refusal(b'I', refusal.number()),
+    }
 }
 
-// The line of an insertion: what it accepted, or its refusal.
-pub fn put_inserted(out: &mut [u8], at: usize, r: Inserted) -> usize
-    requires { at + 36 ≤ length out.old }
-    ensures { Appended 36 out.old at (insert_text r) out.new result }
+// The line of a removal or a clearing: 0 and the entries held, or its refusal.
+#[tactic(auto, using(crate::proofs::TextLaws::few_bytes))]
+fn put_held(out: &mut Output, letter: u8, answer: Result<u32, Refusal>)
+    requires { HasRoom out.old 24 }
+    ensures few { length (held_text letter (held_reply answer)) ≤ 24 }
+    ensures put { Appended out.old (held_text letter (held_reply answer)) out.new }
 {
-    let Inserted::Accepted { held, removed } = r else {
-        let reply = insert_reply(r);
-        return put_refusal(out, at, b'I', reply.number);
-    };
-    put_accepted(out, at, held, removed)
+    match answer {
+        Ok(held) => out.line(letter, &[0, u64::from(held)]),
+        Err(refusal) => out.refusal(letter, refusal.number()),
+    }
 }
 
-// The line of a removal: 0 and the entries held, or its refusal.
-pub fn put_removed(out: &mut [u8], at: usize, r: Removed) -> usize
-    requires { at + 24 ≤ length out.old }
-    ensures { Appended 24 out.old at (remove_text r) out.new result }
+// The line of a removal.
+#[tactic(auto, unfolding(crate::specs::AnswerText::remove_text))]
+pub fn put_removed(out: &mut Output, answer: Result<u32, Refusal>)
+    requires { HasRoom out.old 24 }
+    ensures few { length (remove_text answer) ≤ 24 }
+    ensures put { Appended out.old (remove_text answer) out.new }
 {
-    let Removed::Accepted(held) = r else {
-        let reply = remove_reply(r);
-        return put_refusal(out, at, b'R', reply.number);
-    };
-    put_two(out, at, b'R', 0, held)
+    put_held(out, b'R', answer);
 }
 
-// The line of clearing: 0 and the entries held, or its refusal.
-pub fn put_cleared(out: &mut [u8], at: usize, r: Cleared) -> usize
-    requires { at + 24 ≤ length out.old }
-    ensures { Appended 24 out.old at (clear_text r) out.new result }
+// The line of a clearing.
+#[tactic(auto, unfolding(crate::specs::AnswerText::clear_text))]
+pub fn put_cleared(out: &mut Output, answer: Result<u32, Refusal>)
+    requires { HasRoom out.old 24 }
+    ensures few { length (clear_text answer) ≤ 24 }
+    ensures put { Appended out.old (clear_text answer) out.new }
 {
-    let Cleared::Accepted(held) = r else {
-        let reply = clear_reply(r);
-        return put_refusal(out, at, b'C', reply.number);
-    };
-    put_two(out, at, b'C', 0, held)
+    put_held(out, b'C', answer);
 }
 
 // The line of a point query: 1, visits and tag, or 0 and visits, or its refusal.
-pub fn put_point(out: &mut [u8], at: usize, r: PointFound) -> usize
-    requires { at + 35 ≤ length out.old }
-    ensures { Appended 35 out.old at (point_text r) out.new result }
+#[tactic(auto, using(crate::proofs::TextLaws::few_bytes), unfolding(crate::specs::AnswerText::point_text))]
+pub fn put_point(out: &mut Output, answer: Result<PointFound, Refusal>)
+    requires { HasRoom out.old 35 }
+    ensures few { length (point_text answer) ≤ 35 }
+    ensures put { Appended out.old (point_text answer) out.new }
 {
-    match r {
-        PointFound::Held { tag, visits } => {
-            return put_three(out, at, b'P', 1, visits, tag);
-        }
-        PointFound::NotHeld { visits } => {
-            return put_two(out, at, b'P', 0, visits);
-        }
-        _ => {
-            let reply = point_reply(r);
-            return put_refusal(out, at, b'P', reply.number);
-        }
+    match answer {
+        Ok(
+            PointFound {
+                tag: Some(tag),
+                visits,
+            },
+        ) => out.line(b'P', &[1, u64::from(visits), u64::from(tag)]),
+        Ok(PointFound { tag: None, visits }) => out.line(b'P', &[0, u64::from(visits)]),
+        Err(refusal) => out.refusal(b'P', refusal.number()),
     }
 }
 
 // A line for each of the first n entries of a list.
-fn put_entries(out: &mut [u8], at: usize, list: &[u32], n: usize) -> usize
+#[tactic(auto, using(crate::proofs::TextLaws::line_three_few), unfolding(crate::specs::AnswerText::entries_text))]
+fn put_entries(out: &mut Output, list: &[u32], n: usize)
     requires n_in_bounds { list_width * n ≤ length list.now }
-    requires n_in_bounds_2 { at + 35 * n ≤ length out.old }
-    ensures { Appended (35 * n) out.old at (entries_text list.now n)
-        out.new result }
+    requires room { HasRoom out.old (35 * n) }
+    ensures few { length (entries_text list.now n) ≤ 35 * n }
+    ensures put { Appended out.old (entries_text list.now n) out.new }
 {
-    let mut next = at;
-    let mut i = 0;
-    while i < n {
+    for i in 0..n {
         let j = LIST_WIDTH * i;
-        next = put_three(out, next, b'E', list[j], list[j + 1], list[j + 2]);
-        i += 1;
+        let [x, y, tag] = [list[j], list[j + 1], list[j + 2]];
+        out.line(b'E', &[u64::from(x), u64::from(y), u64::from(tag)]);
     }
-    next
 }
 
 // The line of a window query, and a line for each entry that it wrote to the list.
-pub fn put_window(out: &mut [u8], at: usize, r: WindowFound, list: &[u32]) -> usize
-    requires r_in_bounds { list_width * listed r ≤ length list.now }
-    requires list_in_bounds { at + (24 + 12 * length list.now) ≤ length out.old }
-    ensures { Appended (24 + 12 * length list.now) out.old at
-        (window_text r list.now) out.new result }
+#[tactic(auto, using(crate::proofs::TextLaws::few_bytes), unfolding(crate::specs::AnswerText::entries_text))]
+pub fn put_window(out: &mut Output, answer: Result<WindowFound, Refusal>, list: &[u32])
+    requires r_in_bounds { list_width * listed answer ≤ length list.now }
+    requires room { HasRoom out.old (24 + 12 * length list.now) }
+    ensures few { length (window_text answer list.now) ≤ 24 + 12 * length list.now }
+    ensures put { Appended out.old (window_text answer list.now) out.new }
 {
-    let WindowFound::Found { matches, visits } = r else {
-        let reply = window_reply(r);
-        return put_refusal(out, at, b'S', reply.number);
-    };
-    let next = put_two(out, at, b'S', matches, visits);
-    put_entries(out, next, list, matches as usize)
+    match answer {
+        Ok(found) => {
+            out.line(b'S', &[u64::from(found.matches), u64::from(found.visits)]);
+            put_entries(out, list, found.matches as usize);
+        }
+        Err(refusal) => out.refusal(b'S', refusal.number()),
+    }
 }
 
 // What is printed for a line that is no command.
-pub fn put_other(out: &mut [u8], at: usize) -> usize
-    requires { at + 2 ≤ length out.old }
-    ensures { Appended 2 out.old at other_text out.new result }
+#[tactic(auto, using(crate::proofs::TextLaws::append_more), unfolding(crate::specs::AnswerText::other_text))]
+pub fn put_other(out: &mut Output)
+    requires { HasRoom out.old 2 }
+    ensures few { length other_text ≤ 2 }
+    ensures put { Appended out.old other_text out.new }
 {
-    let next = put_byte(out, at, b'?');
-    put_byte(out, next, b'\n')
+    out.byte(b'?');
+    out.byte(b'\n');
 }

@@ -1,57 +1,26 @@
-// The fields behind the letter of a command.
-ghost use Rattle.commands.specs.Fields.{FieldsRead};
+// The numbers behind the letter of a command.
+ghost use Rattle.std.specs.Prelude.{◌≡◌, MatchOption, Some};
+ghost use Rattle.commands.specs.Fields.{numbers_in, NotFew};
 ghost use Rattle.commands.specs.Split.{PieceEnd};
 
-use crate::number::{Number, read_number};
+use crate::number::read_number;
 use crate::split::find_byte;
+use arrayvec::ArrayVec;
 
-// The numbers of the fields, the first `count` of `values`. No command has more than four.
-#[derive(Clone, Copy)]
-pub struct Fields {
-    pub good: bool,
-    pub count: usize,
-    pub values: [u32; 4],
-}
-
-// Reads the fields of a line that has one byte before its first space. They are not good if one is no
-// number or there are more than four.
-pub fn read_fields(line: &[u8]) -> Fields
+// Reads the fields of a line that has one byte before its first space. None if one is no number or there are more
+// than four, since no command has more.
+pub fn read_numbers(line: &[u8]) -> Option<ArrayVec<u32, 4>>
     requires { PieceEnd 32 line.now 0 1 }
-    ensures { FieldsRead line.now result }
+    ensures { MatchOption result (NotFew (numbers_in line.now)) (λ read. numbers_in line.now ≡ Some read.items) }
 {
-    let n = line.len();
-    let mut values = [0u32; 4];
-    let mut count = 0;
+    let mut numbers = ArrayVec::new();
     let mut at = 1;
-    while at < n {
-        let start = at + 1;
-        let end = find_byte(line, start, b' ');
-        let number = read_number(&line[start..end]);
-        match number {
-            Number::Nothing => {
-                return Fields {
-                    good: false,
-                    count,
-                    values,
-                };
-            }
-            Number::Value(value) => {
-                if count == 4 {
-                    return Fields {
-                        good: false,
-                        count,
-                        values,
-                    };
-                }
-                values[count] = value;
-                count += 1;
-            }
-        }
+    // a while: the next field starts where this one ends
+    while at < line.len() {
+        let end = find_byte(line, at + 1, b' ');
+        let number = read_number(&line[at + 1..end])?;
+        numbers.try_push(number).ok()?;
         at = end;
     }
-    Fields {
-        good: true,
-        count,
-        values,
-    }
+    Some(numbers)
 }

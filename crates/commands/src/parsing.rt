@@ -1,11 +1,11 @@
 // A line read as a command.
-ghost use Rattle.std.specs.Prelude.{◌≡◌, length, take, ◌≤◌};
+ghost use Rattle.std.specs.Prelude.{◌≡◌};
 ghost use Rattle.commands.specs.Commands.{command_for, command_of};
 
-use crate::fields::{Fields, read_fields};
+use crate::fields::read_numbers;
 use crate::split::find_byte;
 
-#[derive(Clone, Copy)]
+#[derive(Clone, Copy, Debug, PartialEq, Eq)]
 pub enum Command {
     Insert {
         x: u32,
@@ -27,72 +27,30 @@ pub enum Command {
         ury: u32,
     },
     Clear,
-    Other,
 }
 
 // The command of a letter and the numbers behind it.
-fn choose(letter: u8, fields: Fields) -> Command
-    requires count_bound { fields.count ≤ 4 }
-    requires values_len { length fields.values ≡ 4 }
-    ensures { result ≡ command_for letter (take fields.count fields.values) }
+#[tactic(auto, unfolding(crate::specs::Commands::command_for))]
+fn choose(letter: u8, numbers: &[u32]) -> Option<Command>
+    ensures { result ≡ command_for letter numbers.now }
 {
-    let n = fields.count;
-    let v = fields.values;
-    if letter == b'I' {
-        if n == 3 {
-            return Command::Insert {
-                x: v[0],
-                y: v[1],
-                tag: v[2],
-            };
-        }
-        return Command::Other;
+    match (letter, numbers) {
+        (b'I', &[x, y, tag]) => Some(Command::Insert { x, y, tag }),
+        (b'R', &[x, y]) => Some(Command::Remove { x, y }),
+        (b'P', &[x, y]) => Some(Command::Point { x, y }),
+        (b'S', &[llx, lly, urx, ury]) => Some(Command::Window { llx, lly, urx, ury }),
+        (b'C', []) => Some(Command::Clear),
+        _ => None,
     }
-    if letter == b'R' {
-        if n == 2 {
-            return Command::Remove { x: v[0], y: v[1] };
-        }
-        return Command::Other;
-    }
-    if letter == b'P' {
-        if n == 2 {
-            return Command::Point { x: v[0], y: v[1] };
-        }
-        return Command::Other;
-    }
-    if letter == b'S' {
-        if n == 4 {
-            return Command::Window {
-                llx: v[0],
-                lly: v[1],
-                urx: v[2],
-                ury: v[3],
-            };
-        }
-        return Command::Other;
-    }
-    if letter == b'C' {
-        if n == 0 {
-            return Command::Clear;
-        }
-        return Command::Other;
-    }
-    Command::Other
 }
 
 // The command of a line without its LF.
-pub fn parse(line: &[u8]) -> Command
+pub fn parse(line: &[u8]) -> Option<Command>
     ensures { result ≡ command_of line.now }
 {
-    if 80 < line.len() {
-        return Command::Other;
+    if 80 < line.len() || find_byte(line, 0, b' ') != 1 {
+        return None;
     }
-    if find_byte(line, 0, b' ') != 1 {
-        return Command::Other;
-    }
-    let fields = read_fields(line);
-    if !fields.good {
-        return Command::Other;
-    }
-    choose(line[0], fields)
+    let numbers = read_numbers(line)?;
+    choose(line[0], numbers.as_slice())
 }

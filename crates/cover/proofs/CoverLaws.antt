@@ -3,10 +3,8 @@ use mathlib.Core.Path.{◌≡◌, refl, sym, ap, ◌∙◌}
 use mathlib.Core.Bool.{Bool, true, false, ◌&&◌, not, cond, and-true, and_assoc, false≢true}
 use mathlib.Core.List.{List, [], ◌∷◌, ◌++◌}
 use mathlib.Core.Logic.{⊎_elim}
-use Prim.Native.Nat.{ℕ, ◌+◌, ◌<◌, ◌≤◌}
 use native.Mathlib.Omega.{arith}
-use borrow.Author.Tests.{lt-ltb, le-ltb, not-true}
-use lib.ListN.{drop}
+use borrow.Author.Tests.{not-true}
 use Rattle.polygons.specs.Lists.{any}
 use Rattle.polygons.proofs.Booleans.{is_false, not_both, either, or_left, or_right, both, split_and}
 use Rattle.geometry.specs.declared.rect.Cell.{Cell}
@@ -14,34 +12,27 @@ use Rattle.geometry.specs.declared.rect.Rect.{Rect}
 use Rattle.geometry.specs.Cells.{non_empty, has_cell, any_has}
 use Rattle.geometry.specs.Common.{overlap, unless_empty, shares_with}
 use Rattle.geometry.specs.Cut.{x_ceiling, x_floor, y_ceiling, y_floor, pieces, cut}
-use Rattle.geometry.specs.Numbers.{rect_at, rects_in}
 use Rattle.geometry.specs.Refine.{within}
 use Rattle.geometry.proofs.CellLaws.{some_of, of_some, corner, corner_in, within_cells}
 use Rattle.geometry.proofs.CutLaws.{uncut, cut_cells}
-use Rattle.geometry.proofs.NumberLaws.{rects_next, rects_end}
-use Rattle.cover.specs.Tests.{all_pass, covered_by, inside_of, apart, none_remaining, FirstShared}
+use Rattle.cover.specs.Tests.{all_pass, covered_by, none_remaining, from_shared}
 use Rattle.cover.proofs.CoverCells.{covered_none, covered_cons}
-use Rattle.cover.proofs.SkipLaws.{skipped_same}
-use Rattle.cover.proofs.PassLoops.{Passing, passing_start, passing_end, passing_stop, passing_on}
+use Rattle.cover.proofs.SkipLaws.{fewer_behind, shared_first, shared_same}
 
 pass_append : {A : Type 0} (f : A → Bool) (l k : List A) → all_pass f (l ++ k) ≡ all_pass f l && all_pass f k
 unfolding all_pass
 pass_append f [] k = refl
 pass_append f (a ∷ l) k = ap (λ b. f a && b) (pass_append f l k) ∙ sym (and_assoc (f a) (all_pass f l) (all_pass f k))
 
--- nothing of an empty rectangle is left
 module _ (p : List Rect) (r : Rect) where
-  pub remaining_flat : r.urx ≤ r.llx → true ≡ none_remaining p r
-  unfolding none_remaining unless_empty non_empty all_pass
-  remaining_flat h = rw (le-ltb r.llx r.urx h)
+  -- nothing of an empty rectangle is left
+  pub remaining_empty : not (non_empty r) ≡ true → true ≡ none_remaining p r
+  unfolding none_remaining unless_empty all_pass
+  remaining_empty h = rw (not-true _ h)
 
-  pub remaining_low : r.llx < r.urx → r.ury ≤ r.lly → true ≡ none_remaining p r
-  unfolding none_remaining unless_empty non_empty all_pass
-  remaining_low h k = rw (lt-ltb r.llx r.urx h, le-ltb r.lly r.ury k)
-
-  remaining_some : r.llx < r.urx → r.lly < r.ury → none_remaining p r ≡ covered_by p r
-  unfolding none_remaining unless_empty non_empty all_pass
-  remaining_some h k = rw (lt-ltb r.llx r.urx h, lt-ltb r.lly r.ury k) (and-true (covered_by p r))
+  remaining_some : non_empty r ≡ true → none_remaining p r ≡ covered_by p r
+  unfolding none_remaining unless_empty all_pass
+  remaining_some e = rw e (and-true (covered_by p r))
 
 -- the pieces of a cut are not empty
 some_unless_empty : (r : Rect) → all_pass non_empty (unless_empty r) ≡ true
@@ -83,72 +74,34 @@ any_within_cells [] r e c h = absurd (false≢true e)
 any_within_cells (s ∷ p) r e c h = ⊎_elim (λ t. or_left _ _ (within_cells r s c t h)) (λ t. or_right (has_cell s c) _ (any_within_cells p r t c h)) (either _ _ e)
 
 -- a rectangle that is not empty is covered by a polygon with a rectangle that contains it
-pub covered_within : (p : List Rect) (r : Rect) (b : Bool) → r.llx < r.urx → r.lly < r.ury → b ≡ any (within r) p → b ≡ true → true ≡ covered_by p r
-covered_within p r b x y e f = sym (some_covered p r (of_some r (record { wide = x; high = y })) (any_within_cells p r (sym e ∙ f)))
+covered_within : (p : List Rect) (r : Rect) → non_empty r ≡ true → any (within r) p ≡ true → covered_by p r ≡ true
+covered_within p r e f = some_covered p r e (any_within_cells p r f)
 
 -- a rectangle that shares no cell with r covers nothing of it
 covered_apart : (r s : Rect) (p : List Rect) → shares_with s r ≡ false → covered_by (s ∷ p) r ≡ covered_by p r
 unfolding shares_with all_pass
 covered_apart r s p e = covered_cons s p r ∙ rw (uncut r s e) (and-true (covered_by p r))
 
--- what is left of a rectangle that is not empty, from the i₀-th of n rectangles on, of which the i-th is the next to cut
-module _ (m : List ℕ) (n i₀ i : ℕ) (r : Rect) (x : r.llx < r.urx) (y : r.lly < r.ury) (v : FirstShared m n r i₀ i) where
-  -- the rectangles before are passed over
-  remaining_passed : (p : List Rect) → drop i (rects_in m n) ≡ p → none_remaining (drop i₀ (rects_in m n)) r ≡ covered_by p r
-  remaining_passed p e = remaining_some _ r x y ∙ skipped_same m n r (λ q. covered_by q r) (covered_apart r) i₀ i v.skipped ∙ ap (λ q. covered_by q r) e
+-- what is left of a rectangle that is not empty, from the first that shares a cell with it on
+module _ (p : List Rect) (r : Rect) (x : non_empty r ≡ true) where
+  remaining_passed : (q : List Rect) → from_shared p r ≡ q → none_remaining p r ≡ covered_by q r
+  remaining_passed q e = remaining_some p r x ∙ shared_same r (λ k. covered_by k r) (covered_apart r) p ∙ ap (λ k. covered_by k r) e
 
-  pub remaining_end : n ≤ i → false ≡ none_remaining (drop i₀ (rects_in m n)) r
-  remaining_end h = sym (remaining_passed [] (rects_end m n i h) ∙ covered_none r)
+  pub remaining_end : from_shared p r ≡ [] → false ≡ none_remaining p r
+  remaining_end e = sym (remaining_passed [] e ∙ covered_none r)
 
-  module _ (s : Rect) (h : i < n) (e : s ≡ rect_at m i) where
-    later : List Rect
-    later = drop (i + 1) (rects_in m n)
-
-    next_is : drop i (rects_in m n) ≡ s ∷ later
-    unfolding later
-    next_is = rects_next m n i h ∙ ap (λ q. q ∷ drop (i + 1) (rects_in m n)) (sym e)
-
-    pub remaining_within : (b : Bool) → b ≡ within r s → b ≡ true → true ≡ none_remaining (drop i₀ (rects_in m n)) r
+  module _ (s : Rect) (rest : List Rect) (e : from_shared p r ≡ s ∷ rest) where
+    pub remaining_within : within r s ≡ true → true ≡ none_remaining p r
     unfolding any
-    remaining_within b g f =
-        covered_within (s ∷ later) r true x y (sym (or_left (within r s) (any (within r) later) (sym g ∙ f))) refl
-        ∙ sym (remaining_passed (s ∷ later) next_is)
+    remaining_within f = sym (remaining_passed (s ∷ rest) e ∙ covered_within (s ∷ rest) r x (or_left (within r s) (any (within r) rest) f))
 
     -- the pieces of the cut are tested one after another
-    remaining_pieces : none_remaining (drop i₀ (rects_in m n)) r
-        ≡ none_remaining later (x_ceiling r s) && none_remaining later (x_floor r s) && none_remaining later (y_ceiling r s) && none_remaining later (y_floor r s)
+    pub remaining_pieces : none_remaining p r
+        ≡ none_remaining rest (x_ceiling r s) && none_remaining rest (x_floor r s) && none_remaining rest (y_ceiling r s) && none_remaining rest (y_floor r s)
     unfolding cut pieces none_remaining shares_with
     remaining_pieces =
-        let o : non_empty (overlap r s) ≡ true = rw e (v.shares h) in
-        remaining_passed (s ∷ later) next_is ∙ covered_cons s later r ∙ rw o (simp pass_append)
-
-    module _ (p : Rect) (a : Bool) (ep : p ≡ x_ceiling r s) (ea : a ≡ none_remaining (drop (i + 1) (rects_in m n)) p) where
-      ceiling_x : a ≡ none_remaining later (x_ceiling r s)
-      unfolding later
-      ceiling_x = rw (← ep) ea
-
-      pub remaining_stop_1 : a ≡ false → false ≡ none_remaining (drop i₀ (rects_in m n)) r
-      remaining_stop_1 f = rw (remaining_pieces, ← ceiling_x, f)
-
-      module _ (fa : a ≡ true) (q : Rect) (b : Bool) (eq : q ≡ x_floor r s) (eb : b ≡ none_remaining (drop (i + 1) (rects_in m n)) q) where
-        floor_x : b ≡ none_remaining later (x_floor r s)
-        unfolding later
-        floor_x = rw (← eq) eb
-
-        pub remaining_stop_2 : b ≡ false → false ≡ none_remaining (drop i₀ (rects_in m n)) r
-        remaining_stop_2 f = rw (remaining_pieces, ← ceiling_x, ← floor_x, fa, f)
-
-        module _ (fb : b ≡ true) (t : Rect) (c : Bool) (et : t ≡ y_ceiling r s) (ec : c ≡ none_remaining (drop (i + 1) (rects_in m n)) t) where
-          ceiling_y : c ≡ none_remaining later (y_ceiling r s)
-          unfolding later
-          ceiling_y = rw (← et) ec
-
-          pub remaining_stop_3 : c ≡ false → false ≡ none_remaining (drop i₀ (rects_in m n)) r
-          remaining_stop_3 f = rw (remaining_pieces, ← ceiling_x, ← floor_x, ← ceiling_y, fa, fb, f)
-
-          pub remaining_last : (u : Rect) (d : Bool) → c ≡ true → u ≡ y_floor r s → d ≡ none_remaining (drop (i + 1) (rects_in m n)) u → d ≡ none_remaining (drop i₀ (rects_in m n)) r
-          unfolding later
-          remaining_last u d f eu ed = rw (remaining_pieces, ← ceiling_x, ← floor_x, ← ceiling_y, fa, fb, f, ← eu) ed
+        let o : non_empty (overlap r s) ≡ true = shared_first r p s rest e in
+        remaining_passed (s ∷ rest) e ∙ covered_cons s rest r ∙ rw o (simp pass_append)
 
 -- an empty rectangle is not covered: no rectangle cuts it
 module _ (r : Rect) (e : non_empty r ≡ false) where
@@ -164,68 +117,14 @@ module _ (r : Rect) (e : non_empty r ≡ false) where
   covered_empty [] = sym (covered_none r)
   covered_empty (s ∷ p) = covered_empty p ∙ sym (covered_apart r s p (none_shared s))
 
-module _ (m : List ℕ) (n : ℕ) (r : Rect) where
-  pub covered_flat : r.urx ≤ r.llx → false ≡ covered_by (rects_in m n) r
-  unfolding non_empty
-  covered_flat h = covered_empty r (rw (le-ltb r.llx r.urx h)) (rects_in m n)
+-- a rectangle that is not empty and lies in none of the polygon's is covered where nothing of it remains
+module _ (p : List Rect) (r : Rect) where
+  pub covered_in : non_empty r ≡ true → any (within r) p ≡ true → true ≡ covered_by p r
+  covered_in e f = sym (covered_within p r e f)
 
-  pub covered_low : r.llx < r.urx → r.ury ≤ r.lly → false ≡ covered_by (rects_in m n) r
-  unfolding non_empty
-  covered_low h k = covered_empty r (rw (lt-ltb r.llx r.urx h, le-ltb r.lly r.ury k)) (rects_in m n)
+  pub covered_whole : non_empty r ≡ true → (b : Bool) → b ≡ none_remaining p r → b ≡ covered_by p r
+  covered_whole e b f = f ∙ remaining_some p r e
 
-  pub covered_whole : (b : Bool) → r.llx < r.urx → r.lly < r.ury → b ≡ none_remaining (drop 0 (rects_in m n)) r → b ≡ covered_by (rects_in m n) r
-  covered_whole b x y e = e ∙ remaining_some (rects_in m n) r x y
+pub ruleset covering = (covered_empty, covered_in, covered_whole)
 
--- whether a list is inside a polygon, rectangle by rectangle
-pub record Insides (p : List Rect) (q : List ℕ) (k i : ℕ) (w : Bool) : Type 0 where
-  pub i_le : i ≤ k
-  pub passing : Passing (covered_by p) (rects_in q k) i w
-
-pub inside_start : (p : List Rect) (q : List ℕ) (k : ℕ) → Insides p q k 0 (inside_of p (rects_in q k))
-unfolding inside_of
-inside_start p q k = record { i_le = omega arith; passing = passing_start (covered_by p) (rects_in q k) }
-
-module _ (p : List Rect) (q : List ℕ) (k i : ℕ) (w : Bool) (v : Insides p q k i w) where
-  pub inside_end : k ≤ i → true ≡ w
-  inside_end h = passing_end (covered_by p) (rects_in q k) i w v.passing (rects_end q k i h)
-
-  module _ (h : i < k) (r : Rect) (e : r ≡ rect_at q i) (b : Bool) (f : b ≡ covered_by p r) where
-    pub inside_stop : b ≡ false → false ≡ w
-    inside_stop g = passing_stop (covered_by p) (rects_in q k) i w v.passing (rect_at q i) (rects_next q k i h) (ap (covered_by p) (sym e) ∙ sym f ∙ g)
-
-    pub inside_on : b ≡ true → Insides p q k (i + 1) w
-    inside_on g = record {
-      i_le = omega arith;
-      passing = passing_on (covered_by p) (rects_in q k) i w v.passing (rect_at q i) (rects_next q k i h) (ap (covered_by p) (sym e) ∙ sym f ∙ g);
-    }
-
--- a rectangle shares no cell with a list
-unfoldable pub none_shares : List Rect → Rect → Bool
-none_shares q r = not (any (shares_with r) q)
-
--- whether two lists share no cell, rectangle by rectangle of the first
-pub record Aparts (p : List ℕ) (n : ℕ) (q : List Rect) (i : ℕ) (w : Bool) : Type 0 where
-  pub i_le : i ≤ n
-  pub passing : Passing (none_shares q) (rects_in p n) i w
-
-pub apart_start : (p : List ℕ) (n : ℕ) (q : List Rect) → Aparts p n q 0 (apart (rects_in p n) q)
-unfolding apart none_shares
-apart_start p n q = record { i_le = omega arith; passing = passing_start (none_shares q) (rects_in p n) }
-
-module _ (p : List ℕ) (n : ℕ) (q : List Rect) (i : ℕ) (w : Bool) (v : Aparts p n q i w) where
-  pub apart_end : n ≤ i → true ≡ w
-  apart_end h = passing_end (none_shares q) (rects_in p n) i w v.passing (rects_end p n i h)
-
-  module _ (h : i < n) (r : Rect) (e : r ≡ rect_at p i) (b : Bool) (f : b ≡ any (shares_with r) q) where
-    shares_is : none_shares q (rect_at p i) ≡ not b
-    unfolding none_shares
-    shares_is = ap (λ s. not (any (shares_with s) q)) (sym e) ∙ ap not (sym f)
-
-    pub apart_stop : b ≡ true → false ≡ w
-    apart_stop g = passing_stop (none_shares q) (rects_in p n) i w v.passing (rect_at p i) (rects_next p n i h) (shares_is ∙ ap not g)
-
-    pub apart_on : b ≡ false → Aparts p n q (i + 1) w
-    apart_on g = record {
-      i_le = omega arith;
-      passing = passing_on (none_shares q) (rects_in p n) i w v.passing (rect_at p i) (rects_next p n i h) (shares_is ∙ ap not g);
-    }
+pub ruleset remaining = (remaining_empty, remaining_end, remaining_within, fewer_behind)

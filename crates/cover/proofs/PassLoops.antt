@@ -4,7 +4,14 @@ use mathlib.Core.Bool.{Bool, true, false, ◌&&◌}
 use mathlib.Core.List.{List, [], ◌∷◌}
 use Prim.Native.Nat.{ℕ, ◌+◌}
 use lib.ListN.{drop}
+use Rattle.std.specs.List.{list_all}
 use Rattle.cover.specs.Tests.{all_pass, pairs_pass}
+
+-- std's word for `all_pass`
+pub list_all-pass : {A : Type 0} (f : A → Bool) (l : List A) → list_all f l ≡ all_pass f l
+unfolding all_pass
+list_all-pass f [] = refl
+list_all-pass f (a ∷ l) = rw (list_all-pass f l)
 
 -- Whether all elements pass is w, and it is settled by those from the i-th on.
 pub record Passing {A : Type 0} (f : A → Bool) (l : List A) (i : ℕ) (w : Bool) : Type 0 where

@@ -1,12 +1,11 @@
 -- Lists of rectangles against each other, as tests: a rectangle covered by a list, one list inside another, two apart.
 -- The theorems of CoverCells say that they pass exactly where the cells are so.
 -- docs/RULES.md 2.7, 3.7, 3.8
-use Rattle.std.specs.Prelude.{ℕ, ◌≤◌, ◌<◌, ◌≡◌, Bool, true, false, ◌&&◌, not, List, [], ◌∷◌}
+use Rattle.std.specs.Prelude.{◌≡◌, Bool, true, false, ◌&&◌, not, cond, List, [], ◌∷◌, Option, Some, None}
 use Rattle.polygons.specs.Lists.{any}
 use Rattle.geometry.specs.declared.rect.Rect.{Rect}
 use Rattle.geometry.specs.Common.{shares_with, unless_empty}
 use Rattle.geometry.specs.Cut.{cut_all}
-use Rattle.geometry.specs.Numbers.{rect_at}
 
 -- every element passes
 unfoldable pub all_pass : {A : Type 0} → (A → Bool) → List A → Bool
@@ -39,13 +38,12 @@ apart p q = all_pass (λ r. not (any (shares_with r) q)) p
 unfoldable pub none_remaining : List Rect → Rect → Bool
 none_remaining p r = all_pass (covered_by p) (unless_empty r)
 
--- the rectangles from the i-th to before the j-th of n share no cell with r, so they cut nothing of it
-pub record Skipped (m : List ℕ) (n : ℕ) (r : Rect) (i j : ℕ) : Type 0 where
-  pub from : i ≤ j
-  pub to : j ≤ n
-  pub unshared : (k : ℕ) → i ≤ k → k < j → shares_with (rect_at m k) r ≡ false
+-- the list from its first rectangle that shares a cell with r on: those before it cut nothing of r
+unfoldable pub from_shared : List Rect → Rect → List Rect
+from_shared [] r = []
+from_shared (s ∷ p) r = let later = from_shared p r in cond (shares_with s r) (s ∷ p) later
 
--- and the j-th, if there is one, shares a cell with r
-pub record FirstShared (m : List ℕ) (n : ℕ) (r : Rect) (i j : ℕ) : Type 0 where
-  pub skipped : Skipped m n r i j
-  pub shares : j < n → shares_with (rect_at m j) r ≡ true
+-- the first rectangle that shares a cell with r, if there is one, was found, and the rest stands behind it
+abbrev pub FirstShared : List Rect → Rect → Option Rect → List Rect → Type 0
+FirstShared p r None rest = from_shared p r ≡ []
+FirstShared p r (Some s) rest = from_shared p r ≡ s ∷ rest

@@ -4,5 +4,5 @@
 mod covering;
 mod scans;
 
-pub use covering::{first_shared, inside};
+pub use covering::{inside, next_shared};
 pub use scans::are_apart;

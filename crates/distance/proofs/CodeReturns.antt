@@ -1,5 +1,5 @@
 -- The distances as the code computes them: squares that fit 64 bits, clamped coordinates.
-use Prim.Native.Nat.{ℕ, ◌+◌, ◌*◌, ◌≤◌, ◌<◌}
+use Prim.Native.Nat.{ℕ, ◌*◌, ◌≤◌, ◌<◌}
 use mathlib.Core.Bool.{true}
 use mathlib.Core.Path.{◌≡◌, ap, ◌∙◌}
 use native.Mathlib.Omega.{arith}
@@ -25,10 +25,6 @@ module _ (c d : Cell) (hc : on_grid c ≡ true) (hd : on_grid d ≡ true) where
   y_square n e =
       let s : n ≤ 65535 = let g = gap_small c.y d.y 65535 (grid_of c hc).y_most (grid_of d hd).y_most in omega arith in
       square_le n 65535 s
-
-  pub squares : (m n : ℕ) → m ≡ gap c.x d.x → n ≡ gap c.y d.y → m * m + n * n ≡ squared c d
-  unfolding squared
-  squares m n e f = rw (e, f)
 
 -- the nearest cell of a rectangle, by its coordinates
 module _ (c : Cell) (r : Rect) (x y : ℕ) (e : x ≡ clamped r.llx r.urx c.x) (f : y ≡ clamped r.lly r.ury c.y) where

@@ -1,76 +1,60 @@
 -- The loop over the rectangles of a list that keeps the least distance.
-use Prim.Native.Nat.{ℕ, zero, suc, ◌+◌, ◌≤◌, ◌<◌, min}
-use mathlib.Core.Bool.{Bool, true, false}
-use mathlib.Core.Path.{◌≡◌, refl, sym, ap, ◌∙◌}
-use mathlib.Core.List.{List, [], ◌∷◌, ◌++◌}
-use lib.Arith.{lt_of_le-ne}
-use lib.Dec.{eqb}
+use Prim.Native.Nat.{ℕ, min}
+use mathlib.Core.Bool.{true}
+use mathlib.Core.Path.{◌≡◌, refl, sym, ◌∙◌}
+use mathlib.Core.List.{List, [], ◌∷◌}
 use native.Mathlib.Omega.{arith}
-use native.Mathlib.Numerals.{add-one}
-use borrow.Author.Tests.{eqb-true, eqb-false}
 use Rattle.polygons.specs.Lists.{least}
 use Rattle.polygons.specs.Rules.{least_distance}
-use Rattle.polygons.proofs.LeastLaws.{least_append}
 use Rattle.polygons.proofs.Booleans.{split_and}
 use Rattle.geometry.specs.declared.rect.Cell.{Cell}
 use Rattle.geometry.specs.declared.rect.Rect.{Rect}
+use Rattle.geometry.specs.declared.rects.Rects.{Rects}
+use Rattle.geometry.specs.Rects.{rects_left}
 use Rattle.geometry.specs.Cells.{valid, all_valid}
-use Rattle.geometry.specs.Numbers.{rect_at, rects_in}
-use Rattle.geometry.proofs.CellLaws.{valid_append}
 use Rattle.distance.specs.Distance.{rect_distance}
 
--- the i-th of some valid rectangles
-valid_at : (m : List ℕ) (n i : ℕ) → all_valid (rects_in m n) ≡ true → i < n → valid (rect_at m i) ≡ true
-unfolding rects_in
-valid_at m zero i h k = absurd (omega arith)
-valid_at m (suc n) i h k =
-    let v = split_and (all_valid (rects_in m n)) (all_valid (rect_at m n ∷ [])) (sym (valid_append (rects_in m n) (rect_at m n ∷ [])) ∙ h) in
-    go (eqb i n) refl (valid_at m n i v.0) (last (rect_at m n) v.1)
-  where
-    last : (r : Rect) → all_valid (r ∷ []) ≡ true → valid r ≡ true
-    last r h = (split_and (valid r) (all_valid []) (unfold all_valid in h)).0
+-- the lesser of a number and the least distance to some rectangles
+unfoldable pub lesser : Cell → ℕ → List Rect → ℕ
+lesser c best [] = best
+lesser c best (r ∷ l) = min best (least_distance rect_distance c (r ∷ l))
 
-    go : (b : Bool) → eqb i n ≡ b → (i < n → valid (rect_at m i) ≡ true) → valid (rect_at m n) ≡ true → valid (rect_at m i) ≡ true
-    go true e f g = ap (λ (j : ℕ). valid (rect_at m j)) (eqb-true i n e) ∙ g
-    go false e f g = f (let x = eqb-false i n e in lt_of_le-ne (omega arith) x)
+-- the least distance to all, where the best so far and the rest are left to compare
+pub record Least (c : Cell) (all rest : List Rect) (best : ℕ) : Type 0 where
+  pub fine : all_valid rest ≡ true
+  pub total : least_distance rect_distance c all ≡ lesser c best rest
 
-pub valid_read : (m : List ℕ) (n i : ℕ) (r : Rect) → all_valid (rects_in m n) ≡ true → i < n → r ≡ rect_at m i → valid r ≡ true
-valid_read m n i r h k e = ap valid e ∙ valid_at m n i h k
+-- the first of valid rectangles is valid
+pub valid_first : (r : Rect) (rest l : List Rect) → all_valid l ≡ true → l ≡ r ∷ rest → valid r ≡ true
+unfolding all_valid
+valid_first r rest l h e = (split_and (valid r) (all_valid rest) (rw e at h)).0
 
--- the least distance to the first i rectangles
-pub record Least (m : List ℕ) (n : ℕ) (c : Cell) (best i : ℕ) : Type 0 where
-  pub some : 1 ≤ i
-  pub few : i ≤ n
-  pub best_is : best ≡ least_distance rect_distance c (rects_in m i)
+valid_rest : (r : Rect) (rest l : List Rect) → all_valid l ≡ true → l ≡ r ∷ rest → all_valid rest ≡ true
+unfolding all_valid
+valid_rest r rest l h e = (split_and (valid r) (all_valid rest) (rw e at h)).1
 
-pub least_start : (m : List ℕ) (n : ℕ) (c : Cell) (r : Rect) (d : ℕ) → 1 ≤ n → r ≡ rect_at m 0 → d ≡ rect_distance c r → Least m n c d 1
-unfolding rects_in least
-least_start m n c r d h q e = record { some = omega arith; few = h; best_is = e ∙ ap (rect_distance c) q }
+module _ (c : Cell) (all : List Rect) where
+  pub least_none : all ≡ [] → 0 ≡ least_distance rect_distance c all
+  unfolding least
+  least_none e = rw e
 
--- with one rectangle more
-more : (m : List ℕ) (c : Cell) (i : ℕ) → 1 ≤ i
-    → least_distance rect_distance c (rects_in m (i + 1)) ≡ min (least_distance rect_distance c (rects_in m i)) (rect_distance c (rect_at m i))
-unfolding rects_in
-more m c zero h = absurd (omega arith)
-more m c (suc i) h = rw (add-one (suc i)) (go (rects_in m i))
-  where
-    snoc : (a : Rect) (l : List Rect) (b : Rect) → least (rect_distance c) ((a ∷ l) ++ (b ∷ [])) ≡ min (least (rect_distance c) (a ∷ l)) (rect_distance c b)
-    snoc a l b = least_append (rect_distance c) b [] a l ∙ ap (min (least (rect_distance c) (a ∷ l))) (unfold least in refl)
+  start : (r : Rect) (rest : List Rect) → least_distance rect_distance c (r ∷ rest) ≡ lesser c (rect_distance c r) rest
+  unfolding least lesser
+  start r [] = refl
+  start r (s ∷ l) = refl
 
-    go : (l : List Rect)
-        → least (rect_distance c) ((l ++ (rect_at m i ∷ [])) ++ (rect_at m (suc i) ∷ [])) ≡ min (least (rect_distance c) (l ++ (rect_at m i ∷ []))) (rect_distance c (rect_at m (suc i)))
-    go [] = snoc (rect_at m i) [] (rect_at m (suc i))
-    go (r ∷ l) = snoc r (l ++ (rect_at m i ∷ [])) (rect_at m (suc i))
+  pub least_start : (r : Rect) (more it : Rects) → it ≡ more → (d : ℕ) → all_valid all ≡ true → all ≡ r ∷ rects_left more → d ≡ rect_distance c r → Least c all (rects_left it) d
+  least_start r more it q d h e f = rw q (record { fine = valid_rest r (rects_left more) all h e; total = rw (e, f) (start r (rects_left more)) })
 
-module _ (m : List ℕ) (n : ℕ) (c : Cell) (best i : ℕ) (w : Least m n c best i) (h : i < n) (r : Rect) (q : r ≡ rect_at m i) (d : ℕ) (e : d ≡ rect_distance c r) where
-  next_is : least_distance rect_distance c (rects_in m (i + 1)) ≡ min best d
-  next_is =
-      let a = more m c i w.some in let b = w.best_is in
-      let f : d ≡ rect_distance c (rect_at m i) = e ∙ ap (rect_distance c) q in
-      omega arith
+  next : (r : Rect) (rest : List Rect) (best : ℕ) → lesser c best (r ∷ rest) ≡ lesser c (min best (rect_distance c r)) rest
+  unfolding least lesser
+  next r [] best = refl
+  next r (s ∷ l) best = omega arith
 
-  pub least_next : (b : ℕ) → b ≡ min best d → Least m n c b (i + 1)
-  least_next b k = record { some = omega arith; few = omega arith; best_is = k ∙ sym next_is }
+  pub least_next : (rest : List Rect) (best : ℕ) → Least c all rest best → (r : Rect) (rest' : List Rect) → rest ≡ r ∷ rest' → (b d : ℕ) → b ≡ min best d → d ≡ rect_distance c r
+      → Least c all rest' b
+  least_next rest best v r rest' e b d f g = record { fine = valid_rest r rest' rest v.fine e; total = v.total ∙ rw (e, f, g) (next r rest' best) }
 
-pub least_end : (m : List ℕ) (n : ℕ) (c : Cell) (best i : ℕ) → Least m n c best i → n ≤ i → best ≡ least_distance rect_distance c (rects_in m n)
-least_end m n c best i w h = let q : i ≡ n = omega (arith, w.few) in w.best_is ∙ ap (λ (k : ℕ). least_distance rect_distance c (rects_in m k)) q
+  pub least_end : (rest : List Rect) (best : ℕ) → Least c all rest best → rest ≡ [] → best ≡ least_distance rect_distance c all
+  unfolding lesser
+  least_end rest best v e = sym (v.total ∙ rw e)

@@ -3,7 +3,7 @@ ghost use Rattle.std.specs.Prelude.{◌≡◌, true};
 ghost use Rattle.geometry.specs.Cells.{on_grid, valid};
 ghost use Rattle.distance.specs.Distance.{squared, rect_distance};
 
-use crate::clamp::{clamp_to, gap_of};
+use crate::clamp::clamp_to;
 use geometry::{Cell, Rect};
 
 // The squared distance of two cells.
@@ -12,8 +12,8 @@ pub fn squared_distance(c: Cell, d: Cell) -> u64
     requires d_value { on_grid d ≡ true }
     ensures { result ≡ squared c d }
 {
-    let dx = gap_of(c.x, d.x) as u64;
-    let dy = gap_of(c.y, d.y) as u64;
+    let dx = c.x.abs_diff(d.x) as u64;
+    let dy = c.y.abs_diff(d.y) as u64;
     dx * dx + dy * dy
 }
 

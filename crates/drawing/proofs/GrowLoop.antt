@@ -1,6 +1,6 @@
 -- Growing each rectangle of a list, and the extra area of one.
 use mathlib.Core.Path.{◌≡◌, refl, sym, ◌∙◌, ap}
-use mathlib.Core.Bool.{Bool, true, false, ◌&&◌}
+use mathlib.Core.Bool.{Bool, true, ◌&&◌}
 use mathlib.Core.List.{List, [], ◌∷◌, ◌++◌, map, map-append}
 use Prim.Native.Nat.{ℕ, ◌+◌, ◌*◌, ◌/◌, ◌≤◌, ◌<◌}
 use native.Mathlib.Omega.{arith}
@@ -14,12 +14,14 @@ use Rattle.geometry.specs.Grow.{grown}
 use Rattle.geometry.specs.Numbers.{rect_at, rects_in, put_at, numbers_of}
 use Rattle.geometry.proofs.NumberLaws.{length_rects, rects_suc, length_put, put_behind, put_rest, numbers_take}
 use Rattle.area.specs.Lacked.{extra_area}
-use Rattle.drawing.specs.declared.answer.Answer.TheVariants.{Wrote}
-use Rattle.drawing.specs.declared.answer.Extra.TheVariants.{Area, Unfit}
-use Rattle.drawing.specs.Arguments.{given, is_list, is_result}
+use Rattle.std.specs.Prelude.{Result, Ok, Err, ⊤}
+use Rattle.std.specs.Result.{IsErrAnd}
+use Rattle.drawing.specs.declared.answer.Refusal.{Refusal}
+use Rattle.drawing.specs.Arguments.{given, is_list, is_result, accepted}
 use Rattle.drawing.specs.Answers.{Drawn, extra_of}
-use Rattle.drawing.specs.Calls.{grown_to, grow_drawn, valid_extra, extra_drawn}
-use Rattle.drawing.proofs.Returns.{list_few, valid_three, wrote}
+use Rattle.drawing.specs.Calls.{grown_to, grow_drawn, valid_alone, valid_extra, extra_drawn}
+use Rattle.drawing.proofs.Accepted.{is_true, handed_on}
+use Rattle.drawing.proofs.Returns.{list_short, valid_three, wrote}
 
 -- The first i of n rectangles are written, grown; the numbers behind them are as they were.
 pub record Growing (list : List ℕ) (n : ℕ) (c : Cell) (out₀ out : List ℕ) (i : ℕ) : Type 0 where
@@ -66,32 +68,41 @@ module _ (list : List ℕ) (n : ℕ) (c : Cell) (out₀ out : List ℕ) (i : ℕ
       sym (take-append-drop (4 * n) out) ∙ rw (← numbers_take out n v.room, a, b)
 
 -- the answer of grow
-pub grow_wrote : (list out : List ℕ) (c : Cell) (b d : Bool) (out' : List ℕ) → length out ≡ 1024
-    → b ≡ is_list most_pieces list → b ≡ true → d ≡ on_grid c → d ≡ true
-    → out' ≡ numbers_of (map (grown_to c) (rects_in list (length list / 4))) ++ drop (4 * (length list / 4)) out
-    → Drawn (is_result out && is_list most_pieces list && on_grid c) (grow_drawn list c) out (Wrote (length list / 4))
-    out'
-unfolding grow_drawn
-grow_wrote list out c b d out' g e f h k q =
-    let l = list_few most_pieces list b e f in
-    let m : length list / 4 ≡ length (map (grown_to c) (given list)) =
-    sym (length-map (given list) (grown_to c) ∙ length_rects list (length list / 4)) in
-    wrote _ _ out _ _ out' (valid_three list out (on_grid c) (grow_drawn list c) g b e f d h k) refl m (omega arith) q
+module _ (list out : List ℕ) (c : Cell) (a : Result ⊤ Refusal) (e : a ≡ accepted (valid_alone list out)) (f : a ≡ Ok tt)
+    (b : Result ⊤ Refusal) (d : Bool) (h : d ≡ on_grid c) (g : b ≡ accepted d) (k : b ≡ Ok tt) where
+  pub on_grid_is : on_grid c ≡ true
+  on_grid_is = sym h ∙ is_true d b g k
+
+  pub grow_wrote : (out' : List ℕ)
+      → out' ≡ numbers_of (map (grown_to c) (rects_in list (length list / 4))) ++ drop (4 * (length list / 4)) out
+      → Drawn (is_result out && is_list most_pieces list && on_grid c) (grow_drawn list c) out (Ok (length list / 4)) out'
+  unfolding grow_drawn
+  grow_wrote out' q =
+      let l = list_short list out a e f in
+      let m : length list / 4 ≡ length (map (grown_to c) (given list)) =
+      sym (length-map (given list) (grown_to c) ∙ length_rects list (length list / 4)) in
+      wrote _ _ out _ _ out' (valid_three list out (on_grid c) (grow_drawn list c) a e f b d h g k) refl m (omega arith) q
 
 -- the answer of the extra area
-module _ (r : Rect) (c : Cell) (b : Bool) (e : b ≡ valid r) where
-  pub unfit_rect : b ≡ false → Unfit ≡ extra_of (valid_extra r c) (extra_drawn r c)
+module _ (r : Rect) (c : Cell) (a : Result ⊤ Refusal) (b : Bool) (e : b ≡ valid r) (f : a ≡ accepted b) where
+  pub unfit_rect : (s : Result ℕ Refusal) (x : Refusal) → a ≡ Err x → IsErrAnd s (λ y. y ≡ x)
+      → s ≡ extra_of (valid_extra r c) (extra_drawn r c)
   unfolding valid_extra extra_of
-  unfit_rect f = rw (← e, f)
+  unfit_rect s x g v = let t = handed_on b a f s x g v in rw (← e, t.0) t.1
 
-  pub fit_rect : b ≡ true → valid r ≡ true
-  fit_rect f = sym e ∙ f
+  module _ (g : a ≡ Ok tt) where
+    pub fit_rect : valid r ≡ true
+    fit_rect = sym e ∙ is_true b a f g
 
-  module _ (f : b ≡ true) (d : Bool) (h : d ≡ on_grid c) where
-    pub unfit_cell : d ≡ false → Unfit ≡ extra_of (valid_extra r c) (extra_drawn r c)
-    unfolding valid_extra extra_of
-    unfit_cell k = rw (← e, f, ← h, k)
+    module _ (k : Result ⊤ Refusal) (d : Bool) (h : d ≡ on_grid c) (l : k ≡ accepted d) where
+      pub unfit_cell : (s : Result ℕ Refusal) (x : Refusal) → k ≡ Err x → IsErrAnd s (λ y. y ≡ x)
+          → s ≡ extra_of (valid_extra r c) (extra_drawn r c)
+      unfolding valid_extra extra_of
+      unfit_cell s x m v = let t = handed_on d k l s x m v in rw (fit_rect, ← h, t.0) t.1
 
-    pub fit : (n : ℕ) → d ≡ true → n ≡ extra_area (r ∷ []) r c → Area n ≡ extra_of (valid_extra r c) (extra_drawn r c)
-    unfolding valid_extra extra_drawn extra_of
-    fit n k q = rw (← e, f, ← h, k, q)
+      pub fit_cell : k ≡ Ok tt → on_grid c ≡ true
+      fit_cell m = sym h ∙ is_true d k l m
+
+      pub fit : (n : ℕ) → k ≡ Ok tt → n ≡ extra_area (r ∷ []) r c → Ok n ≡ extra_of (valid_extra r c) (extra_drawn r c)
+      unfolding valid_extra extra_drawn extra_of
+      fit n m q = rw (fit_rect, fit_cell m, q)

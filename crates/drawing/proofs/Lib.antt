@@ -1,3 +1,4 @@
+pub mod Accepted
 pub mod Returns
 pub mod GrowLoop
 pub mod PolygonCutReturns

@@ -1,24 +1,20 @@
 -- What the calls of the drawing exercise answer, and what they leave in the result list.
 -- docs/RULES.md 2.21, 2.23, 2.24, 5.11
-use Rattle.std.specs.Prelude.{ℕ, ◌*◌, ◌≤◌, Bool, true, false, List, ◌++◌, ◌≡◌, length, drop}
+use Rattle.std.specs.Prelude.{ℕ, ◌*◌, ◌≤◌, Bool, true, false, List, ◌++◌, ◌≡◌, length, drop, Result, Ok, Err}
 use Rattle.std.proofs.Math.Option.{Option, none, some}
 use Rattle.geometry.specs.declared.rect.Rect.{Rect}
 use Rattle.geometry.specs.declared.containment.Containment.{Containment}
 use Rattle.geometry.specs.Numbers.{numbers_of, rects_in}
 use Rattle.geometry.specs.Refine.{refine}
-use Rattle.drawing.specs.declared.answer.Answer.{Answer}
-use Rattle.drawing.specs.declared.answer.Answer.TheVariants.{Wrote, Invalid, TooMany}
-use Rattle.drawing.specs.declared.answer.Contains.{Contains}
-use Rattle.drawing.specs.declared.answer.Contains.TheVariants.{Tested, Refused}
-use Rattle.drawing.specs.declared.answer.Extra.{Extra}
-use Rattle.drawing.specs.declared.answer.Extra.TheVariants.{Area, Unfit}
+use Rattle.drawing.specs.declared.answer.Refusal.{Refusal}
+use Rattle.drawing.specs.declared.answer.Refusal.TheVariants.{Invalid, TooMany}
 
--- The answer of a call, from whether all its arguments are valid and the limited list that its rule gives. The test
--- for 3 comes before that for 7.
-unfoldable pub answer_of : Bool → Option (List Rect) → Answer
-answer_of false l = Invalid
-answer_of true none = TooMany
-answer_of true (some l) = Wrote (length l)
+-- The answer of a call, from whether all its arguments are valid and the limited list that its rule gives: how many
+-- rectangles were written. The test for 3 comes before that for 7.
+unfoldable pub answer_of : Bool → Option (List Rect) → Result ℕ Refusal
+answer_of false l = Err Invalid
+answer_of true none = Err TooMany
+answer_of true (some l) = Ok (length l)
 
 -- The result list at exit: 'the result list stays as it was; places past the result stay too.'
 unfoldable pub result_of : Bool → Option (List Rect) → List ℕ → List ℕ
@@ -27,13 +23,12 @@ result_of true none out = out
 result_of true (some l) out = numbers_of l ++ drop (4 * length l) out
 
 -- a written count is at most 256
-abbrev pub few : Answer → Type 0
-few (Wrote n) = n ≤ 256
-few Invalid = Unit {0}
-few TooMany = Unit {0}
+abbrev pub few : Result ℕ Refusal → Type 0
+few (Ok n) = n ≤ 256
+few (Err r) = Unit {0}
 
 -- What a call promises: its answer and the whole result list at exit.
-pub record Drawn (valid : Bool) (limited : Option (List Rect)) (out : List ℕ) (a : Answer)
+pub record Drawn (valid : Bool) (limited : Option (List Rect)) (out : List ℕ) (a : Result ℕ Refusal)
     (out' : List ℕ) : Type 0 where
   pub answer : a ≡ answer_of valid limited
   pub result : out' ≡ result_of valid limited out
@@ -47,11 +42,11 @@ pub record RefinedInto (list : List ℕ) (n : ℕ) (out : List ℕ) (m : ℕ) (o
   pub fewer : m ≤ n
 
 -- The answer of the containment test, from whether its arguments are valid and what the test reports.
-unfoldable pub contains_of : Bool → Containment → Contains
-contains_of false t = Refused
-contains_of true t = Tested t
+unfoldable pub contains_of : Bool → Containment → Result Containment Refusal
+contains_of false t = Err Invalid
+contains_of true t = Ok t
 
 -- The answer of the extra area.
-unfoldable pub extra_of : Bool → ℕ → Extra
-extra_of false n = Unfit
-extra_of true n = Area n
+unfoldable pub extra_of : Bool → ℕ → Result ℕ Refusal
+extra_of false n = Err Invalid
+extra_of true n = Ok n

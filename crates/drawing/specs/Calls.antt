@@ -1,7 +1,7 @@
 -- The calls of the drawing exercise: for each, whether its arguments are valid, and the limited list that its rule
 -- gives.
 -- docs/RULES.md 2.19, 2.22
-use Rattle.std.specs.Prelude.{ℕ, Bool, ◌&&◌, List, [], ◌∷◌, map}
+use Rattle.std.specs.Prelude.{ℕ, Bool, ◌&&◌, List, [], ◌∷◌, map, Result}
 use Rattle.std.proofs.Math.Option.{Option, some}
 use Rattle.polygons.specs.Limits.{at_most, most_of_polygon, most_pieces}
 use Rattle.geometry.specs.declared.rect.Cell.{Cell}
@@ -14,7 +14,7 @@ use Rattle.geometry.specs.Cut.{cut_list, cut_limited}
 use Rattle.geometry.specs.Grow.{grown}
 use Rattle.geometry.specs.Refine.{refine}
 use Rattle.area.specs.Lacked.{extra_area}
-use Rattle.drawing.specs.declared.answer.Contains.{Contains}
+use Rattle.drawing.specs.declared.answer.Refusal.{Refusal}
 use Rattle.drawing.specs.Arguments.{given, is_list, is_result}
 use Rattle.drawing.specs.Answers.{contains_of}
 
@@ -65,7 +65,7 @@ valid_contains p c = is_list most_of_polygon p && on_grid c
 unfoldable pub contains_drawn : List ℕ → Cell → Containment
 contains_drawn p c = containment (given p) c
 
-abbrev pub contains_answer : List ℕ → Cell → Contains
+abbrev pub contains_answer : List ℕ → Cell → Result Containment Refusal
 contains_answer p c = contains_of (valid_contains p c) (contains_drawn p c)
 
 -- a rectangle and a cell, and the rectangle's extra area as that of a polygon of one rectangle

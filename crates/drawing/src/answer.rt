@@ -1,49 +1,32 @@
-// What the calls answer. The crate drawing_c gives the number for each: `number`, `contains_number`, `extra_number`,
-// `polygon_cut_number` and `wkb_number` of its specs/Exports.antt.
-use geometry::Containment;
+// Why a call refuses, and what the cut by a polygon reports. The crate drawing_c gives the number of each refusal:
+// `refusal_number` of its specs/Exports.antt.
+ghost use Rattle.std.specs.Prelude.{◌≡◌};
+ghost use Rattle.drawing.specs.declared.answer.Refusal.TheVariants.{TooMany};
 
-#[derive(Clone, Copy)]
-pub enum Answer {
-    // accepted: how many rectangles were written
-    Wrote(usize),
+#[derive(Clone, Copy, Debug, PartialEq, Eq)]
+pub enum Refusal {
     // an invalid rectangle, cell, count or length
     Invalid,
     // a list over 256 after a single cut
     TooMany,
-}
-
-#[derive(Clone, Copy)]
-pub enum PolygonCut {
-    // accepted: how many rectangles were written, and how many cells were removed
-    Wrote { rects: usize, removed: u64 },
-    // an invalid rectangle, count or length
-    Invalid,
-    // a list over 256 after a single cut
-    TooMany,
-}
-
-#[derive(Clone, Copy)]
-pub enum Contains {
-    // accepted: whether a rectangle has the cell, and how many were compared
-    Tested(Containment),
-    // an invalid rectangle, cell, count or length
-    Refused,
-}
-
-#[derive(Clone, Copy)]
-pub enum Extra {
-    // accepted: the extra area
-    Area(u64),
-    // an invalid rectangle or cell
-    Unfit,
-}
-
-#[derive(Clone, Copy)]
-pub enum Wkb {
-    // accepted: how many bytes were written
-    Bytes(usize),
-    // an invalid rectangle, count or length of the polygon
-    BadPolygon,
     // the output is shorter than the bytes
     ShortOutput,
+}
+
+// So `?` hands on that a list is over 256.
+impl From<geometry::TooMany> for Refusal {
+    ghost from_gives = { λ _ e. e ≡ TooMany };
+
+    fn from(_over: geometry::TooMany) -> Refusal {
+        Refusal::TooMany
+    }
+}
+
+// What an accepted cut by a polygon reports.
+#[derive(Clone, Copy)]
+pub struct PolygonCut {
+    // how many rectangles were written
+    pub rects: usize,
+    // how many cells were removed
+    pub removed: u64,
 }

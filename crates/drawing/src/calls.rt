@@ -5,37 +5,27 @@ ghost use Rattle.geometry.specs.Numbers.{rects_in, numbers_of};
 ghost use Rattle.drawing.specs.Answers.{Drawn, RefinedInto, extra_of};
 ghost use Rattle.drawing.specs.Calls.{grown_to, valid_with_rect, valid_with_cell, valid_alone, valid_extra, common_drawn, grow_drawn, cut_drawn, refine_drawn, extra_drawn};
 
-use crate::answer::{Answer, Extra};
-use crate::arguments::{RESULT_NUMBERS, is_list};
+use crate::answer::Refusal;
+use crate::arguments::{RESULT_NUMBERS, accept, accept_lists};
 use area::extra_of_one;
 use geometry::{
-    Cell, Count, MOST_OF_POLYGON, MOST_PIECES, Polygon, Rect, WORK_NUMBERS, common_parts, copy,
-    cut_list, put_rect, rect_at,
+    Cell, MOST_OF_POLYGON, Polygon, Rect, Rects, WORK_NUMBERS, common_parts, copy, cut_list,
+    put_rect, rect_at,
 };
 use refinement::refine_list;
 
 // The part of each rectangle that it shares with one rectangle, where it shares any.
-pub fn common(list: &[u32], r: Rect, out: &mut [u32]) -> Answer
+pub fn common(list: &[u32], r: Rect, out: &mut [u32]) -> Result<usize, Refusal>
     ensures { Drawn (valid_with_rect list.now r out.old) (common_drawn list.now r)
         out.old result out.new }
 {
-    if out.len() != RESULT_NUMBERS {
-        return Answer::Invalid;
-    }
-    if !is_list(list, MOST_PIECES) {
-        return Answer::Invalid;
-    }
-    if !r.is_valid() {
-        return Answer::Invalid;
-    }
+    accept_lists(list, out)?;
+    accept(r.is_valid())?;
     let mut work = [0u32; WORK_NUMBERS];
-    let c = common_parts(list, list.len() / 4, Polygon::of(r), &mut work);
-    let Count::Rects(m) = c else {
-        // not reached: there are no more parts than rectangles
-        return Answer::TooMany;
-    };
+    // it does not end here: there are no more parts than rectangles
+    let m = common_parts(Rects::new(list, list.len() / 4), Polygon::of(r), &mut work)?;
     copy(&work, 4 * m, out);
-    Answer::Wrote(m)
+    Ok(m)
 }
 
 // Writes each of the first n rectangles of a list, grown to a cell, to another list.
@@ -46,67 +36,43 @@ fn put_grown(list: &[u32], n: usize, c: Cell, out: &mut [u32])
     ensures { out.new ≡ numbers_of (map (grown_to c) (rects_in list.now n))
         ++ drop (4 * n) out.old }
 {
-    let mut i = 0;
-    while i < n {
-        let r = rect_at(list, i);
-        put_rect(out, i, r.grow(c));
-        i += 1;
+    for i in 0..n {
+        put_rect(out, i, rect_at(list, i).grow(c));
     }
 }
 
 // Each rectangle grown to a cell.
-pub fn grow(list: &[u32], c: Cell, out: &mut [u32]) -> Answer
+pub fn grow(list: &[u32], c: Cell, out: &mut [u32]) -> Result<usize, Refusal>
     ensures { Drawn (valid_with_cell list.now c out.old) (grow_drawn list.now c)
         out.old result out.new }
 {
-    if out.len() != RESULT_NUMBERS {
-        return Answer::Invalid;
-    }
-    if !is_list(list, MOST_PIECES) {
-        return Answer::Invalid;
-    }
-    if !c.on_grid() {
-        return Answer::Invalid;
-    }
+    accept_lists(list, out)?;
+    accept(c.on_grid())?;
     let n = list.len() / 4;
     put_grown(list, n, c, out);
-    Answer::Wrote(n)
+    Ok(n)
 }
 
 // The extra area of a rectangle, taken as a polygon of one, that grows to take a cell in.
-pub fn extra_area(r: Rect, c: Cell) -> Extra
+pub fn extra_area(r: Rect, c: Cell) -> Result<u64, Refusal>
     ensures { result ≡ extra_of (valid_extra r c) (extra_drawn r c) }
 {
-    if !r.is_valid() {
-        return Extra::Unfit;
-    }
-    if !c.on_grid() {
-        return Extra::Unfit;
-    }
-    Extra::Area(extra_of_one(r, c))
+    accept(r.is_valid())?;
+    accept(c.on_grid())?;
+    Ok(extra_of_one(r, c))
 }
 
 // The list cut by a rectangle.
-pub fn cut(list: &[u32], s: Rect, out: &mut [u32]) -> Answer
+pub fn cut(list: &[u32], s: Rect, out: &mut [u32]) -> Result<usize, Refusal>
     ensures { Drawn (valid_with_rect list.now s out.old) (cut_drawn list.now s)
         out.old result out.new }
 {
-    if out.len() != RESULT_NUMBERS {
-        return Answer::Invalid;
-    }
-    if !is_list(list, MOST_PIECES) {
-        return Answer::Invalid;
-    }
-    if !s.is_valid() {
-        return Answer::Invalid;
-    }
+    accept_lists(list, out)?;
+    accept(s.is_valid())?;
     let mut work = [0u32; WORK_NUMBERS];
-    let c = cut_list(list, list.len() / 4, s, &mut work);
-    let Count::Rects(m) = c else {
-        return Answer::TooMany;
-    };
+    let m = cut_list(Rects::new(list, list.len() / 4), s, &mut work)?;
     copy(&work, 4 * m, out);
-    Answer::Wrote(m)
+    Ok(m)
 }
 
 // Refines the first n rectangles of a list in a working list, and writes the result.
@@ -124,21 +90,17 @@ fn refine_in(list: &[u32], n: usize, work: &mut [u32], out: &mut [u32]) -> usize
 }
 
 // The list refined; a short one in a short working list, which is sooner cleared.
-pub fn refine(list: &[u32], out: &mut [u32]) -> Answer
+pub fn refine(list: &[u32], out: &mut [u32]) -> Result<usize, Refusal>
     ensures { Drawn (valid_alone list.now out.old) (refine_drawn list.now)
         out.old result out.new }
 {
-    if out.len() != RESULT_NUMBERS {
-        return Answer::Invalid;
-    }
-    if !is_list(list, MOST_PIECES) {
-        return Answer::Invalid;
-    }
+    accept_lists(list, out)?;
     let n = list.len() / 4;
     if n <= MOST_OF_POLYGON {
         let mut short = [0u32; 64];
-        return Answer::Wrote(refine_in(list, n, &mut short, out));
+        Ok(refine_in(list, n, &mut short, out))
+    } else {
+        let mut work = [0u32; RESULT_NUMBERS];
+        Ok(refine_in(list, n, &mut work, out))
     }
-    let mut work = [0u32; RESULT_NUMBERS];
-    Answer::Wrote(refine_in(list, n, &mut work, out))
 }

@@ -2,19 +2,15 @@
 ghost use Rattle.std.specs.Prelude.{◌≡◌};
 ghost use Rattle.drawing.specs.Calls.{contains_answer};
 
-use crate::answer::Contains;
-use crate::arguments::is_list;
-use geometry::{Cell, MOST_OF_POLYGON};
+use crate::answer::Refusal;
+use crate::arguments::{accept, is_list};
+use geometry::{Cell, Containment, MOST_OF_POLYGON, Rects};
 
 // Whether one of the polygon's rectangles has the cell, and how many were compared to tell.
-pub fn contains(polygon: &[u32], c: Cell) -> Contains
+pub fn contains(polygon: &[u32], c: Cell) -> Result<Containment, Refusal>
     ensures { result ≡ contains_answer polygon.now c }
 {
-    if !is_list(polygon, MOST_OF_POLYGON) {
-        return Contains::Refused;
-    }
-    if !c.on_grid() {
-        return Contains::Refused;
-    }
-    Contains::Tested(geometry::contains(polygon, polygon.len() / 4, c))
+    accept(is_list(polygon, MOST_OF_POLYGON))?;
+    accept(c.on_grid())?;
+    Ok(geometry::contains(Rects::new(polygon, polygon.len() / 4), c))
 }

@@ -11,7 +11,7 @@ mod containing;
 mod polygon_cut;
 mod writing;
 
-pub use answer::{Answer, Contains, Extra, PolygonCut, Wkb};
+pub use answer::{PolygonCut, Refusal};
 pub use calls::{common, cut, extra_area, grow, refine};
 pub use containing::contains;
 pub use polygon_cut::cut_by_polygon;

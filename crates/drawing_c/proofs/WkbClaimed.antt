@@ -23,11 +23,11 @@ use Rattle.wkb.specs.Collection.{collection_bytes, wkb_length}
 use Rattle.wkb.proofs.CollectionLaws.{length_collection}
 use Rattle.wkb.proofs.ReadLaws.{collection_read}
 use Rattle.wkb.proofs.RingLaws.{ring_runs}
-use Rattle.drawing.specs.declared.answer.Wkb.{Wkb}
-use Rattle.drawing.specs.declared.answer.Wkb.TheVariants.{Bytes, BadPolygon, ShortOutput}
+use Rattle.std.specs.Prelude.{Result, Ok, Err}
+use Rattle.drawing.specs.declared.answer.Refusal.{Refusal}
 use Rattle.drawing.specs.Arguments.{given, is_list}
 use Rattle.drawing.specs.Wkb.{wkb_of, wkb_answer, output_of}
-use Rattle.drawing_c.specs.Exports.{wkb_number, length_reported, WkbExported}
+use Rattle.drawing_c.specs.Exports.{number, reported, WkbExported}
 use Rattle.drawing_c.specs.WkbClaim.{WkbClaim}
 use Rattle.drawing.proofs.Returns.{list_few, list_valid}
 use Rattle.drawing_c.specs.contracts.exports.lintzoger_wkb as wkb_fn
@@ -57,13 +57,13 @@ module _ (p out : List ℕ) (v : is_list most_of_polygon p ≡ true) (room : wkb
       }
 
 -- by the answer's cases
-by_case : (v r : Bool) (p out : List ℕ) (told : ℕ) (a : Wkb) → v ≡ is_list most_of_polygon p
-    → r ≡ leb (wkb_length (length p / 4)) (length out) → a ≡ wkb_of v r (wkb_length (length p / 4)) → wkb_number a ≡ 0
-    → WkbClaim p out (output_of a (given p) out) (length_reported a told)
+by_case : (v r : Bool) (p out : List ℕ) (told : ℕ) (a : Result ℕ Refusal) → v ≡ is_list most_of_polygon p
+    → r ≡ leb (wkb_length (length p / 4)) (length out) → a ≡ wkb_of v r (wkb_length (length p / 4)) → number a ≡ 0
+    → WkbClaim p out (output_of a (given p) out) (reported a told)
 unfolding wkb_of
 by_case true true p out told a e d f z = rw f (claimed p out (sym e) (leb-true _ _ (sym d)))
-by_case true false p out told a e d f z = absurd (omega (arith, ap wkb_number f))
-by_case false r p out told a e d f z = absurd (omega (arith, ap wkb_number f))
+by_case true false p out told a e d f z = absurd (omega (arith, ap number f))
+by_case false r p out told a e d f z = absurd (omega (arith, ap number f))
 
 -- A call of `lintzoger_wkb` that has returned: its lifetimes, its arguments (the polygon, the output, the place for the
 -- length), its number and what it was lent when it returned, with the function's own contract of these (`Post`), quoted
@@ -104,11 +104,10 @@ pub wkb_claim : (s : Call) → s.out ≡ 0 → WkbClaim (polygon s) (output s) (
 wkb_claim s z = accepted_left (polygon s) (output s) (output_left s) (length_before s) s.out (length_stored s) s.meets z
 
 -- by the answer's cases
-refused_left : (a : Wkb) (rs : List Rect) (out out' : List ℕ) (told n told' : ℕ) → (n ≡ 0 → ⊥) → n ≡ wkb_number a
-    → out' ≡ output_of a rs out → told' ≡ length_reported a told → (out' ≡ out) × (told' ≡ told)
-refused_left (Bytes k) rs out out' told n told' z e o l = absurd (z e)
-refused_left BadPolygon rs out out' told n told' z e o l = (o, l)
-refused_left ShortOutput rs out out' told n told' z e o l = (o, l)
+refused_left : (a : Result ℕ Refusal) (rs : List Rect) (out out' : List ℕ) (told n told' : ℕ) → (n ≡ 0 → ⊥) → n ≡ number a
+    → out' ≡ output_of a rs out → told' ≡ reported a told → (out' ≡ out) × (told' ≡ told)
+refused_left (Ok k) rs out out' told n told' z e o l = absurd (z e)
+refused_left (Err r) rs out out' told n told' z e o l = (o, l)
 
 -- refused: 'nothing written', and the stored length is as it was
 pub wkb_refused : (s : Call) → (s.out ≡ 0 → ⊥) → (output_left s ≡ output s) × (length_stored s ≡ length_before s)

@@ -4,26 +4,35 @@ ghost use Rattle.geometry.specs.declared.rect.Rect.{Rect};
 ghost use Rattle.geometry.specs.Cells.{cell_of, rect_of};
 ghost use Rattle.drawing.specs.Answers.{few, extra_of};
 ghost use Rattle.drawing.specs.Calls.{valid_with_rect, valid_with_cell, valid_alone, valid_extra, common_drawn, grow_drawn, cut_drawn, refine_drawn, contains_answer, extra_drawn};
-ghost use Rattle.drawing_c.specs.Exports.{number, reported, Exported, ContainsExported, extra_number, extra_reported, PolygonCutExported, WkbExported};
+ghost use Rattle.drawing_c.specs.Exports.{refusal_number, number, reported, Exported, ContainsExported, PolygonCutExported, WkbExported};
 
 use drawing::{
-    Answer, Contains, Extra, PolygonCut, Wkb, common, contains, cut, cut_by_polygon, extra_area,
-    grow, refine, write_wkb,
+    Refusal, common, contains, cut, cut_by_polygon, extra_area, grow, refine, write_wkb,
 };
 use geometry::{Cell, Rect};
 
-// Stores an accepted count, and answers document 01's number.
-fn report(a: Answer, written: &mut u32) -> u32
-    requires { few a }
-    ensures { (result ≡ number a) × (written.new ≡ reported a written.old) }
+// Document 01's number of a refusal.
+fn refusal_number(refusal: Refusal) -> u32
+    ensures { result ≡ refusal_number refusal }
 {
-    match a {
-        Answer::Wrote(n) => {
+    match refusal {
+        Refusal::Invalid => 3,
+        Refusal::TooMany => 7,
+        Refusal::ShortOutput => 11,
+    }
+}
+
+// Stores an accepted count, and answers document 01's number.
+fn report(answer: Result<usize, Refusal>, written: &mut u32) -> u32
+    requires { few answer }
+    ensures { (result ≡ number answer) × (written.new ≡ reported answer written.old) }
+{
+    match answer {
+        Ok(n) => {
             *written = n as u32;
             0
         }
-        Answer::Invalid => 3,
-        Answer::TooMany => 7,
+        Err(refusal) => refusal_number(refusal),
     }
 }
 
@@ -32,8 +41,7 @@ pub extern "C" fn lintzoger_refine(list: &[u32], res: &mut [u32], written: &mut 
     ensures { Exported (valid_alone list.now res.old) (refine_drawn list.now)
         res.old written.old result res.new written.new }
 {
-    let a = refine(list, res);
-    report(a, written)
+    report(refine(list, res), written)
 }
 
 #[unsafe(no_mangle)]
@@ -49,16 +57,12 @@ pub extern "C" fn lintzoger_cut_polygon(
         removed.new }
 {
     match cut_by_polygon(list, polygon, res) {
-        PolygonCut::Wrote {
-            rects,
-            removed: cells,
-        } => {
-            *written = rects as u32;
-            *removed = cells;
+        Ok(cut) => {
+            *written = cut.rects as u32;
+            *removed = cut.removed;
             0
         }
-        PolygonCut::Invalid => 3,
-        PolygonCut::TooMany => 7,
+        Err(refusal) => refusal_number(refusal),
     }
 }
 
@@ -76,8 +80,7 @@ pub extern "C" fn lintzoger_cut(
         (cut_drawn list.now (rect_of llx lly urx ury)) res.old written.old result
         res.new written.new }
 {
-    let a = cut(list, Rect { llx, lly, urx, ury }, res);
-    report(a, written)
+    report(cut(list, Rect { llx, lly, urx, ury }, res), written)
 }
 
 #[unsafe(no_mangle)]
@@ -94,8 +97,7 @@ pub extern "C" fn lintzoger_common(
         (common_drawn list.now (rect_of llx lly urx ury)) res.old written.old result
         res.new written.new }
 {
-    let a = common(list, Rect { llx, lly, urx, ury }, res);
-    report(a, written)
+    report(common(list, Rect { llx, lly, urx, ury }, res), written)
 }
 
 #[unsafe(no_mangle)]
@@ -110,8 +112,7 @@ pub extern "C" fn lintzoger_grow(
         (grow_drawn list.now (cell_of x y)) res.old written.old result
         res.new written.new }
 {
-    let a = grow(list, Cell { x, y }, res);
-    report(a, written)
+    report(grow(list, Cell { x, y }, res), written)
 }
 
 #[unsafe(no_mangle)]
@@ -126,12 +127,12 @@ pub extern "C" fn lintzoger_contains(
         compared.old result has.new compared.new }
 {
     match contains(polygon, Cell { x, y }) {
-        Contains::Tested(t) => {
+        Ok(t) => {
             *has = t.has as u32;
             *compared = t.compared as u32;
             0
         }
-        Contains::Refused => 3,
+        Err(refusal) => refusal_number(refusal),
     }
 }
 
@@ -141,12 +142,11 @@ pub extern "C" fn lintzoger_wkb(polygon: &[u32], out: &mut [u8], length: &mut u3
         length.new }
 {
     match write_wkb(polygon, out) {
-        Wkb::Bytes(n) => {
+        Ok(n) => {
             *length = n as u32;
             0
         }
-        Wkb::BadPolygon => 3,
-        Wkb::ShortOutput => 11,
+        Err(refusal) => refusal_number(refusal),
     }
 }
 
@@ -160,18 +160,18 @@ pub extern "C" fn lintzoger_extra_area(
     y: u32,
     extra: &mut u64,
 ) -> u32
-    ensures value { result ≡ extra_number
+    ensures value { result ≡ number
         (extra_of (valid_extra (rect_of llx lly urx ury) (cell_of x y))
         (extra_drawn (rect_of llx lly urx ury) (cell_of x y))) }
     ensures extra_after { extra.new
-        ≡ extra_reported (extra_of (valid_extra (rect_of llx lly urx ury) (cell_of x y))
+        ≡ reported (extra_of (valid_extra (rect_of llx lly urx ury) (cell_of x y))
         (extra_drawn (rect_of llx lly urx ury) (cell_of x y))) extra.old }
 {
     match extra_area(Rect { llx, lly, urx, ury }, Cell { x, y }) {
-        Extra::Area(n) => {
+        Ok(n) => {
             *extra = n;
             0
         }
-        Extra::Unfit => 3,
+        Err(refusal) => refusal_number(refusal),
     }
 }

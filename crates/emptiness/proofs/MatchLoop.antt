@@ -1,7 +1,7 @@
 -- The loop over a node's children: no match so far, and the children that are left give the rest of the walk.
 use Prim.Native.Nat.{ℕ, zero, suc, ◌+◌, ◌-◌, ◌≤◌, ◌<◌}
 use mathlib.Core.Path.{◌≡◌, refl, sym, ap, ◌∙◌}
-use mathlib.Core.Bool.{Bool, true, false}
+use mathlib.Core.Bool.{Bool, true, false, not, not-not}
 use mathlib.Core.List.{List, [], ◌∷◌, ◌++◌}
 use native.Mathlib.Omega.{arith}
 use native.Mathlib.Numerals.{add-one}
@@ -17,8 +17,8 @@ use Rattle.walks.specs.Walks.{meets_test, inside_test, visits_below, matches_bel
 use Rattle.walks.proofs.WalkRows.{RowWalkable}
 use Rattle.walks.proofs.FoldRows.{fold_none}
 use Rattle.walks.proofs.WalkLoop.{AtChild, nothing_left, child_start, child_miss, child_hit, child_walkable, next_child}
-use Rattle.emptiness.specs.declared.below.Walked.{Walked}
-use Rattle.emptiness.specs.Below.{to_match_below, walked}
+use Rattle.answers.specs.declared.answer.EmptyFound.{EmptyFound}
+use Rattle.emptiness.specs.Below.{to_match_below, found_of}
 use Rattle.emptiness.proofs.MatchRows.{to_match_row, child_to_match, row_walk, row_found, node_walk, walk_bound, child_passed, child_entered}
 
 -- no match after v nodes
@@ -56,12 +56,12 @@ module _ (w : Rect) (level : ℕ) (m : List ℕ) (lo k v n : ℕ) where
           ∙ sym (node_walk w l m lo k v x)
 
   module _ (i low so : ℕ) (x : MatchLoop w level m lo k v n i low so) where
-    pub match_end : n ≤ i → record { found = false; visits = so } ≡ walked (to_match_below w level m lo k v)
+    pub match_end : n ≤ i → record { empty = true; visits = so } ≡ found_of (to_match_below w level m lo k v)
     match_end h =
         let e = nothing_left (meets_test w) (inside_test w) level m lo k n i low x.vs x.es x.at h in
         let t = to_branch index_space index_window w (level - 1) in
         let f = fold_none (level - 1) t m low k (no_match so) in
-        ap walked (sym f
+        ap found_of (sym f
         ∙ ap (λ (ks : List ℕ). to_match_row w (level - 1) m low k ks (no_match so)) (sym e) ∙ x.whole)
 
     module _ (h : i < n) (j : ℕ) (g : j ≡ child_at m k i) (b : Bool) (e : b ≡ meets_test w (polygon_in (part m j))) where
@@ -109,24 +109,27 @@ module _ (w : Rect) (level : ℕ) (m : List ℕ) (lo k v n : ℕ) where
             → so + visits_below (meets_test w) (level - 1) m low j ≤ 256
         match_room r = let a = hit.visits in let d = x.few in omega arith
 
-        module _ (r : Walked) (is : r ≡ walked of_child) where
+        module _ (r : EmptyFound) (is : r ≡ found_of of_child) where
           entered : behind of_child ≡ to_match_below w level m lo k v
           entered =
               let t : meets_test w (polygon_in (part m j)) ≡ true = sym e ∙ f in
               ap behind (sym (child_entered w (level - 1) m low j so t)) ∙ step
 
+          found_is : of_child.found ≡ not r.empty
+          found_is = sym (not-not of_child.found) ∙ ap (λ (y : EmptyFound). not y.empty) (sym is)
+
           -- a match below it: the walk ends
-          pub match_stop : r.found ≡ true → r ≡ walked (to_match_below w level m lo k v)
+          pub match_stop : not r.empty ≡ true → r ≡ found_of (to_match_below w level m lo k v)
           match_stop q =
-              let a : of_child.found ≡ true = ap (λ (y : Walked). y.found) (sym is) ∙ q in
-              is ∙ ap walked (sym (row_found w (level - 1) m (j + 1) k others of_child a) ∙ entered)
+              let a : of_child.found ≡ true = found_is ∙ q in
+              is ∙ ap found_of (sym (row_found w (level - 1) m (j + 1) k others of_child a) ∙ entered)
 
           -- none below it: the walk goes on
-          pub match_on : (so' : ℕ) → r.found ≡ false → so' ≡ r.visits
+          pub match_on : (so' : ℕ) → not r.empty ≡ false → so' ≡ r.visits
               → MatchLoop w level m lo k v n (i + 1) (j + 1) so'
           match_on so' q p =
-              let a : of_child.found ≡ false = ap (λ (y : Walked). y.found) (sym is) ∙ q in
-              let d : of_child.entered ≡ so' = ap (λ (y : Walked). y.visits) (sym is) ∙ sym p in
+              let a : of_child.found ≡ false = found_is ∙ q in
+              let d : of_child.entered ≡ so' = ap (λ (y : EmptyFound). y.visits) (sym is) ∙ sym p in
               let u : of_child ≡ no_match so' = λ z. record { found = a z; entered = d z } in
               let y = child_walkable (meets_test w) (inside_test w) level m lo k n i low x.vs x.es x.at h j g in
               let l = walk_bound w (level - 1) m low j so y in

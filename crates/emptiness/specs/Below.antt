@@ -1,12 +1,12 @@
 -- The walk for the first entry in a window in a memory, below the node at a part.
-use Rattle.std.specs.Prelude.{ℕ, suc, false, List}
+use Rattle.std.specs.Prelude.{ℕ, suc, false, not, List}
 use Rattle.std.proofs.Math.Option.{Option, none, some}
 use Rattle.geometry.specs.declared.rect.Rect.{Rect}
 use Rattle.tree.specs.Nodes.{Item}
 use Rattle.tree.specs.Emptiness.{ToMatch, node_to_match}
 use Rattle.plane.specs.Fanout.{fanout, index_space, index_window}
 use Rattle.memory.specs.Reading.{read_node}
-use Rattle.emptiness.specs.declared.below.Walked.{Walked}
+use Rattle.answers.specs.declared.answer.EmptyFound.{EmptyFound}
 
 -- the walk below a node, after v others; where nothing reads, nothing is entered
 unfoldable pub to_match_from : Rect → (n : ℕ) → ℕ → Option (Item index_space (suc n)) → ToMatch
@@ -18,5 +18,5 @@ unfoldable pub to_match_below : Rect → ℕ → List ℕ → ℕ → ℕ → �
 to_match_below w n m lo k v = to_match_from w n v (read_node fanout n m lo k)
 
 -- as the code has it
-abbrev pub walked : ToMatch → Walked
-walked u = record { found = u.found; visits = u.entered }
+abbrev pub found_of : ToMatch → EmptyFound
+found_of u = record { empty = not u.found; visits = u.entered }

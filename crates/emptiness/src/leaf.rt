@@ -5,22 +5,12 @@ ghost use Rattle.layout.specs.Nodes.{NodePart};
 ghost use Rattle.walks.specs.Walks.{inside_test, leaf_entries};
 
 use geometry::Rect;
-use layout::Node;
-use walks::is_inside;
+use layout::entries;
 
 // Whether an entry of a leaf's part is in the window. It looks at the entries up to the first that is.
 pub fn match_in_leaf(p: &[u32], w: Rect) -> bool
     requires { NodePart p.now }
     ensures { result ≡ not_empty (leaf_entries (inside_test w) p.now) }
 {
-    let leaf = Node::load(p);
-    let n = leaf.count as usize;
-    let mut i = 0;
-    while i < n {
-        if is_inside(&leaf.items, i, w) {
-            return true;
-        }
-        i += 1;
-    }
-    false
+    entries(p).any(|e| w.has_cell(e.cell))
 }

@@ -1,20 +1,19 @@
 -- Writing rectangles behind a list of numbers: the ways out of the functions that do it.
 use mathlib.Core.Path.{◌≡◌, refl, sym, ◌∙◌, ap}
-use mathlib.Core.Bool.{Bool, true, false}
+use mathlib.Core.Bool.{Bool, true, false, not}
 use mathlib.Core.List.{List, [], ◌∷◌, ◌++◌, append-nil, append_assoc}
-use Prim.Native.Nat.{ℕ, ◌+◌, ◌*◌, ◌≤◌, ◌<◌}
+use Rattle.std.proofs.Common.{Option, Some, None}
+use Rattle.std.proofs.lemmas.Bool.{not-true, not-false}
+use Prim.Native.Nat.{ℕ, ◌+◌, ◌*◌, ◌≤◌}
 use native.Mathlib.Omega.{arith}
-use borrow.Author.Tests.{lt-ltb, le-ltb}
 use lib.ListN.{length, length-append}
 use Rattle.geometry.specs.declared.rect.Rect.{Rect}
-use Rattle.geometry.specs.declared.rect.Common.{Common}
-use Rattle.geometry.specs.declared.rect.Common.TheVariants.{Part, Nothing}
 use Rattle.geometry.specs.Cells.{non_empty}
 use Rattle.geometry.specs.Common.{common_part, unless_empty, common, shares_with}
 use Rattle.geometry.specs.Cut.{x_ceiling, x_floor, y_ceiling, y_floor, pieces, cut}
 use Rattle.geometry.specs.Numbers.{rects_in, put_at, Appended}
 use Rattle.geometry.proofs.NumberLaws.{put_behind, length_put, length_rects}
-use Rattle.geometry.proofs.RectReturns.{is_part, is_nothing}
+use Rattle.geometry.proofs.CommonLaws.{has_common, no_common}
 
 module _ (m : List ℕ) (n : ℕ) where
   -- nothing is written
@@ -39,17 +38,14 @@ append_count m n new k m' n' v =
     sym (length_rects m' n') ∙ ap length v.list ∙ length-append (rects_in m n) new ∙ rw (length_rects m n)
 
 module _ (m : List ℕ) (n : ℕ) (r : Rect) where
-  pub empty_x : r.urx ≤ r.llx → Appended m n (unless_empty r) 1 m n
-  unfolding unless_empty non_empty
-  empty_x h = simp (le-ltb _ _ h) (append_none m n 1)
+  module _ (b : Bool) (p : b ≡ not (non_empty r)) where
+    pub put_empty : b ≡ true → Appended m n (unless_empty r) 1 m n
+    unfolding unless_empty
+    put_empty e = rw (not-true _ (sym p ∙ e)) (append_none m n 1)
 
-  pub empty_y : r.llx < r.urx → r.ury ≤ r.lly → Appended m n (unless_empty r) 1 m n
-  unfolding unless_empty non_empty
-  empty_y g h = simp (lt-ltb _ _ g, le-ltb _ _ h) (append_none m n 1)
-
-  pub not_empty_lem : r.llx < r.urx → r.lly < r.ury → 4 * n + 4 ≤ length m → (m' : List ℕ) → m' ≡ put_at m n r → Appended m n (unless_empty r) 1 m' (n + 1)
-  unfolding unless_empty non_empty
-  not_empty_lem g h k m' e = simp (lt-ltb _ _ g, lt-ltb _ _ h) (append_one m n r 1 (omega arith) k m' e)
+    pub put_filled : b ≡ false → 4 * n + 4 ≤ length m → (m' : List ℕ) → m' ≡ put_at m n r → Appended m n (unless_empty r) 1 m' (n + 1)
+    unfolding unless_empty
+    put_filled e h m' f = rw (not-false _ (sym p ∙ e)) (append_one m n r 1 (omega arith) h m' f)
 
 module _ (m : List ℕ) (n : ℕ) (r s : Rect) where
   -- the four pieces of a cut, one after another
@@ -75,12 +71,12 @@ module _ (m : List ℕ) (n : ℕ) (r s : Rect) where
     unfolding cut shares_with
     cut_apart f h m' g = rw (sym e ∙ f) (append_one m n r 4 (omega arith) (omega arith) m' g)
 
-module _ (m : List ℕ) (n : ℕ) (r s : Rect) (k : Common) (e : k ≡ common_part r s) where
+module _ (m : List ℕ) (n : ℕ) (r s : Rect) (k : Option Rect) (e : k ≡ common_part r s) where
   -- the common part, and none
-  pub put_part : (u : Rect) → k ≡ Part u → 4 * n + 4 ≤ length m → (m' : List ℕ) → m' ≡ put_at m n u → Appended m n (common r s) 1 m' (n + 1)
+  pub put_part : (u : Rect) → k ≡ Some u → 4 * n + 4 ≤ length m → (m' : List ℕ) → m' ≡ put_at m n u → Appended m n (common r s) 1 m' (n + 1)
   unfolding common unless_empty
-  put_part u f h m' g = rw ((is_part r s k e u f).0, ← (is_part r s k e u f).1) (append_one m n u 1 (omega arith) h m' g)
+  put_part u f h m' g = rw ((has_common r s k e u f).0, ← (has_common r s k e u f).1) (append_one m n u 1 (omega arith) h m' g)
 
-  pub put_nothing : k ≡ Nothing → Appended m n (common r s) 1 m n
+  pub put_none : k ≡ None → Appended m n (common r s) 1 m n
   unfolding common unless_empty
-  put_nothing f = rw (is_nothing r s k e f) (append_none m n 1)
+  put_none f = rw (no_common r s k e f) (append_none m n 1)

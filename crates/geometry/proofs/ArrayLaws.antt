@@ -4,8 +4,10 @@ use mathlib.Core.List.{List, [], ◌∷◌, map}
 use Prim.Native.Nat.{ℕ, ◌+◌, ◌≤◌, ◌<◌}
 use native.Mathlib.Numerals.{add-one}
 use native.Mathlib.Omega.{arith}
-use lib.ListN.{length, take, drop, get_or, drop_of_length-le, length-map}
+use lib.ListN.{length, take, drop, get_or, drop_of_length-le, length-map, length-take}
 use lib.Seq.{drop-cons, get_or-take, length-take-le}
+use Rattle.geometry.specs.declared.polygon.Polygon.{Polygon}
+use Rattle.geometry.specs.Numbers.{rects_of}
 
 -- what is left from the i-th on
 pub array_next : {A : Type 0} (n i : ℕ) (xs : List A) (d : A) → i < n → n ≤ length xs → drop i (take n xs) ≡ get_or xs i d ∷ drop (i + 1) (take n xs)
@@ -23,3 +25,7 @@ array_end n i xs h k =
 -- the length of an array field, from what owning its struct tells
 pub of_map : {A B : Type 0} (f : A → B) (xs : List A) (n : ℕ) → length (map f xs) ≡ n → length xs ≡ n
 of_map f xs n e = sym (length-map xs f) ∙ e
+
+-- a polygon's list has as many rectangles as it counts, 16 at most
+pub few_of : (p : Polygon) → length (rects_of p) ≤ 16
+few_of p = let k = p.few in rw length-take (omega arith)

@@ -5,6 +5,7 @@ use mathlib.Core.List.{List, [], ◌∷◌}
 use mathlib.Core.Logic.{◌⊎◌}
 use mathlib.Core.Option.{none, some}
 use Prim.Native.Nat.{◌≤◌}
+use Rattle.std.proofs.Common.{Option, Some, None}
 use native.Mathlib.Omega.{arith}
 use lib.ListN.{length}
 use Rattle.polygons.specs.Limits.{most_pieces}
@@ -14,17 +15,15 @@ use Rattle.polygons.proofs.Booleans.{not_both, same, both, split_and}
 use Rattle.polygons.proofs.ListLaws.{length_flat_map}
 use Rattle.geometry.specs.declared.rect.Cell.{Cell}
 use Rattle.geometry.specs.declared.rect.Rect.{Rect}
-use Rattle.geometry.specs.declared.rect.Common.{Common}
-use Rattle.geometry.specs.declared.rect.Common.TheVariants.{Part, Nothing}
 use Rattle.geometry.specs.Cells.{has_cell, non_empty, valid, all_valid, any_has}
 use Rattle.geometry.specs.Common.{overlap, common_part, unless_empty, common, common_with, common_parts}
 use Rattle.geometry.specs.Cut.{common_limited}
 use Rattle.geometry.proofs.CellLaws.{in_of, of_in, valid_of, corner, corner_in, has_unless_empty, valid_unless_empty, length_unless_empty, has_flat, valid_flat, valid_flat_of}
 
 -- the common part as a list
-abbrev pub part_list : Common → List Rect
-part_list (Part u) = u ∷ []
-part_list Nothing = []
+abbrev pub part_list : Option Rect → List Rect
+part_list (Some u) = u ∷ []
+part_list None = []
 
 module _ (r s : Rect) where
   -- the overlap of two rectangles has the cells in both
@@ -57,12 +56,12 @@ module _ (r s : Rect) where
       go true e = let k = common_some e in absurd (not_both _ (both _ _ k.0 k.1) (h (corner (overlap r s))))
       go false e = refl
 
-  -- the common part as an enum and as a list are the same
+  -- the common part as an option and as a list are the same
   pub part_list_lem : part_list (common_part r s) ≡ common r s
   unfolding common common_part unless_empty
   part_list_lem = go (non_empty (overlap r s))
     where
-      go : (b : Bool) → part_list (cond b (Part (overlap r s)) Nothing) ≡ cond b (overlap r s ∷ []) []
+      go : (b : Bool) → part_list (cond b (Some (overlap r s)) None) ≡ cond b (overlap r s ∷ []) []
       go true = refl
       go false = refl
 
@@ -70,6 +69,24 @@ module _ (r s : Rect) where
   pub common_valid : valid r ≡ true → all_valid (common r s) ≡ true
   unfolding common overlap
   common_valid e = let v = valid_of r e in valid_unless_empty (overlap r s) (omega arith) (omega arith)
+
+-- which case of the common part it was
+some_case : (b : Bool) (u o : Rect) → Some u ≡ cond b (Some o) None → (b ≡ true) × (u ≡ o)
+some_case true u o e = (refl, cc)
+some_case false u o e = absurd cc
+
+none_case : (b : Bool) (o : Rect) → None ≡ cond b (Some o) None → b ≡ false
+none_case true o e = absurd cc
+none_case false o e = refl
+
+module _ (r s : Rect) (k : Option Rect) (p : k ≡ common_part r s) where
+  pub has_common : (u : Rect) → k ≡ Some u → (non_empty (overlap r s) ≡ true) × (u ≡ overlap r s)
+  unfolding common_part
+  has_common u e = some_case (non_empty (overlap r s)) u (overlap r s) (sym e ∙ p)
+
+  pub no_common : k ≡ None → non_empty (overlap r s) ≡ false
+  unfolding common_part
+  no_common e = none_case (non_empty (overlap r s)) (overlap r s) (sym e ∙ p)
 
 module _ (p : List Rect) (r : Rect) where
   -- a rectangle's common parts with a list have the cells in the rectangle and in the list

@@ -7,10 +7,9 @@ pub mod ClipLaws
 pub mod ContainmentLaws
 pub mod ContainmentCases
 pub mod Tests
-pub mod RectReturns
+pub mod AreaFits
 pub mod AppendLaws
 pub mod ArrayLaws
-pub mod CopyLoop
 pub mod ContainmentLoop
 pub mod CutLoops
 pub mod FillLoops
@@ -18,3 +17,5 @@ pub mod NumberLaws
 pub mod PutLoop
 pub mod PolygonLoops
 pub mod ScanLoops
+pub mod RectsLaws
+pub mod RectsChains

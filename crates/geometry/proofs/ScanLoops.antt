@@ -1,13 +1,12 @@
--- Loops that ask whether some rectangle of a list passes a test, or whether all are valid: an invariant each.
+-- The invariant of a loop that asks whether some rectangle of a list passes a test.
 use mathlib.Core.Path.{◌≡◌, refl, ◌∙◌}
-use mathlib.Core.Bool.{Bool, true, false, ◌&&◌, ◌||◌}
+use mathlib.Core.Bool.{Bool, true, false, ◌||◌}
 use mathlib.Core.List.{List}
 use Prim.Native.Nat.{ℕ, ◌+◌, ◌*◌, ◌≤◌, ◌<◌}
 use native.Mathlib.Omega.{arith}
 use lib.ListN.{length, drop}
 use Rattle.polygons.specs.Lists.{any}
 use Rattle.geometry.specs.declared.rect.Rect.{Rect}
-use Rattle.geometry.specs.Cells.{valid, all_valid}
 use Rattle.geometry.specs.Numbers.{rect_at, rects_in}
 use Rattle.geometry.proofs.NumberLaws.{rects_next, rects_end}
 
@@ -39,28 +38,3 @@ module _ (p : Rect → Bool) (m : List ℕ) (n i : ℕ) where
 
       pub scan_miss : b ≡ false → Scan p m n (i + 1) w
       scan_miss g = record { i_le = omega arith; fits = v.fits; rest = next ∙ rw g }
-
--- Whether all rectangles are valid is w, and it is settled by those from the i-th on.
-pub record Testing (m : List ℕ) (n i : ℕ) (w : Bool) : Type 0 where
-  pub i_le : i ≤ n
-  pub fits : 4 * n ≤ length m
-  pub rest : w ≡ all_valid (drop i (rects_in m n))
-
-pub test_start : (m : List ℕ) (n : ℕ) → 4 * n ≤ length m → Testing m n 0 (all_valid (rects_in m n))
-test_start m n h = record { i_le = omega arith; fits = h; rest = refl }
-
-module _ (m : List ℕ) (n i : ℕ) (w : Bool) (v : Testing m n i w) where
-  pub test_end : n ≤ i → true ≡ w
-  unfolding all_valid
-  test_end h = rw (v.rest, rects_end m n i h)
-
-  module _ (r : Rect) (b : Bool) (h : i < n) (e : r ≡ rect_at m i) (f : b ≡ valid r) where
-    test_next : w ≡ b && all_valid (drop (i + 1) (rects_in m n))
-    unfolding all_valid
-    test_next = v.rest ∙ rw (rects_next m n i h, ← e, ← f)
-
-    pub test_bad : b ≡ false → false ≡ w
-    test_bad g = rw (test_next, g)
-
-    pub test_good : b ≡ true → Testing m n (i + 1) w
-    test_good g = record { i_le = omega arith; fits = v.fits; rest = test_next ∙ rw g }

@@ -1,10 +1,8 @@
 -- Document 01, 'Common part'.
 -- docs/RULES.md 2.7, 2.8
-use Rattle.std.specs.Prelude.{min, max, Bool, cond, List, [], ◌∷◌}
+use Rattle.std.specs.Prelude.{min, max, Bool, cond, List, [], ◌∷◌, Option, Some, None}
 use Rattle.polygons.specs.Rules.{commons_with, commons}
 use Rattle.geometry.specs.declared.rect.Rect.{Rect}
-use Rattle.geometry.specs.declared.rect.Common.{Common}
-use Rattle.geometry.specs.declared.rect.Common.TheVariants.{Part, Nothing}
 use Rattle.geometry.specs.Cells.{non_empty}
 
 -- 'the larger ll and the smaller ur per dimension'
@@ -17,8 +15,8 @@ overlap r s = record {
 }
 
 -- 'none if empty'
-unfoldable pub common_part : Rect → Rect → Common
-common_part r s = cond (non_empty (overlap r s)) (Part (overlap r s)) Nothing
+unfoldable pub common_part : Rect → Rect → Option Rect
+common_part r s = cond (non_empty (overlap r s)) (Some (overlap r s)) None
 
 -- r shares a cell with s
 unfoldable pub shares_with : Rect → Rect → Bool

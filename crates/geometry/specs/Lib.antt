@@ -6,3 +6,4 @@ pub mod Refine
 pub mod Clip
 pub mod Containment
 pub mod Numbers
+pub mod Rects

@@ -1,10 +1,9 @@
 -- Lists of rectangles as numbers, four a rectangle: llx, lly, urx, ury.
-use Rattle.std.specs.Prelude.{ℕ, zero, suc, ◌+◌, ◌*◌, ◌≤◌, List, [], ◌∷◌, ◌++◌, ◌≡◌, get_or, set, length, take}
+use Rattle.std.specs.Prelude.{ℕ, zero, suc, ◌+◌, ◌*◌, ◌≤◌, List, [], ◌∷◌, ◌++◌, ◌≡◌, get_or, set, length, take, Result, Ok, Err}
 use Rattle.std.proofs.Math.Option.{Option, none, some}
 use Rattle.geometry.specs.declared.rect.Rect.{Rect}
 use Rattle.geometry.specs.declared.polygon.Polygon.{Polygon}
-use Rattle.geometry.specs.declared.cut.Count.{Count}
-use Rattle.geometry.specs.declared.cut.Count.TheVariants.{Rects, Over}
+use Rattle.geometry.specs.declared.cut.TooMany.{TooMany}
 
 -- the i-th rectangle of some numbers
 unfoldable pub rect_at : List ℕ → ℕ → Rect
@@ -34,14 +33,14 @@ abbrev pub rects_of : Polygon → List Rect
 rects_of p = take p.count p.rects
 
 -- what a count of rectangles in some numbers stands for: that list, or none where the list was over its limit
-unfoldable pub counted : Count → List ℕ → Option (List Rect)
-counted (Rects n) m = some (rects_in m n)
-counted Over m = none
+unfoldable pub counted : Result ℕ TooMany → List ℕ → Option (List Rect)
+counted (Ok n) m = some (rects_in m n)
+counted (Err e) m = none
 
 -- a count is at most 256
-abbrev pub at_most256 : Count → Type 0
-at_most256 (Rects n) = n ≤ 256
-at_most256 Over = Unit {0}
+abbrev pub at_most256 : Result ℕ TooMany → Type 0
+at_most256 (Ok n) = n ≤ 256
+at_most256 (Err e) = Unit {0}
 
 -- At most k rectangles were written behind the first n of the numbers m, which gives the first n' of m'.
 pub record Appended (m : List ℕ) (n : ℕ) (new : List Rect) (k : ℕ) (m' : List ℕ) (n' : ℕ) : Type 0 where
@@ -50,7 +49,7 @@ pub record Appended (m : List ℕ) (n : ℕ) (new : List Rect) (k : ℕ) (m' : L
   pub same_length : length m' ≡ length m
 
 -- The numbers m' hold the limited list, and there are as many as before.
-pub record Written (m : List ℕ) (limited : Option (List Rect)) (count : Count) (m' : List ℕ) : Type 0 where
+pub record Written (m : List ℕ) (limited : Option (List Rect)) (count : Result ℕ TooMany) (m' : List ℕ) : Type 0 where
   pub list : counted count m' ≡ limited
   pub few : at_most256 count
   pub same_length : length m' ≡ length m

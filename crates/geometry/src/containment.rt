@@ -1,13 +1,13 @@
 // The containment test: whether a list of rectangles has a cell, and how many rectangles were compared to tell.
-ghost use Rattle.std.specs.Prelude.{◌≡◌, ◌*◌, ◌≤◌, length};
+ghost use Rattle.std.specs.Prelude.{◌≡◌, ◌+◌, ◌<◌, true, false, IfSome, MatchOption};
 ghost use Rattle.geometry.specs.Containment.{containment};
-ghost use Rattle.geometry.specs.Numbers.{rects_in};
+ghost use Rattle.geometry.specs.Rects.{rects_left};
 
-use crate::numbers::rect_at;
 use crate::rect::Cell;
+use crate::rects::Rects;
 
-// What the containment test reports.
-#[derive(Clone, Copy)]
+// What the containment test reports. No Option: both fields mean something, whether a rectangle has the cell or not.
+#[derive(Clone, Copy, Debug, PartialEq, Eq)]
 pub struct Containment {
     // some rectangle has the cell
     pub has: bool,
@@ -15,25 +15,30 @@ pub struct Containment {
     pub compared: usize,
 }
 
-// Compares the first n rectangles of a list with the cell, one after another, and ends at the first that has it.
-pub fn contains(list: &[u32], n: usize, c: Cell) -> Containment
-    requires { 4 * n ≤ length list.now }
-    ensures { result ≡ containment (rects_in list.now n) c }
-{
-    let mut i = 0;
-    while i < n {
-        let r = rect_at(list, i);
-        if r.has_cell(c) {
-            let compared = i + 1;
-            return Containment {
+impl Containment {
+    // From the place of the first of n rectangles that has the cell, if one has it.
+    pub fn at(place: Option<usize>, n: usize) -> Containment
+        requires { IfSome place (λ i. i < n) }
+        ensures { MatchOption place ((result.has ≡ false) × (result.compared ≡ n))
+            (λ i. (result.has ≡ true) × (result.compared ≡ i + 1)) }
+    {
+        match place {
+            Some(i) => Containment {
                 has: true,
-                compared,
-            };
+                compared: i + 1,
+            },
+            None => Containment {
+                has: false,
+                compared: n,
+            },
         }
-        i += 1;
     }
-    Containment {
-        has: false,
-        compared: n,
-    }
+}
+
+// Compares the rectangles with the cell, one after another, and ends at the first that has it.
+pub fn contains(mut rects: Rects, c: Cell) -> Containment
+    ensures { result ≡ containment (rects_left rects.entry) c }
+{
+    let n = rects.len();
+    Containment::at(rects.position(|r| r.has_cell(c)), n)
 }

@@ -5,28 +5,24 @@ ghost use Rattle.polygons.specs.Lists.{any};
 ghost use Rattle.geometry.specs.Common.{unless_empty, shares_with};
 ghost use Rattle.geometry.specs.Cut.{pieces, cut, cut_list, cut_limited};
 ghost use Rattle.geometry.specs.Numbers.{rects_in, rects_of, Appended, Written};
+ghost use Rattle.geometry.specs.Rects.{rects_left};
 
 use crate::limits::MOST_PIECES;
-use crate::numbers::{copy, put_rect, rect_at};
+use crate::numbers::{copy, put_rect};
 use crate::polygon::Polygon;
 use crate::rect::Rect;
+use crate::rects::Rects;
 
-// How many rectangles were written, or that the list is over 256.
-#[derive(Clone, Copy)]
-pub enum Count {
-    Rects(usize),
-    Over,
-}
+// The list is over 256.
+#[derive(Clone, Copy, Debug, PartialEq, Eq)]
+pub struct TooMany;
 
 // Writes r at the n-th place, unless it is empty; answers how many there are then.
-pub fn put_unless_empty(list: &mut [u32], n: usize, r: Rect) -> usize
+fn put_unless_empty(list: &mut [u32], n: usize, r: Rect) -> usize
     requires { 4 * n + 4 ≤ length list.old }
     ensures { Appended list.old n (unless_empty r) 1 list.new result }
 {
-    if r.urx <= r.llx {
-        return n;
-    }
-    if r.ury <= r.lly {
+    if r.is_empty() {
         return n;
     }
     put_rect(list, n, r);
@@ -56,44 +52,31 @@ fn put_cut(list: &mut [u32], n: usize, r: Rect, s: Rect) -> usize
     n + 1
 }
 
-// Writes the first n rectangles of a list, cut by s, to another list.
-pub fn cut_list(list: &[u32], n: usize, s: Rect, out: &mut [u32]) -> Count
-    requires n_in_bounds { 4 * n ≤ length list.now }
-    requires in_bounds { 1088 ≤ length out.old }
-    ensures { Written out.old (at_most most_pieces (cut_list (rects_in list.now n) s)) result
+// Writes the rectangles, cut by s, to another list.
+pub fn cut_list(rects: Rects, s: Rect, out: &mut [u32]) -> Result<usize, TooMany>
+    requires { 1088 ≤ length out.old }
+    ensures { Written out.old (at_most most_pieces (cut_list (rects_left rects.entry) s)) result
         out.new }
 {
     let mut m = 0;
-    let mut i = 0;
-    while i < n {
-        let r = rect_at(list, i);
+    for r in rects {
         m = put_cut(out, m, r, s);
         if MOST_PIECES < m {
-            return Count::Over;
+            return Err(TooMany);
         }
-        i += 1;
     }
-    Count::Rects(m)
+    Ok(m)
 }
 
-// Whether one of the first n rectangles shares a cell with s.
-pub fn any_shares(list: &[u32], n: usize, s: Rect) -> bool
-    requires { 4 * n ≤ length list.now }
-    ensures { result ≡ any (shares_with s) (rects_in list.now n) }
+// Whether one of the rectangles shares a cell with s.
+pub fn any_shares(mut rects: Rects, s: Rect) -> bool
+    ensures { result ≡ any (shares_with s) (rects_left rects.entry) }
 {
-    let mut i = 0;
-    while i < n {
-        let r = rect_at(list, i);
-        if r.shares(s) {
-            return true;
-        }
-        i += 1;
-    }
-    false
+    rects.any(|r| r.shares(s))
 }
 
 // Cuts the first n rectangles of a list by s in place; the spare list holds the pieces on the way.
-fn cut_once(list: &mut [u32], n: usize, s: Rect, spare: &mut [u32]) -> Count
+fn cut_once(list: &mut [u32], n: usize, s: Rect, spare: &mut [u32]) -> Result<usize, TooMany>
     requires n_bound { n ≤ 256 }
     requires in_bounds { 1088 ≤ length list.old }
     requires in_bounds_2 { 1088 ≤ length spare.old }
@@ -101,37 +84,31 @@ fn cut_once(list: &mut [u32], n: usize, s: Rect, spare: &mut [u32]) -> Count
         list.new }
     ensures spare_len_unchanged { length spare.new ≡ length spare.old }
 {
-    if any_shares(list, n, s) {
-        let c = cut_list(list, n, s, spare);
-        if let Count::Rects(m) = c {
-            copy(spare, 4 * m, list);
-        }
-        return c;
+    if !any_shares(Rects::new(list, n), s) {
+        return Ok(n);
     }
-    Count::Rects(n)
+    let m = cut_list(Rects::new(list, n), s, spare)?;
+    copy(spare, 4 * m, list);
+    Ok(m)
 }
 
 // Cuts the first n rectangles of a list by the polygon's rectangles, one after another, in place.
-pub fn cut_polygon(list: &mut [u32], n: usize, p: Polygon, spare: &mut [u32]) -> Count
+pub fn cut_polygon(
+    list: &mut [u32],
+    n: usize,
+    p: Polygon,
+    spare: &mut [u32],
+) -> Result<usize, TooMany>
     requires n_bound { n ≤ 256 }
-    requires count_bound { p.count ≤ 16 }
     requires in_bounds { 1088 ≤ length list.old }
     requires in_bounds_2 { 1088 ≤ length spare.old }
     ensures written { Written list.old (cut_limited (rects_in list.old n) (rects_of p)) result
         list.new }
     ensures spare_len_unchanged { length spare.new ≡ length spare.old }
 {
-    let k = p.count;
     let mut m = n;
-    let mut i = 0;
-    while i < k {
-        let s = p.rects[i];
-        let c = cut_once(list, m, s, spare);
-        let Count::Rects(remaining) = c else {
-            return Count::Over;
-        };
-        m = remaining;
-        i += 1;
+    for s in &p.rects[..p.count] {
+        m = cut_once(list, m, *s, spare)?;
     }
-    Count::Rects(m)
+    Ok(m)
 }

@@ -2,54 +2,46 @@
 ghost use Rattle.std.specs.Prelude.{◌≡◌};
 ghost use Rattle.geometry.specs.Cut.{x_ceiling, x_floor, y_ceiling, y_floor};
 
-use crate::rect::{Rect, least, most};
+use crate::rect::Rect;
 
 impl Rect {
     // 'x from S.ur to R.ur, y as R'
+    #[tactic(auto, unfolding(crate::specs::Cut::x_ceiling))]
     pub fn x_ceiling(self, s: Rect) -> Rect
         ensures { result ≡ x_ceiling self s }
     {
-        Rect {
-            llx: s.urx,
-            lly: self.lly,
-            urx: self.urx,
-            ury: self.ury,
-        }
+        Rect { llx: s.urx, ..self }
     }
 
     // 'x from R.ll to S.ll, y as R'
+    #[tactic(auto, unfolding(crate::specs::Cut::x_floor))]
     pub fn x_floor(self, s: Rect) -> Rect
         ensures { result ≡ x_floor self s }
     {
-        Rect {
-            llx: self.llx,
-            lly: self.lly,
-            urx: s.llx,
-            ury: self.ury,
-        }
+        Rect { urx: s.llx, ..self }
     }
 
     // 'x as U, y from S.ur to R.ur', U the common part
+    #[tactic(auto, unfolding(crate::specs::Cut::y_ceiling, crate::specs::Common::overlap))]
     pub fn y_ceiling(self, s: Rect) -> Rect
         ensures { result ≡ y_ceiling self s }
     {
         Rect {
-            llx: most(self.llx, s.llx),
             lly: s.ury,
-            urx: least(self.urx, s.urx),
             ury: self.ury,
+            ..self.overlap(s)
         }
     }
 
     // 'x as U, y from R.ll to S.ll'
+    #[tactic(auto, unfolding(crate::specs::Cut::y_floor, crate::specs::Common::overlap))]
     pub fn y_floor(self, s: Rect) -> Rect
         ensures { result ≡ y_floor self s }
     {
         Rect {
-            llx: most(self.llx, s.llx),
             lly: self.lly,
-            urx: least(self.urx, s.urx),
             ury: s.lly,
+            ..self.overlap(s)
         }
     }
 }

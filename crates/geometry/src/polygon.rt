@@ -1,21 +1,27 @@
 // A polygon by value: a list of 1 to 16 rectangles, whose cells are their union.
-ghost use Rattle.std.specs.Prelude.{◌≡◌, [], ◌∷◌, ◌*◌, ◌≤◌, length};
-ghost use Rattle.geometry.specs.Clip.{clip};
-ghost use Rattle.geometry.specs.Containment.{containment};
-ghost use Rattle.geometry.specs.Numbers.{rects_in, rects_of, Appended, PolygonOf};
+ghost use Rattle.std.specs.Prelude.{◌≤◌};
 
 use crate::containment::Containment;
 use crate::limits::MOST_OF_POLYGON;
-use crate::numbers::{put_rect, rect_at};
+use crate::numbers::put_rect;
 use crate::rect::{Cell, Rect, Side};
+use crate::rects::Rects;
 
+// The first count of the rectangles are its list.
 #[derive(Clone, Copy)]
 pub struct Polygon {
     pub rects: [Rect; MOST_OF_POLYGON],
     pub count: usize,
+    pub ghost few: { count ≤ 16 },
 }
 
 impl Polygon {
+    ghost use Rattle.std.specs.Prelude.{◌≡◌, [], ◌∷◌, ◌++◌, ◌+◌, ◌<◌, length};
+    ghost use Rattle.geometry.specs.Clip.{clip};
+    ghost use Rattle.geometry.specs.Containment.{containment};
+    ghost use Rattle.geometry.specs.Numbers.{rects_of, Appended, PolygonOf};
+    ghost use Rattle.geometry.specs.Rects.{rects_left};
+
     // The polygon of one rectangle.
     pub fn of(r: Rect) -> Polygon
         ensures { PolygonOf (r ∷ []) result }
@@ -26,11 +32,10 @@ impl Polygon {
         }
     }
 
-    // The polygon of the first n rectangles of a list of numbers.
-    pub fn load(list: &[u32], n: usize) -> Polygon
-        requires n_bound { n ≤ 16 }
-        requires n_in_bounds { 4 * n ≤ length list.now }
-        ensures { PolygonOf (rects_in list.now n) result }
+    // The polygon of the rectangles.
+    pub fn of_rects(rects: Rects) -> Polygon
+        requires { length (rects_left rects) ≤ 16 }
+        ensures { PolygonOf (rects_left rects.entry) result }
     {
         let none = Rect {
             llx: 0,
@@ -40,74 +45,56 @@ impl Polygon {
         };
         let mut p = Polygon {
             rects: [none; MOST_OF_POLYGON],
-            count: n,
+            count: 0,
         };
-        let mut i = 0;
-        while i < n {
-            let r = rect_at(list, i);
-            p.rects[i] = r;
-            i += 1;
+        for r in rects {
+            p.push(r);
         }
         p
     }
 
+    // Writes r behind its rectangles.
+    fn push(&mut self, r: Rect)
+        requires { self.old.count < 16 }
+        ensures list { rects_of self.new ≡ rects_of self.old ++ (r ∷ []) }
+        ensures count { self.new.count ≡ self.old.count + 1 }
+    {
+        self.rects[self.count] = r;
+        self.count += 1;
+    }
+
     // Writes the polygon's rectangles to the start of a list of numbers.
     pub fn store(self, list: &mut [u32])
-        requires count_bound { self.count ≤ 16 }
-        requires in_bounds { 64 ≤ length list.old }
+        requires { 64 ≤ length list.old }
         ensures { Appended list.old 0 (rects_of self) 16 list.new self.count }
     {
-        let n = self.count;
-        let mut i = 0;
-        while i < n {
-            let r = self.rects[i];
-            put_rect(list, i, r);
-            i += 1;
+        for (i, r) in self.rects[..self.count].iter().enumerate() {
+            put_rect(list, i, *r);
         }
     }
 
     // Compares its rectangles with the cell, one after another, and ends at the first that has it.
     pub fn contains(self, c: Cell) -> Containment
-        requires { self.count ≤ 16 }
         ensures { result ≡ containment (rects_of self) c }
     {
-        let n = self.count;
-        let mut i = 0;
-        while i < n {
-            let r = self.rects[i];
-            if r.has_cell(c) {
-                let compared = i + 1;
-                return Containment {
-                    has: true,
-                    compared,
-                };
-            }
-            i += 1;
-        }
-        Containment {
-            has: false,
-            compared: n,
-        }
+        let place = self.rects[..self.count].iter().position(|r| r.has_cell(c));
+        Containment::at(place, self.count)
     }
 
     // Its rectangles clipped to a side of a line, in order, empty ones left out.
     pub fn clip(self, side: Side) -> Polygon
-        requires { self.count ≤ 16 }
         ensures { PolygonOf (clip side (rects_of self)) result }
     {
-        let n = self.count;
-        let mut out = self;
-        let mut m = 0;
-        let mut i = 0;
-        while i < n {
-            let r = self.rects[i].side_part(side);
-            if r.llx < r.urx && r.lly < r.ury {
-                out.rects[m] = r;
-                m += 1;
+        let mut out = Polygon {
+            rects: self.rects,
+            count: 0,
+        };
+        for r in &self.rects[..self.count] {
+            let part = r.side_part(side);
+            if !part.is_empty() {
+                out.push(part);
             }
-            i += 1;
         }
-        out.count = m;
         out
     }
 }

@@ -22,14 +22,10 @@ use Rattle.memory.specs.Layout.{parts_of, is_index_length}
 use Rattle.memory.specs.Reading.{reading}
 use Rattle.memory.proofs.ReadingLaws.{parts_are, is_index_length_lem}
 use Rattle.answers.specs.Listing.{list_width}
-use Rattle.answers.specs.Answers.{cells_removed, insert_end, insert_read, insert_answer, remove_end, remove_read, remove_answer, clear_answer, point_end, point_read, point_answer, matches_in, window_read, window_answer, nearest_end, nearest_read, nearest_answer, empty_end, empty_read, empty_answer}
+use Rattle.answers.specs.Answers.{cells_removed, insert_end, insert_read, insert_answer, remove_end, remove_read, remove_answer, clear_answer, point_end, point_read, point_answer, matches_in, window_read, window_answer, nearest_end, nearest_read, nearest_answer, empty_read, empty_answer}
 use Rattle.answers.specs.Numbers.{accepts, insert_reply, remove_reply, clear_reply, point_reply, window_reply, nearest_reply, empty_reply}
-use Rattle.answers.specs.declared.answer.Inserted.TheVariants as I
-use Rattle.answers.specs.declared.answer.Removed.TheVariants as R
-use Rattle.answers.specs.declared.answer.PointFound.TheVariants as P
-use Rattle.answers.specs.declared.answer.WindowFound.TheVariants as W
-use Rattle.answers.specs.declared.answer.NearestFound.TheVariants as Near
-use Rattle.answers.specs.declared.answer.EmptyFound.TheVariants as Empty
+use Rattle.std.specs.Prelude.{Ok, Err}
+use Rattle.answers.specs.declared.answer.Refusal.TheVariants as R
 use Rattle.history.specs.Defined.{early, reply_of, reply_on}
 
 -- The memory m of N parts holds the index i.
@@ -54,31 +50,31 @@ module _ (N : ℕ) (m : List ℕ) (i : PlaneIndex) (h : Holds N m i) where
   pub insert_value : (len : ℕ) (e : CellEntry) → insert_answer m len e
       ≡ by2 (eqb len (64 + 128 * N)) (on_grid e.cell)
       (insert_end (cells_removed i e.cell)
-      (insertion index_space index_root N i e)) I.Invalid I.WorkLength
+      (insertion index_space index_root N i e)) (Err R.Invalid) (Err R.WorkLength)
   unfolding insert_answer insert_read
   insert_value len e = rw (right, h.reads, parts, h.length_is)
 
-  pub remove_value : (c : Cell) → remove_answer m c ≡ cond (on_grid c) (remove_end (removal index_space i c)) R.Invalid
+  pub remove_value : (c : Cell) → remove_answer m c ≡ cond (on_grid c) (remove_end (removal index_space i c)) (Err R.Invalid)
   unfolding remove_answer remove_read
   remove_value c = rw (right, h.reads)
 
-  pub point_value : (c : Cell) → point_answer m c ≡ cond (on_grid c) (point_end (entry_at index_space c i) (visits index_space c i)) P.Invalid
+  pub point_value : (c : Cell) → point_answer m c ≡ cond (on_grid c) (Ok (point_end (entry_at index_space c i) (visits index_space c i))) (Err R.Invalid)
   unfolding point_answer point_read
   point_value c = rw (right, h.reads)
 
-  pub window_value : (w : Rect) (len : ℕ) → window_answer m w len ≡ cond (valid w) (window_read w len (some i)) W.Invalid
+  pub window_value : (w : Rect) (len : ℕ) → window_answer m w len ≡ cond (valid w) (window_read w len (some i)) (Err R.Invalid)
   unfolding window_answer
   window_value w len = rw (right, h.reads)
 
   pub nearest_value : (c : Cell) → nearest_answer m c
-      ≡ cond (on_grid c) (nearest_end c (nearest index_space c i) (walk index_space c i).entered) Near.Invalid
+      ≡ cond (on_grid c) (nearest_end c (nearest index_space c i) (walk index_space c i).entered) (Err R.Invalid)
   unfolding nearest_answer nearest_read
   nearest_value c = rw (right, h.reads)
 
   pub empty_value : (w : Rect) → empty_answer m w
       ≡ cond (valid w)
-      (empty_end (is_empty index_space index_window w i) (empty_visits index_space index_window w i))
-      Empty.Invalid
+      (Ok (record { empty = is_empty index_space index_window w i; visits = empty_visits index_space index_window w i }))
+      (Err R.Invalid)
   unfolding empty_answer empty_read
   empty_value w = rw (right, h.reads)
 
@@ -90,7 +86,7 @@ module _ (N : ℕ) (m : List ℕ) (i : PlaneIndex) (h : Holds N m i) where
     where
       go : (a b c : Bool) (t : Option (Tree index_space))
           → insert_reply (by2 a b (insert_end (cells_removed i e.cell)
-          (cond c (refused 5) (limited index_space N t))) I.Invalid I.WorkLength)
+          (cond c (refused 5) (limited index_space N t))) (Err R.Invalid) (Err R.WorkLength))
           ≡ cond (eqb (by2 a b 0 3 2) 0)
           (reply_of len (outcome_answer index_space (λ n. inserted n (cells_removed i e.cell))
           (cond c (refused 5) (limited index_space N t)))) (record { number = by2 a b 0 3 2; values = [] })
@@ -110,7 +106,7 @@ module _ (N : ℕ) (m : List ℕ) (i : PlaneIndex) (h : Holds N m i) where
   unfolding reply_on early reply_of answer remove_end
   remove_reply_lem len c = ap remove_reply (remove_value c) ∙ go (on_grid c) (holds index_space c i)
     where
-      go : (a b : Bool) → remove_reply (cond a (remove_end (cond b (accepted (remove index_space c i)) (refused 6))) R.Invalid)
+      go : (a b : Bool) → remove_reply (cond a (remove_end (cond b (accepted (remove index_space c i)) (refused 6))) (Err R.Invalid))
           ≡ cond (eqb (cond a 0 3) 0) (reply_of len (outcome_answer index_space reports (cond b (accepted (remove index_space c i)) (refused 6)))) (record { number = cond a 0 3; values = [] })
       go false b = refl
       go true true = refl
@@ -124,7 +120,7 @@ module _ (N : ℕ) (m : List ℕ) (i : PlaneIndex) (h : Holds N m i) where
   unfolding reply_on early reply_of answer point_end
   point_reply_lem len c = ap point_reply (point_value c) ∙ go (on_grid c) (entry_at index_space c i) (visits index_space c i)
     where
-      go : (a : Bool) (o : Option CellEntry) (v : ℕ) → point_reply (cond a (point_end o v) P.Invalid)
+      go : (a : Bool) (o : Option CellEntry) (v : ℕ) → point_reply (cond a (Ok (point_end o v)) (Err R.Invalid))
           ≡ cond (eqb (cond a 0 3) 0) (reply_of len (point_found o v)) (record { number = cond a 0 3; values = [] })
       go false o v = refl
       go true none v = refl
@@ -135,7 +131,7 @@ module _ (N : ℕ) (m : List ℕ) (i : PlaneIndex) (h : Holds N m i) where
   window_reply_lem len w = ap window_reply (window_value w len) ∙ go (valid w) (leb (list_width * length (matches_in w i)) len)
     where
       go : (a b : Bool)
-          → window_reply (cond a (cond b (W.Found (length (matches_in w i)) (window_visits index_space index_window w i)) (W.ShortList (length (matches_in w i)))) W.Invalid)
+          → window_reply (cond a (cond b (Ok (record { matches = length (matches_in w i); visits = window_visits index_space index_window w i })) (Err (R.ShortList (length (matches_in w i))))) (Err R.Invalid))
           ≡ cond (eqb (cond a 0 3) 0) (cond b (accepts (length (matches_in w i) ∷ window_visits index_space index_window w i ∷ [])) (record { number = 9; values = length (matches_in w i) ∷ [] })) (record { number = cond a 0 3; values = [] })
       go false b = refl
       go true true = refl
@@ -145,21 +141,20 @@ module _ (N : ℕ) (m : List ℕ) (i : PlaneIndex) (h : Holds N m i) where
   unfolding reply_on early reply_of answer nearest_end
   nearest_reply_lem len c = ap nearest_reply (nearest_value c) ∙ go (on_grid c) (nearest index_space c i) (walk index_space c i).entered
     where
-      go : (a : Bool) (o : Option CellEntry) (v : ℕ) → nearest_reply (cond a (nearest_end c o v) Near.Invalid)
+      go : (a : Bool) (o : Option CellEntry) (v : ℕ) → nearest_reply (cond a (nearest_end c o v) (Err R.Invalid))
           ≡ cond (eqb (cond a 0 3) 0) (reply_of len (nearest_found index_space c o v)) (record { number = cond a 0 3; values = [] })
       go false o v = refl
       go true none v = refl
       go true (some e) v = refl
 
   pub empty_reply_lem : (len : ℕ) (w : Rect) → empty_reply (empty_answer m w) ≡ reply_on N i (empty_call w) len
-  unfolding reply_on early reply_of answer empty_end
+  unfolding reply_on early reply_of answer
   empty_reply_lem len w =
       ap empty_reply (empty_value w)
       ∙ go (valid w) (is_empty index_space index_window w i)
       (empty_visits index_space index_window w i)
     where
-      go : (a b : Bool) (v : ℕ) → empty_reply (cond a (empty_end b v) Empty.Invalid)
+      go : (a b : Bool) (v : ℕ) → empty_reply (cond a (Ok (record { empty = b; visits = v })) (Err R.Invalid))
           ≡ cond (eqb (cond a 0 3) 0) (accepts (cond b 1 0 ∷ v ∷ [])) (record { number = cond a 0 3; values = [] })
       go false b v = refl
-      go true true v = refl
-      go true false v = refl
+      go true b v = refl

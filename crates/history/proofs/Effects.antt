@@ -4,6 +4,7 @@ use mathlib.Core.Bool.{Bool, true, false, cond, true≢false}
 use mathlib.Core.List.{List, ◌++◌, flat_map}
 use mathlib.Core.Option.{some}
 use mathlib.Core.Path.{◌≡◌, refl, ap, ◌∙◌, subst}
+use native.Mathlib.Omega.{arith}
 use lib.Dec.{leb, eqb}
 use lib.ListN.{length, replicate, drop, length-replicate}
 use Rattle.geometry.specs.declared.rect.Cell.{Cell}
@@ -21,44 +22,28 @@ use Rattle.answers.specs.Answers.{cells_removed, insert_end, insert_answer, remo
 use Rattle.answers.specs.Changes.{inserted_index, InsertMemory, work_after, removed_index, RemoveMemory}
 use Rattle.answers.specs.Numbers.{insert_reply, remove_reply, window_reply}
 use Rattle.answers.specs.declared.answer.Inserted.{Inserted}
-use Rattle.answers.specs.declared.answer.Inserted.TheVariants as I
-use Rattle.answers.specs.declared.answer.Removed.{Removed}
-use Rattle.answers.specs.declared.answer.Removed.TheVariants as R
-use Rattle.answers.specs.declared.answer.WindowFound.TheVariants as W
+use Rattle.std.specs.Prelude.{Result, Ok, Err}
+use Rattle.answers.specs.declared.answer.Refusal.{Refusal}
+use Rattle.answers.specs.declared.answer.Refusal.TheVariants as R
 use Rattle.history.specs.Calls.{accepted}
 use Rattle.history.specs.Defined.{early, index_after, work_at_exit, lent_after}
 use Rattle.history.proofs.Answers.{Holds, by2, right, parts, insert_value, remove_value, window_value}
 
 -- a refused insertion leaves the memory
-pub insert_refused : (r : Inserted) (m m' : List ℕ) (e : CellEntry) → InsertMemory r m e m' → accepted (insert_reply r) ≡ false → m' ≡ m
-insert_refused (I.Accepted n removed) m m' e g f = absurd (true≢false f)
-insert_refused I.WrongLength m m' e g f = g
-insert_refused I.WorkLength m m' e g f = g
-insert_refused I.Invalid m m' e g f = g
-insert_refused I.NoSoundTree m m' e g f = g
-insert_refused I.Held m m' e g f = g
-insert_refused I.OverLimit m m' e g f = g
-insert_refused I.TooManyNodes m m' e g f = g
+pub insert_refused : (r : Result Inserted Refusal) (m m' : List ℕ) (e : CellEntry) → InsertMemory r m e m' → accepted (insert_reply r) ≡ false → m' ≡ m
+insert_refused (Ok done) m m' e g f = absurd (true≢false f)
+insert_refused (Err r) m m' e g f = g
 
 -- the work area, by the number returned
-pub work_at_exit_lem : (r : Inserted) (w : List ℕ) → work_after r w ≡ work_at_exit (insert_reply r).number w
+pub work_at_exit_lem : (r : Result Inserted Refusal) (w : List ℕ) → work_after r w ≡ work_at_exit (insert_reply r).number w
 unfolding work_at_exit
-work_at_exit_lem (I.Accepted n removed) w = refl
-work_at_exit_lem I.WrongLength w = refl
-work_at_exit_lem I.WorkLength w = refl
-work_at_exit_lem I.Invalid w = refl
-work_at_exit_lem I.NoSoundTree w = refl
-work_at_exit_lem I.Held w = refl
-work_at_exit_lem I.OverLimit w = refl
-work_at_exit_lem I.TooManyNodes w = refl
+work_at_exit_lem (Ok done) w = refl
+work_at_exit_lem (Err r) w = grind arith
 
 -- a refused removal leaves the memory
-pub remove_refused : (r : Removed) (m m' : List ℕ) (c : Cell) → RemoveMemory r m c m' → accepted (remove_reply r) ≡ false → m' ≡ m
-remove_refused (R.Accepted n) m m' c g f = absurd (true≢false f)
-remove_refused R.WrongLength m m' c g f = g
-remove_refused R.Invalid m m' c g f = g
-remove_refused R.NoSoundTree m m' c g f = g
-remove_refused R.NotHeld m m' c g f = g
+pub remove_refused : (r : Result ℕ Refusal) (m m' : List ℕ) (c : Cell) → RemoveMemory r m c m' → accepted (remove_reply r) ≡ false → m' ≡ m
+remove_refused (Ok held) m m' c g f = absurd (true≢false f)
+remove_refused (Err r) m m' c g f = g
 
 module _ (N : ℕ) (m : List ℕ) (i : PlaneIndex) (h : Holds N m i) where
   -- what the memory reads as after an insertion
@@ -66,20 +51,15 @@ module _ (N : ℕ) (m : List ℕ) (i : PlaneIndex) (h : Holds N m i) where
   unfolding index_after early after insert_end inserted_index
   insert_reads len e m' g = go (eqb len (64 + 128 * N)) (on_grid e.cell) (subst (λ r. InsertMemory r m e m') (insert_value N m i h len e) g)
     where
-      at : (a b : Bool) → InsertMemory (cond a I.Held (cond b I.OverLimit I.TooManyNodes)) m e m' → m' ≡ m
-      at true b g = g
-      at false true g = g
-      at false false g = g
-
       ends : (o : Outcome index_space) → insertion index_space index_root N i e ≡ o
           → InsertMemory (insert_end (cells_removed i e.cell) o) m e m'
           → reading fanout m' ≡ some (outcome_index index_space i o)
-      ends (refused k) q g = ap (reading fanout) (at (eqb k 5) (eqb k 7) g) ∙ h.reads
+      ends (refused k) q g = ap (reading fanout) g ∙ h.reads
       ends (accepted_as j) q g = g ∙ rw (h.reads, parts N m i h, q)
 
       go : (a b : Bool) → InsertMemory
           (by2 a b (insert_end (cells_removed i e.cell)
-          (insertion index_space index_root N i e)) I.Invalid I.WorkLength) m e m'
+          (insertion index_space index_root N i e)) (Err R.Invalid) (Err R.WorkLength)) m e m'
           → reading fanout m' ≡ some (cond (eqb (by2 a b 0 3 2) 0) (outcome_index index_space i (insertion index_space index_root N i e)) i)
       go false b g = ap (reading fanout) g ∙ h.reads
       go true false g = ap (reading fanout) g ∙ h.reads
@@ -95,7 +75,7 @@ module _ (N : ℕ) (m : List ℕ) (i : PlaneIndex) (h : Holds N m i) where
       ends (refused k) q g = ap (reading fanout) g ∙ h.reads
       ends (accepted_as j) q g = g ∙ rw (h.reads, q)
 
-      go : (a : Bool) → RemoveMemory (cond a (remove_end (removal index_space i c)) R.Invalid) m c m'
+      go : (a : Bool) → RemoveMemory (cond a (remove_end (removal index_space i c)) (Err R.Invalid)) m c m'
           → reading fanout m' ≡ some (cond (eqb (cond a 0 3) 0) (outcome_index index_space i (removal index_space i c)) i)
       go false g = ap (reading fanout) g ∙ h.reads
       go true g = ends (removal index_space i c) refl g
@@ -116,7 +96,7 @@ module _ (N : ℕ) (m : List ℕ) (i : PlaneIndex) (h : Holds N m i) where
     where
       go : (a b : Bool)
           → cond a (cond b (flat_map listed_numbers (matches_in w i) ++ drop (list_width * length (matches_in w i)) l) l) l
-          ≡ cond (eqb (window_reply (cond a (cond b (W.Found (length (matches_in w i)) (window_visits index_space index_window w i)) (W.ShortList (length (matches_in w i)))) W.Invalid)).number 0)
+          ≡ cond (eqb (window_reply (cond a (cond b (Ok (record { matches = length (matches_in w i); visits = window_visits index_space index_window w i })) (Err (R.ShortList (length (matches_in w i))))) (Err R.Invalid))).number 0)
           (flat_map listed_numbers (matches_in w i) ++ drop (list_width * length (matches_in w i)) l) l
       go false b = refl
       go true true = refl

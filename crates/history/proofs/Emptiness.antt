@@ -1,7 +1,7 @@
 -- The answer of an accepted emptiness query, on any memory, and beside a window query.
 use Prim.Native.Nat.{ℕ, ◌*◌, ◌≤◌}
 use mathlib.Core.Bool.{Bool, true, false, cond, false≢true}
-use mathlib.Core.List.{List, [], ◌∷◌}
+use mathlib.Core.List.{List}
 use mathlib.Core.Option.{Option, none, some}
 use mathlib.Core.Path.{◌≡◌, refl, sym, ap, ◌∙◌}
 use lib.Dec.{leb, eqb}
@@ -20,10 +20,10 @@ use Rattle.plane.proofs.Windows.{plane_window_laws}
 use Rattle.memory.specs.Layout.{is_index_length}
 use Rattle.memory.specs.Reading.{reading}
 use Rattle.answers.specs.Listing.{list_width}
-use Rattle.answers.specs.Answers.{matches_in, window_read, window_answer, empty_end, empty_read, empty_answer}
+use Rattle.answers.specs.Answers.{matches_in, window_read, window_answer, empty_read, empty_answer}
 use Rattle.answers.specs.Numbers.{window_reply, empty_reply}
-use Rattle.answers.specs.declared.answer.WindowFound.TheVariants as W
-use Rattle.answers.specs.declared.answer.EmptyFound.TheVariants as E
+use Rattle.std.specs.Prelude.{Ok, Err}
+use Rattle.answers.specs.declared.answer.Refusal.TheVariants as R
 use Rattle.history.specs.Calls.{accepted}
 use Rattle.history.specs.Emptiness.{EmptyExact, EmptyAsWindow}
 use Rattle.history.proofs.Visits.{reads_sound, reads_right, index_held}
@@ -56,32 +56,28 @@ module _ (m : List ℕ) (w : Rect) (i : PlaneIndex) (e : reading fanout m ≡ so
 
   -- an emptiness query of a valid window is accepted on every memory that holds an index
   pub empty_accepts : valid w ≡ true → accepted (empty_reply (empty_answer m w)) ≡ true
-  unfolding empty_answer empty_read empty_end
-  empty_accepts g = rw (reads_right m i e, g, e) (go (is_empty w i))
-    where
-      go : (b : Bool) → accepted (empty_reply (empty_end b (empty_visits w i))) ≡ true
-      go true = refl
-      go false = refl
+  unfolding empty_answer empty_read
+  empty_accepts g = rw (reads_right m i e, g, e)
 
   -- An accepted one is exact for r, if as many entries of i as of r pass any test.
   pub tells_empty : (r : List CellEntry)
       → Bag (entries index_space i) r
       → accepted (empty_reply (empty_answer m w)) ≡ true → EmptyExact m w r (empty_reply (empty_answer m w))
-  unfolding empty_answer empty_read empty_end
+  unfolding empty_answer empty_read
   tells_empty r same f = rw e (go (is_index_length m) (valid w) (is_empty w i) refl (rw e at f))
     where
       inside : CellEntry → Bool
       inside = query.matching index_space index_window w
 
       go : (a b t : Bool) → is_empty w i ≡ t
-          → accepted (empty_reply (cond a (cond b (empty_end t (empty_visits w i)) E.Invalid) E.WrongLength)) ≡ true
-          → EmptyExact m w r (empty_reply (cond a (cond b (empty_end t (empty_visits w i)) E.Invalid) E.WrongLength))
+          → accepted (empty_reply (cond a (cond b (Ok (record { empty = t; visits = empty_visits w i })) (Err R.Invalid)) (Err R.WrongLength))) ≡ true
+          → EmptyExact m w r (empty_reply (cond a (cond b (Ok (record { empty = t; visits = empty_visits w i })) (Err R.Invalid)) (Err R.WrongLength)))
       go false b t h f = never f
       go true false t h f = never f
       go true true t h f = record {
         empty = t;
         visits = empty_visits w i;
-        reply = reply t;
+        reply = refl;
         none_inside = sym h ∙ yes_exact ∙ ap (λ n. eqb n 0) (same inside);
         index = i;
         reads = e;
@@ -89,10 +85,6 @@ module _ (m : List ℕ) (w : Rect) (i : PlaneIndex) (e : reading fanout m ≡ so
         exact = refl;
         few = few;
       }
-        where
-          reply : (t : Bool) → (empty_reply (empty_end t (empty_visits w i))).values ≡ cond t 1 0 ∷ empty_visits w i ∷ []
-          reply true = refl
-          reply false = refl
 
 -- An accepted one on any memory: that memory holds an index, and its answer is exact for the entries of that index.
 pub empty_on_index : (m : List ℕ) (w : Rect) → accepted (empty_reply (empty_answer m w)) ≡ true
@@ -100,29 +92,27 @@ pub empty_on_index : (m : List ℕ) (w : Rect) → accepted (empty_reply (empty_
     × EmptyExact m w (entries index_space i) (empty_reply (empty_answer m w))
 unfolding empty_answer empty_read
 empty_on_index m w f =
-    let h = index_held empty_reply (empty_read w) E.Invalid E.WrongLength
+    let h = index_held empty_reply (empty_read w) (Err R.Invalid) (Err R.WrongLength)
     (is_index_length m) (valid w) (reading fanout m) refl refl refl f in
     (h.0, h.1, tells_empty m w h.0 h.1 (entries index_space h.0) (λ q. refl) f)
 
 -- Beside a window query of the same memory and window, with a result list of any length.
 pub empty_as_window : (m : List ℕ) (w : Rect) (len : ℕ)
     → EmptyAsWindow (empty_reply (empty_answer m w)) (window_reply (window_answer m w len))
-unfolding empty_answer window_answer empty_read window_read empty_end
+unfolding empty_answer window_answer empty_read window_read
 empty_as_window m w len = go (is_index_length m) (valid w) (reading fanout m) refl
   where
     -- both accept, or the window query lacks room
     accept : (i : PlaneIndex) → reading fanout m ≡ some i → (t : Bool) → is_empty w i ≡ t → (l : Bool)
-        → EmptyAsWindow (empty_reply (empty_end t (empty_visits w i)))
+        → EmptyAsWindow (empty_reply (Ok (record { empty = t; visits = empty_visits w i })))
         (window_reply
-        (cond l (W.Found (length (matches_in w i)) (window_visits w i)) (W.ShortList (length (matches_in w i)))))
-    accept i e true h true = record { number = refl; yes = λ f. rw (← (yes_exact m w i e), h); few = λ f. few m w i e }
-    accept i e false h true = record { number = refl; yes = λ f. rw (← (yes_exact m w i e), h); few = λ f. few m w i e }
-    accept i e true h false = record { number = refl; yes = λ f. rw (← (yes_exact m w i e), h); few = λ f. never f }
-    accept i e false h false = record { number = refl; yes = λ f. rw (← (yes_exact m w i e), h); few = λ f. never f }
+        (cond l (Ok (record { matches = length (matches_in w i); visits = window_visits w i })) (Err (R.ShortList (length (matches_in w i))))))
+    accept i e t h true = record { number = refl; yes = λ f. rw (← (yes_exact m w i e), h); few = λ f. few m w i e }
+    accept i e t h false = record { number = refl; yes = λ f. rw (← (yes_exact m w i e), h); few = λ f. never f }
 
     go : (a b : Bool) (o : Option PlaneIndex) → reading fanout m ≡ o
-        → EmptyAsWindow (empty_reply (cond a (cond b (empty_read w o) E.Invalid) E.WrongLength))
-        (window_reply (cond a (cond b (window_read w len o) W.Invalid) W.WrongLength))
+        → EmptyAsWindow (empty_reply (cond a (cond b (empty_read w o) (Err R.Invalid)) (Err R.WrongLength)))
+        (window_reply (cond a (cond b (window_read w len o) (Err R.Invalid)) (Err R.WrongLength)))
     go false b o e = record { number = refl; yes = λ f. never f; few = λ f. never f }
     go true false o e = record { number = refl; yes = λ f. never f; few = λ f. never f }
     go true true none e = record { number = refl; yes = λ f. never f; few = λ f. never f }

@@ -21,7 +21,8 @@ use Rattle.memory.specs.Layout.{is_index_length}
 use Rattle.memory.specs.Reading.{reading}
 use Rattle.answers.specs.Answers.{nearest_end, nearest_read, nearest_answer}
 use Rattle.answers.specs.Numbers.{nearest_reply}
-use Rattle.answers.specs.declared.answer.NearestFound.TheVariants as Near
+use Rattle.std.specs.Prelude.{Err}
+use Rattle.answers.specs.declared.answer.Refusal.TheVariants as R
 use Rattle.history.specs.Calls.{accepted}
 use Rattle.history.specs.Claim.{NearestExact}
 use Rattle.history.proofs.Visits.{reads_sound, reads_right, index_held}
@@ -46,8 +47,8 @@ tells_nearest m c i r e same f =
     rw e (go (is_index_length m) (on_grid c) (nearest index_space c i) refl (rw e at f))
   where
     go : (a b : Bool) (o : Option CellEntry) → nearest index_space c i ≡ o
-        → accepted (nearest_reply (cond a (cond b (nearest_end c o (walk index_space c i).entered) Near.Invalid) Near.WrongLength)) ≡ true
-        → NearestExact m c r (nearest_reply (cond a (cond b (nearest_end c o (walk index_space c i).entered) Near.Invalid) Near.WrongLength))
+        → accepted (nearest_reply (cond a (cond b (nearest_end c o (walk index_space c i).entered) (Err R.Invalid)) (Err R.WrongLength))) ≡ true
+        → NearestExact m c r (nearest_reply (cond a (cond b (nearest_end c o (walk index_space c i).entered) (Err R.Invalid)) (Err R.WrongLength)))
     go false b o h f = absurd (false≢true f)
     go true false o h f = absurd (false≢true f)
     go true true none h f = absurd (false≢true f)
@@ -68,6 +69,6 @@ pub nearest_on_index : (m : List ℕ) (c : Cell) → accepted (nearest_reply (ne
     → (i : PlaneIndex) × (reading fanout m ≡ some i) × NearestExact m c (entries index_space i) (nearest_reply (nearest_answer m c))
 unfolding nearest_answer nearest_read
 nearest_on_index m c f =
-    let h = index_held nearest_reply (nearest_read c) Near.Invalid Near.WrongLength
+    let h = index_held nearest_reply (nearest_read c) (Err R.Invalid) (Err R.WrongLength)
     (is_index_length m) (on_grid c) (reading fanout m) refl refl refl f in
     (h.0, h.1, tells_nearest m c h.0 (entries index_space h.0) h.1 (λ q. refl) f)

@@ -16,7 +16,8 @@ use Rattle.memory.specs.Layout.{parts_of, is_index_length}
 use Rattle.memory.specs.Reading.{reading}
 use Rattle.answers.specs.Answers.{cells_removed, insert_end, insert_read, insert_answer}
 use Rattle.answers.specs.Numbers.{insert_reply}
-use Rattle.answers.specs.declared.answer.Inserted.TheVariants as I
+use Rattle.std.specs.Prelude.{Err}
+use Rattle.answers.specs.declared.answer.Refusal.TheVariants as R
 use Rattle.history.specs.Calls.{accepted}
 use Rattle.history.specs.Removed.{RemovedExact}
 
@@ -29,7 +30,7 @@ module _ (m : List ℕ) (e : CellEntry) where
   removed_end i r (refused k) f = never (eqb k 5) (eqb k 7) f
     where
       never : (a b : Bool) {A : Type 0}
-          → accepted (insert_reply (cond a I.Held (cond b I.OverLimit I.TooManyNodes))) ≡ true → A
+          → accepted (insert_reply (Err (cond a R.Held (cond b R.OverLimit R.TooManyNodes)))) ≡ true → A
       never true b f = absurd (false≢true f)
       never false true f = absurd (false≢true f)
       never false false f = absurd (false≢true f)
@@ -48,9 +49,9 @@ module _ (m : List ℕ) (e : CellEntry) where
     where
       go : (a b d : Bool) (o : Option PlaneIndex) → reading fanout m ≡ o
           → accepted (insert_reply (cond a
-          (cond b (cond d (insert_read (parts_of m) e o) I.Invalid) I.WorkLength) I.WrongLength)) ≡ true
+          (cond b (cond d (insert_read (parts_of m) e o) (Err R.Invalid)) (Err R.WorkLength)) (Err R.WrongLength))) ≡ true
           → RemovedExact m e.cell (insert_reply
-          (cond a (cond b (cond d (insert_read (parts_of m) e o) I.Invalid) I.WorkLength) I.WrongLength))
+          (cond a (cond b (cond d (insert_read (parts_of m) e o) (Err R.Invalid)) (Err R.WorkLength)) (Err R.WrongLength)))
       go false b d o r f = absurd (false≢true f)
       go true false d o r f = absurd (false≢true f)
       go true true false o r f = absurd (false≢true f)

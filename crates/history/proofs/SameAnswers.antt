@@ -23,11 +23,10 @@ use Rattle.plane.specs.Lines.{CellEntry}
 use Rattle.plane.specs.Fanout.{fanout, index_space, index_root, index_window, PlaneIndex}
 use Rattle.plane.proofs.Rects.{plane_space_laws}
 use Rattle.memory.specs.Reading.{reading}
-use Rattle.answers.specs.Answers.{matches_in, point_end, point_read, point_answer, nearest_end, nearest_read, nearest_answer, empty_end, empty_read, empty_answer}
+use Rattle.answers.specs.Answers.{matches_in, point_end, point_read, point_answer, nearest_end, nearest_read, nearest_answer, empty_read, empty_answer}
 use Rattle.answers.specs.Numbers.{point_reply, nearest_reply, empty_reply}
-use Rattle.answers.specs.declared.answer.PointFound.TheVariants as P
-use Rattle.answers.specs.declared.answer.NearestFound.TheVariants as Near
-use Rattle.answers.specs.declared.answer.EmptyFound.TheVariants as E
+use Rattle.std.specs.Prelude.{Ok, Err}
+use Rattle.answers.specs.declared.answer.Refusal.TheVariants as R
 use Rattle.history.specs.Calls.{IndexCall, Performed, with_room}
 use Rattle.history.specs.Contract.{WindowByContract, ByContractOf}
 use Rattle.history.specs.SameAnswers.{without, SameButVisits, SameWindow, SameBy}
@@ -67,7 +66,7 @@ module _ (m m' : List ℕ) (i j : PlaneIndex) (e : reading fanout m ≡ some i) 
       (visits index_space c i) (visits index_space c j))
     where
       go : (a : Bool) (o : Option CellEntry) (v v' : ℕ)
-          → SameButVisits 1 (point_reply (cond a (point_end o v) P.Invalid)) (point_reply (cond a (point_end o v') P.Invalid))
+          → SameButVisits 1 (point_reply (cond a (Ok (point_end o v)) (Err R.Invalid))) (point_reply (cond a (Ok (point_end o v')) (Err R.Invalid)))
       go false o v v' = record { number = refl; values = refl }
       go true none v v' = record { number = refl; values = refl }
       go true (some n) v v' = record { number = refl; values = refl }
@@ -82,8 +81,8 @@ module _ (m m' : List ℕ) (i j : PlaneIndex) (e : reading fanout m ≡ some i) 
       (walk index_space c i).entered (walk index_space c j).entered)
     where
       go : (a : Bool) (o : Option CellEntry) (v v' : ℕ)
-          → SameButVisits 4 (nearest_reply (cond a (nearest_end c o v) Near.Invalid))
-          (nearest_reply (cond a (nearest_end c o v') Near.Invalid))
+          → SameButVisits 4 (nearest_reply (cond a (nearest_end c o v) (Err R.Invalid)))
+          (nearest_reply (cond a (nearest_end c o v') (Err R.Invalid)))
       go false o v v' = record { number = refl; values = refl }
       go true none v v' = record { number = refl; values = refl }
       go true (some n) v v' = record { number = refl; values = refl }
@@ -93,7 +92,7 @@ module _ (m m' : List ℕ) (i j : PlaneIndex) (e : reading fanout m ≡ some i) 
   as_many w = bag_length (matches_in w i) (matches_in w j) (bag_keep (inside w) (held i) (held j) same)
 
   empty_reply_same : (w : Rect) → SameButVisits 1 (empty_reply (empty_answer m w)) (empty_reply (empty_answer m' w))
-  unfolding empty_answer empty_read empty_end
+  unfolding empty_answer empty_read
   empty_reply_same w =
       let k : is_empty w i ≡ is_empty w j =
       yes_exact m w i e ∙ ap (λ n. eqb n 0) (as_many w) ∙ sym (yes_exact m' w j f) in
@@ -101,11 +100,10 @@ module _ (m m' : List ℕ) (i j : PlaneIndex) (e : reading fanout m ≡ some i) 
       (go (valid w) (is_empty w i) (empty_visits w i) (empty_visits w j))
     where
       go : (a t : Bool) (v v' : ℕ)
-          → SameButVisits 1 (empty_reply (cond a (empty_end t v) E.Invalid))
-          (empty_reply (cond a (empty_end t v') E.Invalid))
+          → SameButVisits 1 (empty_reply (cond a (Ok (record { empty = t; visits = v })) (Err R.Invalid)))
+          (empty_reply (cond a (Ok (record { empty = t; visits = v' })) (Err R.Invalid)))
       go false t v v' = record { number = refl; values = refl }
-      go true true v v' = record { number = refl; values = refl }
-      go true false v v' = record { number = refl; values = refl }
+      go true t v v' = record { number = refl; values = refl }
 
   -- the number and the matches of two window queries, by the tests of the window and of the two lists
   window_reply_same : (w : Rect) (a b b' : Bool)

@@ -19,6 +19,8 @@ use Rattle.plane.specs.Fanout.{fanout, index_space, PlaneIndex}
 use Rattle.memory.specs.Reading.{reading}
 use Rattle.layout.specs.Entries.{tree_entry}
 use Rattle.answers.specs.Listing.{list_width}
+use Rattle.std.specs.Prelude.{Result}
+use Rattle.answers.specs.declared.answer.Refusal.{Refusal}
 use Rattle.answers.specs.declared.answer.PointFound.{PointFound}
 use Rattle.answers.specs.declared.answer.WindowFound.{WindowFound}
 use Rattle.answers.specs.declared.answer.NearestFound.{NearestFound}
@@ -198,7 +200,7 @@ history N a b ss m l = kept_history N a b (map made ss) m (all_kept ss) l
 
 -- "or on any other sound index": on every memory that holds an index, a point query of a cell on the grid is accepted,
 pub point_on_sound : (s : Point) (i : PlaneIndex) → reading fanout s.args.0.now ≡ some i → on_grid s.args.1.0 ≡ true → accepted (point_reply s.out) ≡ true
-point_on_sound s i e g = ap (λ (x : PointFound). accepted (point_reply x)) s.meets ∙ point_accepts s.args.0.now s.args.1.0 i e g
+point_on_sound s i e g = ap (λ (x : Result PointFound Refusal). accepted (point_reply x)) s.meets ∙ point_accepts s.args.0.now s.args.1.0 i e g
 
 -- and the visits of an accepted one are exact and at most the height, whatever memory it was handed.
 pub point_exact : (s : Point) → accepted (point_reply s.out) ≡ true → VisitsExact s.args.0.now s.args.1.0 (visits_of (point_reply s.out))
@@ -209,27 +211,27 @@ pub window_on_sound : (s : Window) (i : PlaneIndex) → reading fanout s.args.0.
     → valid s.args.1.0 ≡ true → list_width * length (entries index_space i) ≤ length s.args.1.1.0.now
     → accepted (window_reply s.out) ≡ true
 window_on_sound s i e g r =
-    ap (λ (x : WindowFound). accepted (window_reply x)) s.meets.answer
+    ap (λ (x : Result WindowFound Refusal). accepted (window_reply x)) s.meets.answer
     ∙ window_accepts s.args.0.now s.args.1.0 i e (length s.args.1.1.0.now) g r
 
 -- The same of nearest queries: on every memory that holds an index with an entry, one of a cell on the grid is accepted,
 pub nearest_on_sound : (s : Nearest) (i : PlaneIndex) → reading fanout s.args.0.now ≡ some i → 1 ≤ length (entries index_space i)
     → on_grid s.args.1.0 ≡ true → accepted (nearest_reply s.out) ≡ true
 nearest_on_sound s i e n g =
-    ap (λ (x : NearestFound). accepted (nearest_reply x)) s.meets ∙ nearest_accepts s.args.0.now s.args.1.0 i e n g
+    ap (λ (x : Result NearestFound Refusal). accepted (nearest_reply x)) s.meets ∙ nearest_accepts s.args.0.now s.args.1.0 i e n g
 
 -- and of an accepted one the memory holds an index, whatever memory it was handed, and the answer is exact for the entries of that index.
 pub nearest_exact : (s : Nearest) → accepted (nearest_reply s.out) ≡ true
     → (i : PlaneIndex) × (reading fanout s.args.0.now ≡ some i)
     × NearestExact s.args.0.now s.args.1.0 (entries index_space i) (nearest_reply s.out)
 nearest_exact s f =
-    rw s.meets (nearest_on_index s.args.0.now s.args.1.0 (ap (λ (x : NearestFound). accepted (nearest_reply x)) (sym s.meets) ∙ f))
+    rw s.meets (nearest_on_index s.args.0.now s.args.1.0 (ap (λ (x : Result NearestFound Refusal). accepted (nearest_reply x)) (sym s.meets) ∙ f))
 
 -- The same of emptiness queries: on every memory that holds an index, one of a valid window is accepted,
 pub empty_on_sound : (s : Emptiness) (i : PlaneIndex) → reading fanout s.args.0.now ≡ some i
     → valid s.args.1.0 ≡ true → accepted (empty_reply s.out) ≡ true
 empty_on_sound s i e g =
-    ap (λ (x : EmptyFound). accepted (empty_reply x)) s.meets
+    ap (λ (x : Result EmptyFound Refusal). accepted (empty_reply x)) s.meets
     ∙ empty_accepts s.args.0.now s.args.1.0 i e g
 
 -- and of an accepted one the memory holds an index, whatever memory it was handed, and the answer is exact for the entries
@@ -238,7 +240,7 @@ pub empty_exact : (s : Emptiness) → accepted (empty_reply s.out) ≡ true
     → (i : PlaneIndex) × (reading fanout s.args.0.now ≡ some i)
     × EmptyExact s.args.0.now s.args.1.0 (entries index_space i) (empty_reply s.out)
 empty_exact s f =
-    let g = ap (λ (x : EmptyFound). accepted (empty_reply x)) (sym s.meets) ∙ f in
+    let g = ap (λ (x : Result EmptyFound Refusal). accepted (empty_reply x)) (sym s.meets) ∙ f in
     rw s.meets (empty_on_index s.args.0.now s.args.1.0 g)
 
 -- An emptiness query and a window query that were handed the same memory and the same window, whatever these are: the yes

@@ -18,7 +18,8 @@ use Rattle.memory.proofs.ReadingLaws.{read_empty, read_sound}
 use Rattle.answers.specs.Answers.{point_end, point_read, point_answer}
 use Rattle.answers.specs.declared.reply.Reply.{Reply}
 use Rattle.answers.specs.Numbers.{point_reply}
-use Rattle.answers.specs.declared.answer.PointFound.TheVariants as P
+use Rattle.std.specs.Prelude.{Ok, Err}
+use Rattle.answers.specs.declared.answer.Refusal.TheVariants as R
 use Rattle.history.specs.Calls.{accepted}
 use Rattle.history.specs.Claim.{visits_of, VisitsExact}
 
@@ -43,12 +44,12 @@ index_held reply read bad wrong true true none p q r f = absurd (false≢true (s
 index_held reply read bad wrong true true (some i) p q r f = (i, refl)
 
 -- the visits reported of a point query's end, which accepts
-visits_end : (o : Option CellEntry) (v : ℕ) → visits_of (point_reply (point_end o v)) ≡ v
+visits_end : (o : Option CellEntry) (v : ℕ) → visits_of (point_reply (Ok (point_end o v))) ≡ v
 unfolding point_end
 visits_end none v = refl
 visits_end (some e) v = refl
 
-end_accepts : (o : Option CellEntry) (v : ℕ) → accepted (point_reply (point_end o v)) ≡ true
+end_accepts : (o : Option CellEntry) (v : ℕ) → accepted (point_reply (Ok (point_end o v))) ≡ true
 unfolding point_end
 end_accepts none v = refl
 end_accepts (some e) v = refl
@@ -63,8 +64,8 @@ pub point_visits : (m : List ℕ) (c : Cell) → accepted (point_reply (point_an
 unfolding point_answer point_read
 point_visits m c f = go (is_index_length m) (on_grid c) (reading fanout m) refl f
   where
-    go : (a b : Bool) (o : Option PlaneIndex) → reading fanout m ≡ o → accepted (point_reply (cond a (cond b (point_read c o) P.Invalid) P.WrongLength)) ≡ true
-        → VisitsExact m c (visits_of (point_reply (cond a (cond b (point_read c o) P.Invalid) P.WrongLength)))
+    go : (a b : Bool) (o : Option PlaneIndex) → reading fanout m ≡ o → accepted (point_reply (cond a (cond b (point_read c o) (Err R.Invalid)) (Err R.WrongLength))) ≡ true
+        → VisitsExact m c (visits_of (point_reply (cond a (cond b (point_read c o) (Err R.Invalid)) (Err R.WrongLength))))
     go false b o e f = absurd (false≢true f)
     go true false o e f = absurd (false≢true f)
     go true true none e f = absurd (false≢true f)

@@ -19,7 +19,8 @@ use Rattle.answers.specs.Listing.{list_width, listed_numbers}
 use Rattle.answers.specs.Answers.{matches_in, window_read, window_answer, window_written, window_list}
 use Rattle.answers.specs.declared.reply.Reply.{Reply}
 use Rattle.answers.specs.Numbers.{window_reply}
-use Rattle.answers.specs.declared.answer.WindowFound.TheVariants as W
+use Rattle.std.specs.Prelude.{Ok, Err}
+use Rattle.answers.specs.declared.answer.Refusal.TheVariants as R
 use Rattle.history.specs.Calls.{Performed, accepted}
 use Rattle.history.specs.Contract.{WindowByContract}
 use Rattle.history.specs.SameAnswers.{Wrote}
@@ -33,7 +34,7 @@ module _ (m : List ℕ) (w : Rect) (i : PlaneIndex) (e : reading fanout m ≡ so
   unfoldable pub reply_by : Bool → Bool → Reply
   reply_by a b =
       let v = window_visits index_space index_window w i in
-      window_reply (cond a (cond b (W.Found matched v) (W.ShortList matched)) W.Invalid)
+      window_reply (cond a (cond b (Ok (record { matches = matched; visits = v })) (Err (R.ShortList matched))) (Err R.Invalid))
 
   tells : (len : ℕ) → window_reply (window_answer m w len) ≡ reply_by (valid w) (leb (list_width * matched) len)
   unfolding window_answer window_read matched reply_by

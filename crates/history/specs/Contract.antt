@@ -1,6 +1,6 @@
 -- A call that was made, by the contract of its function: the answer is the one that crates/index/specs defines for the
 -- memory handed, whatever that holds.
-use Rattle.std.specs.Prelude.{◌≡◌}
+use Rattle.std.specs.Prelude.{ℕ, ◌≡◌, Result}
 use Rattle.geometry.specs.declared.rect.Cell.{Cell}
 use Rattle.geometry.specs.declared.rect.Rect.{Rect}
 use Rattle.tree.specs.Calls.{insert_call, remove_call, clear_call, point_call, window_call, nearest_call, empty_call}
@@ -8,20 +8,20 @@ use Rattle.plane.specs.Lines.{CellEntry}
 use Rattle.answers.specs.Answers.{clear_answer, cleared, point_answer, nearest_answer, empty_answer}
 use Rattle.answers.specs.Changes.{InsertCall, RemoveCall, WindowCall}
 use Rattle.answers.specs.Numbers.{insert_reply, remove_reply, clear_reply, point_reply, window_reply, nearest_reply, empty_reply}
+use Rattle.answers.specs.declared.answer.Refusal.{Refusal}
 use Rattle.answers.specs.declared.answer.Inserted.{Inserted}
-use Rattle.answers.specs.declared.answer.Removed.{Removed}
 use Rattle.answers.specs.declared.answer.WindowFound.{WindowFound}
 use Rattle.history.specs.Calls.{IndexCall, Performed}
 
 -- An insertion of e.
 pub record InsertByContract (e : CellEntry) (d : Performed) : Type 0 where
-  pub result : Inserted
+  pub result : Result Inserted Refusal
   pub reply : d.reply ≡ insert_reply result
   pub contract : InsertCall d.before d.lent e d.after d.at_exit result
 
 -- A removal of the entry of c.
 pub record RemoveByContract (c : Cell) (d : Performed) : Type 0 where
-  pub result : Removed
+  pub result : Result ℕ Refusal
   pub reply : d.reply ≡ remove_reply result
   pub contract : RemoveCall d.before c d.after result
   pub list : d.at_exit ≡ d.lent
@@ -40,7 +40,7 @@ pub record PointByContract (c : Cell) (d : Performed) : Type 0 where
 
 -- A window query of w. It is lent the index to read only.
 pub record WindowByContract (w : Rect) (d : Performed) : Type 0 where
-  pub result : WindowFound
+  pub result : Result WindowFound Refusal
   pub reply : d.reply ≡ window_reply result
   pub contract : WindowCall d.before w d.lent d.at_exit result
   pub memory : d.after ≡ d.before

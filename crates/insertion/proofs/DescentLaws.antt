@@ -1,14 +1,17 @@
 -- The descent, one level after another: the node that step 2 goes to is sound again, and the path is that of the definition.
 use Prim.Native.Nat.{ℕ, zero, suc, ◌+◌, ◌≤◌, ◌<◌}
 use mathlib.Core.Path.{◌≡◌, refl, sym, ap, ◌∙◌, subst}
-use mathlib.Core.Bool.{Bool, true, false}
+use mathlib.Core.Bool.{true}
 use mathlib.Core.List.{List, [], ◌∷◌, ◌++◌, flat_map}
+use Rattle.std.specs.Prelude.{None}
 use mathlib.Core.Option.{Option, none, some, bind}
 use native.Mathlib.Nat.{add-zero}
 use native.Mathlib.Omega.{arith}
 use native.Mathlib.Decide.{dec_le, dec_lt}
 use lib.ListN.{length, take, drop, get_or}
 use lib.Seq.{get_or-append_seam, length-take-le}
+use Rattle.std.proofs.Common.{Result, Ok, Err}
+use Rattle.path.specs.declared.level.Level.{Level}
 use Rattle.geometry.specs.declared.rect.Cell.{Cell}
 use Rattle.geometry.specs.declared.rect.Rect.{Rect}
 use Rattle.geometry.specs.declared.polygon.Polygon.{Polygon}
@@ -33,10 +36,11 @@ use Rattle.layout.proofs.NodeLaws.{child_in_lem}
 use Rattle.walks.specs.Walks.{Walkable}
 use Rattle.walks.proofs.WalkRows.{walkable}
 use Rattle.walks.proofs.WalkLoop.{children_count}
+use Rattle.geometry.specs.declared.cut.TooMany.{TooMany}
 use Rattle.choose_branch.specs.Choose.{Routing, ChosenBranch, ChosenAt, NoneChosen}
-use Rattle.path.specs.Path.{part_on, place_on, line_on, rect_count_on, polygon_on, FewRects}
-use Rattle.path.specs.Puts.{SameLevel, LevelPut, PlacePut}
-use Rattle.path.proofs.SameLaws.{level_below, level_kept, few_kept, same_level_trans}
+use Rattle.path.specs.Path.{part_on, place_on, line_on, rect_count_on, polygon_on, SameLevel}
+use Rattle.path.proofs.PutLaws.{LevelPut, PlacePut}
+use Rattle.path.proofs.PutLaws.{level_below, level_kept, few_kept, same_level_trans}
 use Rattle.tree_after.specs.Path.{row_at, way_at, PathNode, PathFrom}
 use Rattle.tree_after.proofs.RowLaws.{row_of}
 use Rattle.insertion.specs.Descent.{child_or, items_at, Descending, Kept, Linked, Reached, Stopped, Descended}
@@ -54,45 +58,45 @@ unfolding items_at child_or
 items_are n m k b e = rw e
 
 -- a path as it was
-kept_all : (n : ℕ) (path : List ℕ) → Kept n path path
+kept_all : (n : ℕ) (path : List Level) → Kept n path path
 kept_all n path = record {
   same_length = refl;
   part = refl;
   line = refl;
   count = refl;
-  polygon = λ f. refl;
-  above = λ j h. record { part = refl; place = refl; line = refl; count = refl; polygon = λ f. refl };
+  polygon = refl;
+  above = λ j h. refl;
 }
 
-module _ (path m : List ℕ) (c : Cell) (d : Descending 0 path m c) where
+module _ (path : List Level) (m : List ℕ) (c : Cell) (d : Descending 0 path m c) where
   leaf_way : (t : Payload) → descend index_space 0 (polygon_on path 0) (items_at 0 m (part_on path 0)) (entry_of c t) ≡ some (way_at 0 path m (entry_of c t))
   unfolding P.descend way_at
   leaf_way t = ap (λ (l : List CellEntry). some (l ++ (entry_of c t ∷ []))) (items_are 0 m (part_on path 0) d.walk.node d.walk.reads ∙ (leaf_parts fanout m 0 (part_on path 0) d.walk.node d.walk.reads).entries)
 
-  leaf : Descended 0 path m c path true
-  leaf = record {
+  leaf : (x : ℕ) → Descended 0 path m c path (Ok x)
+  leaf x = record {
     kept = kept_all 0 path;
     is = record {
-      from = unfold PathFrom in record { walk = d.walk; room = d.room; few = d.few; line = let u = d.unsplit in omega arith };
+      from = unfold PathFrom in record { walk = d.walk; room = d.room; few = d.few };
       linked = record {
         child = λ j h. absurd (omega arith);
         fine = λ j h. subst (λ (i : ℕ). index_space.Fine (polygon_on path i)) (let z : 0 ≡ j = omega arith in z) d.fine;
       };
-      unsplit = λ j h. subst (λ (i : ℕ). line_on path i ≡ 0) (let z : 0 ≡ j = omega arith in z) d.unsplit;
+      unsplit = λ j h. subst (λ (i : ℕ). line_on path i ≡ None) (let z : 0 ≡ j = omega arith in z) d.unsplit;
       ways = λ j h t. subst (λ (i : ℕ). descend index_space i (polygon_on path i) (items_at i m (part_on path i)) (entry_of c t) ≡ some (way_at i path m (entry_of c t)))
           (let z : 0 ≡ j = omega arith in z) (leaf_way t);
     };
   }
 
 -- At the leaf the descent is done.
-pub at_leaf : (level : ℕ) (path m : List ℕ) (c : Cell) → level ≡ 0 → Descending level path m c → Descended level path m c path true
-at_leaf level path m c z d = rw z (leaf path m c (rw z at d))
+pub at_leaf : (level : ℕ) (path : List Level) (m : List ℕ) (c : Cell) (x : ℕ) → level ≡ 0 → Descending level path m c → Descended level path m c path (Ok x)
+at_leaf level path m c x z d = rw z (leaf path m c (rw z at d) x)
 
 -- No cell is removed there.
-pub at_leaf_removed : (level : ℕ) (path m : List ℕ) (c : Cell) (above : ℕ) → level ≡ 0
-    → RemovedBelow level path m c above (record { reached = true; removed = above })
+pub at_leaf_removed : (level : ℕ) (path : List Level) (m : List ℕ) (c : Cell) (above : ℕ) → level ≡ 0
+    → RemovedBelow level path m c above above
 at_leaf_removed level path m c above z = record {
-  is = λ g. sym (ap (λ n. above + n)
+  is = sym (ap (λ n. above + n)
       (none_removed level z (polygon_on path level) (items_at level m (part_on path level))) ∙ add-zero above);
 }
   where
@@ -101,7 +105,7 @@ at_leaf_removed level path m c above z = record {
     none_removed zero e p l = unfold removed_at in refl
     none_removed (suc n) e p l = absurd (omega arith)
 
-module _ (n : ℕ) (path m : List ℕ) (c : Cell) (d : Descending (suc n) path m c) where
+module _ (n : ℕ) (path : List Level) (m : List ℕ) (c : Cell) (d : Descending (suc n) path m c) where
   abbrev k : ℕ
   k = part_on path (suc n)
 
@@ -129,8 +133,8 @@ module _ (n : ℕ) (path m : List ℕ) (c : Cell) (d : Descending (suc n) path m
   }
 
   -- step 2 refused
-  pub stopped_b : NoneChosen m k (polygon_on path (suc n)) c → Descended (suc n) path m c path false
-  stopped_b o = record {
+  pub stopped_b : (x : TooMany) → NoneChosen m k (polygon_on path (suc n)) c → Descended (suc n) path m c path (Err x)
+  stopped_b x o = record {
     kept = kept_all (suc n) path;
     is = record { way = λ t. none_here t };
   }
@@ -178,7 +182,7 @@ module _ (n : ℕ) (path m : List ℕ) (c : Cell) (d : Descending (suc n) path m
     chose_b = chose_at index_space laws steps n (polygon_on path (suc n)) b.child (entry_of c some_payload) _ x.chosen d.fine sound_b d.has
 
     -- the node gone to, on the path with its level written
-    pub child_descending : (path₁ path₂ : List ℕ) → length path₁ ≡ length path → LevelPut path₁ n (child_at m k place) (rects_of q) path₂ → Descending n path₂ m c
+    pub child_descending : (path₁ path₂ : List Level) → length path₁ ≡ length path → LevelPut path₁ n (child_at m k place) (rects_of q) path₂ → Descending n path₂ m c
     child_descending path₁ path₂ l v =
         let y = down index_space laws steps n (polygon_on path (suc n)) b.child (entry_of c some_payload) _ chose_b sound_b fresh_b in
         let i : items_at n m (part_on path₂ n) ≡ x.old.child = ap (items_at n m) v.part ∙ items_are n m (child_at m k place) x.old child_reads in
@@ -199,7 +203,7 @@ module _ (n : ℕ) (path m : List ℕ) (c : Cell) (d : Descending (suc n) path m
         both p p' t t' e f s = subst (λ (z : List Rect). SoundItems index_space n z t') e (subst (λ (z : List (Item index_space n)). SoundItems index_space n p z) f s)
 
     -- the cells removed above, here and below
-    pub removed_here_lem : (path₁ path₂ : List ℕ) → LevelPut path₁ n (child_at m k place) (rects_of q) path₂
+    pub removed_here_lem : (path₁ path₂ : List Level) → LevelPut path₁ n (child_at m k place) (rects_of q) path₂
         → (above u w : ℕ) → u ≡ index_space.removed b.child c
         → w ≡ above + u + removed_at index_space n (polygon_on path₂ n) (items_at n m (part_on path₂ n)) c
         → w ≡ above + removed_at index_space (suc n) (polygon_on path (suc n)) (items_at (suc n) m k) c
@@ -213,7 +217,7 @@ module _ (n : ℕ) (path m : List ℕ) (c : Cell) (d : Descending (suc n) path m
         rw (items_b, x.chosen) (omega arith)
 
     -- back from the node gone to
-    module _ (path₁ path₂ path₃ : List ℕ) (v₁ : PlacePut path (suc n) place path₁) (v : LevelPut path₁ n (child_at m k place) (rects_of q) path₂) (kept : Kept n path₂ path₃) where
+    module _ (path₁ path₂ path₃ : List Level) (v₁ : PlacePut path (suc n) place path₁) (v : LevelPut path₁ n (child_at m k place) (rects_of q) path₂) (kept : Kept n path₂ path₃) where
       -- the levels above the child's
       tail : (j : ℕ) → n < j → SameLevel j path₁ path₃
       tail j h = same_level_trans j path₁ path₂ path₃ (v.others j (λ (e : j ≡ n). omega arith)) (kept.above j h)
@@ -225,22 +229,19 @@ module _ (n : ℕ) (path m : List ℕ) (c : Cell) (d : Descending (suc n) path m
       length_all = kept.same_length ∙ v.same_length ∙ v₁.same_length
 
       part_same : part_on path₃ (suc n) ≡ k
-      part_same = here.part ∙ v₁.part
+      part_same = ap (λ l. l.part) here ∙ v₁.part
 
       place_same : place_on path₃ (suc n) ≡ place
-      place_same = here.place ∙ v₁.place
+      place_same = ap (λ l. l.place) here ∙ v₁.place
 
       line_same : line_on path₃ (suc n) ≡ line_on path (suc n)
-      line_same = here.line ∙ v₁.line
+      line_same = ap (λ l. l.line) here ∙ v₁.line
 
       count_same : rect_count_on path₃ (suc n) ≡ rect_count_on path (suc n)
-      count_same = here.count ∙ v₁.count
-
-      polygon_kept : FewRects (suc n) path → polygon_on path₃ (suc n) ≡ polygon_on path (suc n)
-      polygon_kept f = here.polygon (few_kept path path₁ (suc n) v₁.count f) ∙ v₁.polygon f
+      count_same = ap (λ l. l.polygon.count) here ∙ v₁.count
 
       polygon_same : polygon_on path₃ (suc n) ≡ polygon_on path (suc n)
-      polygon_same = polygon_kept d.few
+      polygon_same = ap (λ l. rects_of l.polygon) here ∙ v₁.polygon
 
       all_kept : Kept (suc n) path path₃
       all_kept = record {
@@ -248,12 +249,12 @@ module _ (n : ℕ) (path m : List ℕ) (c : Cell) (d : Descending (suc n) path m
         part = part_same;
         line = line_same;
         count = count_same;
-        polygon = polygon_kept;
+        polygon = polygon_same;
         above = λ j h. same_level_trans j path path₁ path₃ (v₁.others j (λ (e : j ≡ suc n). omega arith)) (tail j (omega arith));
       }
 
       grown_same : polygon_on path₃ n ≡ rects_of q
-      grown_same = kept.polygon v.few ∙ v.polygon
+      grown_same = kept.polygon ∙ v.polygon
 
       items_same : items_at n m (part_on path₂ n) ≡ x.old.child
       items_same = ap (items_at n m) v.part ∙ items_are n m (child_at m k place) x.old child_reads
@@ -301,12 +302,10 @@ module _ (n : ℕ) (path m : List ℕ) (c : Cell) (d : Descending (suc n) path m
 
       reached : Reached n path₂ m c path₃ → Reached (suc n) path m c path₃
       reached z =
-          let u = d.unsplit in
-          let s = line_same in
           let h = place_below in
           let pc : place_on path₃ (suc n) < count_at m (part_on path₃ (suc n)) = subst (λ (j : ℕ). place_on path₃ (suc n) < count_at m j) (sym part_same) (let e = place_same in omega arith) in
           record {
-            from = from_here (record { walk = subst (Walkable (suc n) m 0) (sym part_same) d.walk; room = level_kept path path₃ (suc n) length_all d.room; few = few_kept path path₃ (suc n) count_same d.few; line = omega arith }) pc z.from;
+            from = from_here (record { walk = subst (Walkable (suc n) m 0) (sym part_same) d.walk; room = level_kept path path₃ (suc n) length_all d.room; few = few_kept path path₃ (suc n) count_same d.few }) pc z.from;
             linked = linked z.linked;
             unsplit = λ j i. go j i (dec_le j n);
             ways = λ j i t. up j i (dec_le j n) t;
@@ -327,11 +326,11 @@ module _ (n : ℕ) (path m : List ℕ) (c : Cell) (d : Descending (suc n) path m
                   ∙ ap (λ (i : ℕ). descend index_space (suc n) (polygon_on path (suc n)) (items_at (suc n) m i) (entry_of c t)) part_same
                   ∙ turned t (below_reached t (z.ways n (omega arith) t))
 
-          go : (j : ℕ) → j ≤ suc n → Dec (j ≤ n) → line_on path₃ j ≡ 0
+          go : (j : ℕ) → j ≤ suc n → Dec (j ≤ n) → line_on path₃ j ≡ None
           go j i (yes h) = z.unsplit j h
           go j i (no h) =
               let e : suc n ≡ j = omega arith in
-              subst (λ (y : ℕ). line_on path₃ y ≡ 0) e (line_same ∙ d.unsplit)
+              subst (λ (y : ℕ). line_on path₃ y ≡ None) e (line_same ∙ d.unsplit)
 
       stopped : Stopped n path₂ m c → Stopped (suc n) path m c
       stopped z = record { way = λ t. none_below t (below_way t none (z.way t)) }
@@ -339,6 +338,6 @@ module _ (n : ℕ) (path m : List ℕ) (c : Cell) (d : Descending (suc n) path m
           none_below : (t : Payload) → descend index_space n (rects_of q) x.old.child (entry_of c t) ≡ none → descend index_space (suc n) (polygon_on path (suc n)) (items_at (suc n) m k) (entry_of c t) ≡ none
           none_below t h = unfold P.descend bind in rw (items_b, x.chosen, h)
 
-      pub went : (r : Bool) → Descended n path₂ m c path₃ r → Descended (suc n) path m c path₃ r
-      went true z = record { kept = all_kept; is = reached z.is }
-      went false z = record { kept = all_kept; is = stopped z.is }
+      pub went : (r : Result ℕ TooMany) → Descended n path₂ m c path₃ r → Descended (suc n) path m c path₃ r
+      went (Ok x) z = record { kept = all_kept; is = reached z.is }
+      went (Err x) z = record { kept = all_kept; is = stopped z.is }

@@ -40,7 +40,7 @@ use Rattle.layout.specs.Parts.{PartPut, PartRoom}
 use Rattle.layout.specs.Writing.{written}
 use Rattle.layout.proofs.LoadedLaws.{no_entries, entry_more, leaf_part}
 use Rattle.layout.proofs.WritingLaws.{written_image}
-use Rattle.answers.specs.declared.answer.Inserted.TheVariants as I
+use Rattle.std.specs.Prelude.{Ok}
 use Rattle.answers.specs.Answers.{insert_end, insert_read}
 use Rattle.answers.specs.Changes.{inserted_index}
 use Rattle.insertion.specs.Insert.{Built}
@@ -64,9 +64,6 @@ first_room m w empty long =
     let r = index_length m (read_empty fanout m empty).0 in
     let a = r.length_is in let b = r.some_parts in let d = r.few_parts in
     record { fits = omega arith; small = omega arith }
-
-pub first_work : (m w p w' : List ℕ) → length w ≡ length m → PartPut w 0 p w' → length w' ≡ length m
-first_work m w p w' long a = a.same_length ∙ long
 
 module _ (m w : List ℕ) (c : Cell) (t : Payload) (empty : reading fanout m ≡ some none) (long : length w ≡ length m) (grid : on_grid c ≡ true) where
   abbrev e : CellEntry
@@ -119,7 +116,7 @@ module _ (m w : List ℕ) (c : Cell) (t : Payload) (empty : reading fanout m ≡
     unfolding total nodes
     count_y = refl
 
-    pub first_built : (m' : List ℕ) → m' ≡ written (length m) 1 1 w' → Built m w e m' w' (I.Accepted 1 0)
+    pub first_built : (m' : List ℕ) → m' ≡ written (length m) 1 1 w' → Built m w e m' w' (Ok (record { held = 1; removed = 0 }))
     unfolding insert_end insert_read inserted_index removed_total any flat_map held
     first_built m' q =
         let tested = test_of_sound fanout y sound_y in
@@ -138,7 +135,7 @@ module _ (m w : List ℕ) (c : Cell) (t : Payload) (empty : reading fanout m ≡
 pub first_done : (m w : List ℕ) (c : Cell) (t : Payload) (empty leaf : Node) (p : Polygon) (w' m' : List ℕ) → reading fanout m ≡ some none → length w ≡ length m → on_grid c ≡ true
     → empty ≡ node_of 0 [] → leaf ≡ with_entry empty (entry_of c t)
     → PolygonOf (record { llx = c.x; lly = c.y; urx = c.x + 1; ury = c.y + 1 } ∷ []) p → PartPut w 0 (node_part (rects_of p) leaf.count leaf.items) w'
-    → m' ≡ written (length m) 1 1 w' → Built m w (entry_of c t) m' w' (I.Accepted 1 0)
+    → m' ≡ written (length m) 1 1 w' → Built m w (entry_of c t) m' w' (Ok (record { held = 1; removed = 0 }))
 unfolding cell_rect
 first_done m w c t empty leaf p w' m' fresh long grid n i h put q =
     let one : leaf ≡ leaf_of (entry_of c t ∷ []) = i ∙ ap (λ (l : Node). with_entry l (entry_of c t)) (n ∙ no_entries) ∙ entry_more [] (entry_of c t) (omega arith) in

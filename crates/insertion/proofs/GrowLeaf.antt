@@ -6,9 +6,8 @@ use mathlib.Core.Option.{some}
 use native.Mathlib.Omega.{arith}
 use native.Mathlib.Nat.{le_refl}
 use lib.ListN.{length, length-append}
+use Rattle.path.specs.declared.level.Level.{Level}
 use Rattle.geometry.specs.declared.rect.Rect.{Rect}
-use Rattle.geometry.specs.declared.polygon.Polygon.{Polygon}
-use Rattle.geometry.specs.Numbers.{rects_of, PolygonOf}
 use Rattle.tree.specs.Nodes.{nodes}
 use Rattle.tree.proofs.Walk.{leaf_nodes}
 use Rattle.plane.specs.Lines.{CellEntry}
@@ -32,17 +31,7 @@ use Rattle.tree_after.proofs.PathLaws.{path_node}
 use Rattle.insertion.specs.Growing.{grown_items, grown_node, replaced, leaf_grown, Growing, Grown}
 use Rattle.insertion.proofs.GrowPart.{ImagePut, image_put}
 
--- what the code writes
-pub leaf_written : (path m : List ℕ) (k : ℕ) (e : CellEntry) (leaf : Node) (p : Polygon) (n : Node) (m' : List ℕ) → k ≡ part_on path 0
-    → leaf ≡ node_in (part m k) → PolygonOf (polygon_on path 0) p
-    → n ≡ with_entry leaf e → m' ≡ replaced m k (rects_of p) n
-    → m' ≡ leaf_grown path m e
-leaf_written path m k e leaf p n m' z a o b d =
-    d ∙ ap (λ (q : List Rect). replaced m k q n) o.list
-    ∙ ap (replaced m k (polygon_on path 0)) (b ∙ ap (λ (x : Node). with_entry x e) a)
-    ∙ ap (λ (j : ℕ). replaced m j (polygon_on path 0) (with_entry (node_in (part m j)) e)) z
-
-module _ (path m : List ℕ) (e : CellEntry) (g : Growing 0 path m) where
+module _ (path : List Level) (m : List ℕ) (e : CellEntry) (g : Growing 0 path m) where
   abbrev k : ℕ
   k = part_on path 0
 

@@ -7,9 +7,8 @@ use mathlib.Core.Option.{some}
 use native.Mathlib.Omega.{arith}
 use native.Mathlib.Nat.{le_refl}
 use lib.ListN.{length, get_or, set}
+use Rattle.path.specs.declared.level.Level.{Level}
 use Rattle.geometry.specs.declared.rect.Rect.{Rect}
-use Rattle.geometry.specs.declared.polygon.Polygon.{Polygon}
-use Rattle.geometry.specs.Numbers.{rects_of, PolygonOf}
 use Rattle.tree.specs.Lists.{total}
 use Rattle.tree.specs.Nodes.{Item, nodes}
 use Rattle.plane.specs.Lines.{CellEntry}
@@ -19,7 +18,6 @@ use Rattle.memory.specs.Image.{node_part}
 use Rattle.memory.specs.Reading.{read_node}
 use Rattle.memory.proofs.PartImage as image
 use Rattle.memory.proofs.ReadingLaws.{NodeParts, FitsAs, node_parts_lem, fits_as, index_length, part_length, low_at, low_from, low_to, part_below, row_at_lem, row_length, node_lower, frame, change_node}
-use Rattle.layout.specs.declared.node.Node.{Node}
 use Rattle.layout.specs.Beside.{Beside}
 use Rattle.layout.specs.Loaded.{routing_of, node_in}
 use Rattle.layout.specs.Nodes.{count_at}
@@ -37,15 +35,6 @@ use Rattle.tree_after.proofs.RowLaws.{row_of}
 use Rattle.insertion.specs.Growing.{grown_items, grown_node, replaced, node_grown, Growing, GrownNode, Grown}
 use Rattle.insertion.proofs.GrowPart.{ImagePut, image_put}
 
--- what the code writes
-pub node_written : (level : ℕ) (path m : List ℕ) (k : ℕ) (node : Node) (p : Polygon) (m' : List ℕ) → k ≡ part_on path level
-    → node ≡ node_in (part m k) → PolygonOf (polygon_on path level) p
-    → m' ≡ replaced m k (rects_of p) node → m' ≡ node_grown level path m
-node_written level path m k node p m' z a o d =
-    d ∙ ap (λ (q : List Rect). replaced m k q node) o.list
-    ∙ ap (replaced m k (polygon_on path level)) a
-    ∙ ap (λ (j : ℕ). replaced m j (polygon_on path level) (node_in (part m j))) z
-
 -- a sum in which one element is replaced by one of the same size
 total_set : {A : Type 0} (f : A → ℕ) (l : List A) (i : ℕ) (a d : A) → i < length l → f a ≡ f (get_or l i d)
     → total f (set l i a) ≡ total f l
@@ -55,7 +44,7 @@ total_set f (b ∷ l) zero a d h e = omega arith
 total_set f (b ∷ l) (suc i) a d h e = let ih = total_set f l i a d (omega arith) e in omega arith
 
 -- a routing node, whose child on the path was written before it
-module _ (n : ℕ) (path m : List ℕ) (e : CellEntry) (g : Growing (suc n) path m) (m₁ : List ℕ) (below : Grown n path m e m₁) where
+module _ (n : ℕ) (path : List Level) (m : List ℕ) (e : CellEntry) (g : Growing (suc n) path m) (m₁ : List ℕ) (below : Grown n path m e m₁) where
   abbrev k : ℕ
   k = part_on path (suc n)
 

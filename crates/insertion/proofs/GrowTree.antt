@@ -7,10 +7,10 @@ use mathlib.Core.List.{List, [], flat_map}
 use mathlib.Core.Option.{some}
 use native.Mathlib.Omega.{arith}
 use native.Mathlib.Nat.{le_refl}
-use borrow.Author.Tests.{eq-eqb}
-use lib.Dec.{eqb}
 use lib.ListN.{take, drop}
 use lib.Seq.{set_split}
+use Rattle.std.specs.Prelude.{None, is_none}
+use Rattle.path.specs.declared.level.Level.{Level}
 use Rattle.geometry.specs.declared.rect.Cell.{Cell}
 use Rattle.tree.specs.Nodes.{Item, nodes}
 use Rattle.tree.specs.Pass.{deep}
@@ -36,8 +36,8 @@ unfolding under
 all_left n l = sym (under_deep index_space n [] l)
 
 -- where no node is split, the row that is written is the row before with the branch gone to changed
-row_grown : (n : ℕ) (path m : List ℕ) (e : CellEntry) → PathFrom n path m
-    → ((j : ℕ) → j < n → eqb (line_on path j) 0 ≡ true) → row_under n path m e [] ≡ grown_items n path m e
+row_grown : (n : ℕ) (path : List Level) (m : List ℕ) (e : CellEntry) → PathFrom n path m
+    → ((j : ℕ) → j < n → is_none (line_on path j) ≡ true) → row_under n path m e [] ≡ grown_items n path m e
 unfolding row_under grown_items PathFrom
 row_grown zero path m e f h = all_left zero (way_at zero path m e)
 row_grown (suc n) path m e f h =
@@ -50,15 +50,15 @@ row_grown (suc n) path m e f h =
     rw (h n (omega arith), row_grown n path m e f.2 (λ j k. h j (omega arith)), all_left (suc n) (take i l), all_left (suc n) (drop (i + 1) l), s, q)
 
 -- where no node on the path has a line, the tree that is planned is the grown one
-pub tree_grown : (m : List ℕ) (level : ℕ) (path : List ℕ) (e : CellEntry) → PathFrom level path m
-    → ((j : ℕ) → j ≤ level → line_on path j ≡ 0)
+pub tree_grown : (m : List ℕ) (level : ℕ) (path : List Level) (e : CellEntry) → PathFrom level path m
+    → ((j : ℕ) → j ≤ level → line_on path j ≡ None)
     → planned_tree level path m e ≡ grown_tree level path m e
 unfolding planned_tree
 tree_grown m level path e from u =
-    let line : (j : ℕ) → j ≤ level → eqb (line_on path j) 0 ≡ true = λ j h. eq-eqb (line_on path j) 0 (u j h) in
+    let line : (j : ℕ) → j ≤ level → is_none (line_on path j) ≡ true = λ j h. ap is_none (u j h) in
     rw (line level (le_refl level), row_grown level path m e from (λ j h. line j (omega arith)))
 
-module _ (m : List ℕ) (c : Cell) (x : Tree index_space) (reads : reading fanout m ≡ some (some x)) (path : List ℕ) (p : PathPlanned m x.level c path) where
+module _ (m : List ℕ) (c : Cell) (x : Tree index_space) (reads : reading fanout m ≡ some (some x)) (path : List Level) (p : PathPlanned m x.level c path) where
   read : ReadAs fanout m x
   read = read_as fanout m x reads
 

@@ -1,6 +1,6 @@
 -- An insertion into the tree that a memory reads as: its end, from the path and what was written.
 use Prim.Native.Nat.{ℕ, suc, ◌+◌, ◌*◌, ◌≤◌, ◌<◌, min}
-use mathlib.Core.Bool.{Bool, true, false}
+use mathlib.Core.Bool.{true, false}
 use mathlib.Core.Path.{◌≡◌, refl, sym, ap, ◌∙◌, subst}
 use mathlib.Core.List.{List, [], ◌∷◌}
 use mathlib.Core.Option.{some}
@@ -9,6 +9,8 @@ use mir.Syntax.{w32}
 use mir.Val.{Fits}
 use borrow.Author.Tests.{le-leb, lt-leb}
 use lib.ListN.{length}
+use Rattle.std.specs.Prelude.{None}
+use Rattle.path.specs.declared.level.Level.{Level}
 use Rattle.geometry.specs.declared.rect.Cell.{Cell}
 use Rattle.tree.specs.Nodes.{nodes}
 use Rattle.tree.specs.Tree.{Tree, top, entries, node_count, SoundTree}
@@ -32,8 +34,8 @@ use Rattle.memory.proofs.NodeImage.{length_node}
 use Rattle.layout.specs.Nodes.{count_at}
 use Rattle.layout.specs.Writing.{written}
 use Rattle.layout.proofs.WritingLaws.{written_image}
-use Rattle.answers.specs.declared.answer.Inserted.{Inserted}
-use Rattle.answers.specs.declared.answer.Inserted.TheVariants as I
+use Rattle.std.specs.Prelude.{Ok, Err}
+use Rattle.answers.specs.declared.answer.Refusal.TheVariants as R
 use Rattle.answers.specs.Answers.{cells_removed, insert_end, insert_read}
 use Rattle.answers.specs.Changes.{inserted_index}
 use Rattle.walks.specs.Walks.{Walkable}
@@ -41,13 +43,13 @@ use Rattle.walks.specs.Count.{entries_at}
 use Rattle.walks.proofs.TreeWalk.{tree_walkable}
 use Rattle.walks.proofs.CountWalk.{held_few, tree_held}
 use Rattle.queries.specs.Held.{held_read}
-use Rattle.path.specs.Path.{level_numbers, part_on, line_on}
+use Rattle.path.specs.Path.{part_on, line_on}
 use Rattle.tree_after.specs.declared.on_path.Written.{Written}
 use Rattle.tree_after.specs.Writes.{count_limit}
-use Rattle.tree_after.specs.Path.{PathFrom, planned_tree}
+use Rattle.tree_after.specs.Path.{planned_tree}
 use Rattle.tree_after.specs.Whole.{TreeRoom, TreeWritten}
-use Rattle.insertion.specs.Planning.{Plannable, FullLevels, PlanMade}
-use Rattle.insertion.specs.Insert.{Inserting, PathReady, PathPlanned, PathRefused, PathFound, Built, BuiltInPlace}
+use Rattle.insertion.specs.Planning.{FullLevels, PlanMade}
+use Rattle.insertion.specs.Insert.{Inserting, PathReady, PathPlanned, PathRefused, Built, BuiltInPlace}
 use Rattle.insertion.specs.Removed.{RemovedIs}
 use Rattle.insertion.specs.Growing.{grown_tree, Growing, Grown}
 use Rattle.insertion.proofs.PlanLoop.{plan_start, plan_end}
@@ -73,7 +75,7 @@ module _ (m : List ℕ) (level root : ℕ) (c : Cell) (v : Inserting m level roo
   build_level = let a = read_tree_lem.levels in let b = read_tree_lem.few_parts in let d = v.tree_in.level_is in omega arith
 
   -- a path of 256 levels has room
-  pub build_room : level_numbers * level + level_numbers ≤ 256 * level_numbers
+  pub build_room : level < 256
   build_room = let a = build_level in omega arith
 
 module _ (m : List ℕ) (level root : ℕ) (c : Cell) (t : Payload) (v : Inserting m level root c) where
@@ -108,7 +110,7 @@ module _ (m : List ℕ) (level root : ℕ) (c : Cell) (t : Payload) (v : Inserti
   index_is = rw (reads, not_held)
 
   -- refusal 7
-  pub built_seven : (w w' : List ℕ) → PathRefused m c → length w' ≡ length w → Built m w e m w' I.OverLimit
+  pub built_seven : (w w' : List ℕ) → PathRefused m c → length w' ≡ length w → Built m w e m w' (Err R.OverLimit)
   unfolding insert_end
   built_seven w w' p l = record {
     answer = sym (read_is ∙ rw (p.after x reads t));
@@ -119,7 +121,7 @@ module _ (m : List ℕ) (level root : ℕ) (c : Cell) (t : Payload) (v : Inserti
   }
 
   -- refusal 8 before the tree after is counted: each node that is split adds one at least
-  built_early : (path : List ℕ) → PathReady m level c path → (n : ℕ) → FullLevels level path m n → N < bits_set m + n → (w : List ℕ) → Built m w e m w I.TooManyNodes
+  built_early : (path : List Level) → PathReady m level c path → (n : ℕ) → FullLevels level path m n → N < bits_set m + n → (w : List ℕ) → Built m w e m w (Err R.TooManyNodes)
   unfolding insert_end
   built_early path r n f h w =
       let a = ready_more m level root c v path r n f t in
@@ -134,7 +136,7 @@ module _ (m : List ℕ) (level root : ℕ) (c : Cell) (t : Payload) (v : Inserti
         zeroed = refl;
       }
 
-  module _ (path : List ℕ) (p : PathPlanned m level c path) where
+  module _ (path : List Level) (p : PathPlanned m level c path) where
     abbrev y : Tree index_space
     y = planned_tree level path m e
 
@@ -145,7 +147,7 @@ module _ (m : List ℕ) (level root : ℕ) (c : Cell) (t : Payload) (v : Inserti
     count = node_count index_space (some y)
 
     -- refusal 8
-    pub built_eight : (w w' : List ℕ) (k : ℕ) → k ≡ min count_limit count → N < k → length w' ≡ length w → Built m w e m w' I.TooManyNodes
+    pub built_eight : (w w' : List ℕ) (k : ℕ) → k ≡ min count_limit count → N < k → length w' ≡ length w → Built m w e m w' (Err R.TooManyNodes)
     unfolding insert_end
     built_eight w w' k q h l =
         let o : N < count = omega arith in
@@ -170,13 +172,13 @@ module _ (m : List ℕ) (level root : ℕ) (c : Cell) (t : Payload) (v : Inserti
 
     -- the insertion is accepted: the memory reads as the tree after, which has no more nodes than there are parts
     built_accepted : (w m' w' : List ℕ) (n u : ℕ) → count ≤ N → reading fanout m' ≡ some (some y) → length m' ≡ length m → length w' ≡ length w
-        → n ≡ length (entries index_space (some x)) → RemovedIs m c u → Built m w e m' w' (I.Accepted (n + 1) u)
+        → n ≡ length (entries index_space (some x)) → RemovedIs m c u → Built m w e m' w' (Ok (record { held = n + 1; removed = u }))
     unfolding insert_end
     built_accepted w m' w' n u fits r l k b o =
         let outcome : limited index_space N (insert_tree index_space index_root (some x) e) ≡ accepted (some y) = rw (gives, le-leb count N fits) in
         let held : n + 1 ≡ length (entries index_space (some y)) = let f = entries_y in omega arith in
         record {
-          answer = ap (λ (i : ℕ). I.Accepted i u) held ∙ ap (I.Accepted (length (entries index_space (some y)))) (o.is x reads)
+          answer = ap (λ (i : ℕ). Ok (record { held = i; removed = u })) held ∙ ap (λ (i : ℕ). Ok (record { held = length (entries index_space (some y)); removed = i })) (o.is x reads)
               ∙ sym (read_is ∙ ap (insert_end (cells_removed (some x) c)) outcome);
           memory = r ∙ sym (index_is ∙ ap (λ o. some (outcome_index index_space (some x) o)) outcome);
           memory_length = l;
@@ -203,16 +205,13 @@ module _ (m : List ℕ) (level root : ℕ) (c : Cell) (t : Payload) (v : Inserti
       count_y = refl
 
       module _ (w w' : List ℕ) (r : Written) (l : length w ≡ length m) (z : TreeWritten w y w' r) where
-        pub parts_some : 1 ≤ r.parts
-        parts_some = let a = z.parts_is in omega arith
-
         pub parts_few : r.parts ≤ 256
         parts_few = let a = z.parts_is in let b = fits in let g = few in omega arith
 
         pub parts_fit : 64 + 128 * r.parts ≤ length m
         parts_fit = let a = z.parts_is in let b = fits in let i = (index_length m sound_x.right).length_is in omega arith
 
-        pub work_long : length w' ≡ length m
+        work_long : length w' ≡ length m
         work_long = z.same_length ∙ l
 
         image_is : written (length m) r.parts r.height w' ≡ image fanout N y
@@ -225,7 +224,7 @@ module _ (m : List ℕ) (level root : ℕ) (c : Cell) (t : Payload) (v : Inserti
 
         pub built_tree : (m' : List ℕ) (n u : ℕ) → m' ≡ written (length m) r.parts r.height w'
             → n ≡ length (entries index_space (some x)) → RemovedIs m c u
-            → Built m w e m' w' (I.Accepted (n + 1) u)
+            → Built m w e m' w' (Ok (record { held = n + 1; removed = u }))
         built_tree m' n u a b o =
             let i = (index_length m sound_x.right).length_is in
             let tested = test_of_sound fanout y sound_y in
@@ -235,7 +234,7 @@ module _ (m : List ℕ) (level root : ℕ) (c : Cell) (t : Payload) (v : Inserti
             (ap length im ∙ image_length fanout N y (omega arith) sound_x.some_parts few c_le tested ∙ sym i) z.same_length b o
 
     -- no node is split, and the path was written in place
-    module _ (u : (j : ℕ) → j ≤ level → line_on path j ≡ 0) where
+    module _ (u : (j : ℕ) → j ≤ level → line_on path j ≡ None) where
       planned_x : PathPlanned m x.level c path
       planned_x = subst (λ (i : ℕ). PathPlanned m i c path) (sym v.tree_in.level_is) p
 
@@ -247,17 +246,13 @@ module _ (m : List ℕ) (level root : ℕ) (c : Cell) (t : Payload) (v : Inserti
 
       pub built_grown : (w m' : List ℕ) (n u : ℕ) → Grown level path m e m'
           → n ≡ length (entries index_space (some x)) → RemovedIs m c u
-          → Built m w e m' w (I.Accepted (n + 1) u)
+          → Built m w e m' w (Ok (record { held = n + 1; removed = u }))
       built_grown w m' n u g b o =
           let g' : Grown x.level path m e m' = subst (λ (i : ℕ). Grown i path m e m') (sym v.tree_in.level_is) g in
           let sound = subst (λ (u : Tree index_space). SoundTree index_space index_root u) y_grown sound_y in
           let c_is : count ≡ node_count index_space (some x) = ap (λ (u : Tree index_space). node_count index_space (some u)) y_grown ∙ nodes_grown m c x reads path planned_x t m' g' in
           let f : node_count index_space (some x) ≤ N = unfold nodes in sound_x.fits in
           built_accepted w m' w n u (omega arith) (reads_grown m c x reads path planned_x t m' g' sound ∙ ap (λ (u : Tree index_space). some (some u)) (sym y_grown)) g.same_length refl b o
-
--- in place, for the work area that there is
-pub built_in_place : (m w : List ℕ) (e : CellEntry) (m' : List ℕ) (r : Inserted) → BuiltInPlace m e m' r → Built m w e m' w r
-built_in_place m w e m' r b = b w
 
 -- The same for the code, from what finding the path told.
 module _ (m : List ℕ) (level root : ℕ) (c : Cell) (v : Inserting m level root c) where
@@ -267,20 +262,10 @@ module _ (m : List ℕ) (level root : ℕ) (c : Cell) (v : Inserting m level roo
   pub held_fits : (n : ℕ) → n ≡ length (entries_at level m 0 root) → Fits w32 (n + 1)
   held_fits n e = let b = held_few level m 0 root (tree_walkable m level root v.tree_in) in omega arith
 
-  module _ (path : List ℕ) (b : Bool) (f : PathFound m level c path b) where
-    pub build_seven : (t : Payload) (w : List ℕ) → b ≡ false → Built m w (entry_of c t) m w I.OverLimit
-    build_seven t w n = built_seven m level root c t v w w (subst (λ (x : Bool). PathFound m level c path x) n f) refl
+  pub build_seven : (t : Payload) (w : List ℕ) → PathRefused m c → Built m w (entry_of c t) m w (Err R.OverLimit)
+  build_seven t w f = built_seven m level root c t v w w f refl
 
-    pub build_ready : b ≡ true → PathReady m level c path
-    build_ready n = subst (λ (x : Bool). PathFound m level c path x) n f
-
-  module _ (path : List ℕ) (r : PathReady m level c path) where
-    pub ready_path : PathFrom level path m
-    ready_path = r.plannable.path_is.from
-
-    pub ready_plannable : Plannable level path m c
-    ready_plannable = r.plannable
-
+  module _ (path : List Level) (r : PathReady m level c path) where
     module _ (n : ℕ) (f : FullLevels level path m n) where
       -- 8 early
       module _ (bits : ℕ) (bits_is : bits ≡ bits_set m) where
@@ -293,11 +278,11 @@ module _ (m : List ℕ) (level root : ℕ) (c : Cell) (v : Inserting m level roo
             let h = (read_tree_lem m level root c v).few_parts in
             omega arith
 
-        pub build_early : (room : ℕ) → room ≡ parts_of m → room < bits + n → (t : Payload) (w : List ℕ) → Built m w (entry_of c t) m w I.TooManyNodes
+        pub build_early : (room : ℕ) → room ≡ parts_of m → room < bits + n → (t : Payload) (w : List ℕ) → Built m w (entry_of c t) m w (Err R.TooManyNodes)
         build_early room room_is h t w = built_early m level root c t v path r n f (omega arith) w
 
       -- the plan
-      pub build_planned : (path' : List ℕ) → PlanMade level path m c path' → PathPlanned m level c path'
+      pub build_planned : (path' : List Level) → PlanMade level path m c path' → PathPlanned m level c path'
       build_planned path' made = ready_planned m level root c v path r path' made
 
       -- in place
@@ -313,16 +298,13 @@ module _ (m : List ℕ) (level root : ℕ) (c : Cell) (v : Inserting m level roo
 
         pub build_grown : (t : Payload) (m' : List ℕ) (x u : ℕ) → Grown level path m (entry_of c t) m'
             → x ≡ length (entries_at level m 0 root) → RemovedIs m c u
-            → BuiltInPlace m (entry_of c t) m' (I.Accepted (x + 1) u)
+            → BuiltInPlace m (entry_of c t) m' (Ok (record { held = x + 1; removed = u }))
         build_grown t m' x u g e o w = built_grown m level root c t v path none_planned r.plannable.unsplit w m' x u g (e ∙ held_is) o
 
-  module _ (path : List ℕ) (p : PathPlanned m level c path) where
-    pub build_path : PathFrom level path m
-    build_path = p.good.from
-
+  module _ (path : List Level) (p : PathPlanned m level c path) where
     -- anew
     module _ (t : Payload) (k : ℕ) (q : k ≡ min count_limit (node_count index_space (some (planned_tree level path m (entry_of c t))))) where
-      pub build_eight : (w : List ℕ) (room : ℕ) → room ≡ parts_of m → room < k → Built m w (entry_of c t) m w I.TooManyNodes
+      pub build_eight : (w : List ℕ) (room : ℕ) → room ≡ parts_of m → room < k → Built m w (entry_of c t) m w (Err R.TooManyNodes)
       build_eight w room e h = built_eight m level root c t v path p w w k q (omega arith) refl
 
       module _ (room : ℕ) (room_is : room ≡ parts_of m) (fits_in : k ≤ room) (w : List ℕ) (l : length w ≡ length m) where
@@ -333,19 +315,13 @@ module _ (m : List ℕ) (level root : ℕ) (c : Cell) (v : Inserting m level roo
         write_room = tree_room m level root c t v path p k q h w l
 
         module _ (w' : List ℕ) (r : Written) (z : TreeWritten w (planned_tree level path m (entry_of c t)) w' r) where
-          pub put_some : 1 ≤ r.parts
-          put_some = parts_some m level root c t v path p k q h w w' r l z
-
           pub put_few : r.parts ≤ 256
           put_few = parts_few m level root c t v path p k q h w w' r l z
 
           pub put_fit : 64 + 128 * r.parts ≤ length m
           put_fit = parts_fit m level root c t v path p k q h w w' r l z
 
-          pub put_long : length w' ≡ length m
-          put_long = work_long m level root c t v path p k q h w w' r l z
-
           pub build_accepted : (m' : List ℕ) (x u : ℕ) → m' ≡ written (length m) r.parts r.height w'
               → x ≡ length (entries_at level m 0 root) → RemovedIs m c u
-              → Built m w (entry_of c t) m' w' (I.Accepted (x + 1) u)
+              → Built m w (entry_of c t) m' w' (Ok (record { held = x + 1; removed = u }))
           build_accepted m' x u a e o = built_tree m level root c t v path p k q h w w' r l z m' x u a (e ∙ held_is) o

@@ -3,7 +3,7 @@ use Prim.Native.Nat.{ℕ}
 use mathlib.Core.Bool.{Bool, true, false}
 use mathlib.Core.Path.{◌≡◌, refl, sym, ap, ◌∙◌}
 use mathlib.Core.List.{List}
-use mathlib.Core.Option.{none, some}
+use mathlib.Core.Option.{some}
 use borrow.Author.Tests.{eq-eqb, ne_eqb}
 use lib.ListN.{length, replicate}
 use Rattle.geometry.specs.declared.rect.Cell.{Cell}
@@ -14,28 +14,25 @@ use Rattle.plane.specs.Fanout.{fanout, index_space}
 use Rattle.memory.specs.Layout.{is_index_length}
 use Rattle.memory.specs.Reading.{reading}
 use Rattle.memory.specs.TreeIn.{TreeIn}
+use Rattle.std.specs.Prelude.{Result, Err}
+use Rattle.answers.specs.declared.answer.Refusal.{Refusal}
+use Rattle.answers.specs.declared.answer.Refusal.TheVariants as R
 use Rattle.answers.specs.declared.answer.Inserted.{Inserted}
-use Rattle.answers.specs.declared.answer.Inserted.TheVariants as I
 use Rattle.answers.specs.Answers.{insert_end, insert_read, insert_answer}
 use Rattle.answers.specs.Changes.{InsertCall}
-use Rattle.soundness.specs.declared.opening.Opened.{Opened}
-use Rattle.soundness.specs.declared.opening.Opened.TheVariants as O
-use Rattle.soundness.specs.Open.{OpenedAs}
+use Rattle.soundness.specs.Open.{NoTree}
 use Rattle.queries.specs.Held.{held_read}
-use Rattle.insertion.specs.Insert.{Inserting, Built, InsertDone}
+use Rattle.insertion.specs.Insert.{Built, InsertDone}
 
 -- into a tree
 module _ (m w : List ℕ) (level root : ℕ) (c : Cell) (t : Payload) (v : TreeIn m level root) (b : Bool) (h : b ≡ held_read c (reading fanout m)) where
-  pub into_held : b ≡ true → InsertDone m w (entry_of c t) m w I.Held
+  pub into_held : b ≡ true → InsertDone m w (entry_of c t) m w (Err R.Held)
   unfolding insert_read insert_end held_read
   into_held f =
       let q : holds index_space c (some v.tree) ≡ true = sym (ap (held_read c) v.reads) ∙ sym h ∙ f in
       record { answer = sym (rw (v.reads, q)); memory = refl; memory_length = refl; work = refl }
 
-  pub into_new : b ≡ false → on_grid c ≡ true → Inserting m level root c
-  into_new f g = record { tree_in = v; grid = g; new = sym h ∙ f }
-
-pub into_done : (m w m' w' w'' : List ℕ) (e : CellEntry) (r : Inserted) → Built m w e m' w' r → w'' ≡ replicate (length w') 0 → InsertDone m w e m' w'' r
+pub into_done : (m w m' w' w'' : List ℕ) (e : CellEntry) (r : Result Inserted Refusal) → Built m w e m' w' r → w'' ≡ replicate (length w') 0 → InsertDone m w e m' w'' r
 into_done m w m' w' w'' e r a z = record {
   answer = a.answer;
   memory = a.memory;
@@ -43,32 +40,27 @@ into_done m w m' w' w'' e r a z = record {
   work = z ∙ ap (λ (n : ℕ). replicate n 0) a.work_length ∙ sym a.zeroed;
 }
 
--- the work on an opened memory
-pub opened_empty : (m : List ℕ) (o : Opened) → OpenedAs m o → o ≡ O.Empty → reading fanout m ≡ some none
-opened_empty m o s f = rw f at s
-
-pub no_tree_lem : (m w : List ℕ) (e : CellEntry) (o : Opened) → OpenedAs m o → o ≡ O.NoSoundTree → InsertDone m w e m w I.NoSoundTree
+-- the memory was opened as no tree
+pub into_no_tree : (m w : List ℕ) (e : CellEntry) (r : Refusal) → NoTree m r → InsertDone m w e m w (Err r)
 unfolding insert_read
-no_tree_lem m w e o s f =
-    let q : reading fanout m ≡ none = rw f at s in
-    record { answer = rw q; memory = refl; memory_length = refl; work = refl }
+into_no_tree m w e r p = record { answer = rw (p.reason, p.reads); memory = refl; memory_length = refl; work = rw p.reason }
 
 -- the tests
-pub wrong_length : (m w : List ℕ) (e : CellEntry) (a : Bool) → a ≡ is_index_length m → a ≡ false → InsertCall m w e m w I.WrongLength
+pub wrong_length : (m w : List ℕ) (e : CellEntry) (a : Bool) → a ≡ is_index_length m → a ≡ false → InsertCall m w e m w (Err R.WrongLength)
 unfolding insert_answer
 wrong_length m w e a p f = record { answer = rw (← p, f); memory = refl; memory_length = refl; work = refl }
 
 module _ (m w : List ℕ) (c : Cell) (t : Payload) (right : is_index_length m ≡ true) where
-  pub wrong_work : (length w ≡ length m → ⊥) → InsertCall m w (entry_of c t) m w I.WorkLength
+  pub wrong_work : (length w ≡ length m → ⊥) → InsertCall m w (entry_of c t) m w (Err R.WorkLength)
   unfolding insert_answer
   wrong_work h = record { answer = rw (right, ne_eqb (length w) (length m) h); memory = refl; memory_length = refl; work = refl }
 
   module _ (long : length w ≡ length m) (d : Bool) (q : d ≡ on_grid c) where
-    pub off_grid : d ≡ false → InsertCall m w (entry_of c t) m w I.Invalid
+    pub off_grid : d ≡ false → InsertCall m w (entry_of c t) m w (Err R.Invalid)
     unfolding insert_answer
     off_grid f = record { answer = rw (right, eq-eqb (length w) (length m) long, ← q, f); memory = refl; memory_length = refl; work = refl }
 
-    pub call_done : d ≡ true → (m' w' : List ℕ) (r : Inserted) → InsertDone m w (entry_of c t) m' w' r → InsertCall m w (entry_of c t) m' w' r
+    pub call_done : d ≡ true → (m' w' : List ℕ) (r : Result Inserted Refusal) → InsertDone m w (entry_of c t) m' w' r → InsertCall m w (entry_of c t) m' w' r
     unfolding insert_answer
     call_done f m' w' r z = record {
       answer = rw (right, eq-eqb (length w) (length m) long, ← q, f) z.answer;
@@ -76,6 +68,3 @@ module _ (m w : List ℕ) (c : Cell) (t : Payload) (right : is_index_length m �
       memory_length = z.memory_length;
       work = z.work;
     }
-
-pub cell_on_grid : (c : Cell) (d : Bool) → d ≡ on_grid c → d ≡ true → on_grid c ≡ true
-cell_on_grid c d q f = sym q ∙ f

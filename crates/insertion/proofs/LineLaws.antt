@@ -4,11 +4,14 @@ use mathlib.Core.Bool.{true}
 use mathlib.Core.Path.{◌≡◌, refl, sym, ap, ◌∙◌, subst}
 use mathlib.Core.List.{List, [], ◌∷◌, ◌++◌, map, flat_map}
 use native.Mathlib.Omega.{arith}
+use Rattle.std.specs.Prelude.{Option, Some, None, IsSome, false, is_none, unwrap_or}
+use Rattle.geometry.specs.declared.rect.Line.{Line}
+use Rattle.path.specs.declared.level.Level.{Level}
 use Rattle.geometry.specs.declared.rect.Cell.{Cell}
 use Rattle.geometry.specs.Cells.{on_grid}
 use Rattle.tree.specs.Lists.{All}
 use Rattle.tree.specs.Nodes.{Item, held}
-use Rattle.tree.specs.Plan.{row}
+use Rattle.tree.specs.Plan.{line_at, row}
 use Rattle.tree.specs.Pass.{way_held}
 use Rattle.tree.proofs.Lists.{all_first, all_flat_map, map_all}
 use Rattle.tree.proofs.GoodWays.{GoodWay}
@@ -16,7 +19,7 @@ use Rattle.tree.proofs.Ways.{way_entries}
 use Rattle.tree.proofs.Bags.{bag_all, bag_sym}
 use Rattle.tree.proofs.SplitGroups.{row_entries_lem}
 use Rattle.tree.proofs.OnePass.{line_row}
-use Rattle.plane.specs.Lines.{CellEntry, leaf_line, Payload, some_payload, entry_of, OnGrid}
+use Rattle.plane.specs.Lines.{no_line, CellEntry, leaf_line, Payload, some_payload, entry_of, OnGrid}
 use Rattle.plane.specs.Fanout.{fanout, index_space}
 use Rattle.plane.proofs.Rects.{plane_space_laws}
 use Rattle.plane.proofs.Steps.{plane_steps}
@@ -39,7 +42,7 @@ use Rattle.insertion.proofs.PathLaws.{path_below}
 use Rattle.insertion.proofs.PlanLoop.{level_length}
 
 -- A leaf that gets a ninth entry.
-module _ (level : ℕ) (path m : List ℕ) (c : Cell) (f : Full 0 level path m c) where
+module _ (level : ℕ) (path : List Level) (m : List ℕ) (c : Cell) (f : Full 0 level path m c) where
   abbrev k : ℕ
   k = part_on path 0
 
@@ -65,14 +68,13 @@ module _ (level : ℕ) (path m : List ℕ) (c : Cell) (f : Full 0 level path m c
     cell = f.path_is.grid;
   }
 
-  leaf_level : (r : ℕ) → LeafLineIs (part m k) c r → LineOfLevel 0 path m c r
+  leaf_level : (r : Line) → LeafLineIs (part m k) c r → LineOfLevel 0 path m c r
   unfolding row
   leaf_level r l t =
-      let a = l t (full_leaf t) in
-      record { is = a.is ∙ ap leaf_line (sym (entries_are t)) ∙ sym (line_row index_space 0 (way_at 0 path m (entry_of c t))); some = a.some; small = a.small }
+      l t (full_leaf t) ∙ ap leaf_line (sym (entries_are t)) ∙ sym (line_row index_space 0 (way_at 0 path m (entry_of c t)))
 
 -- A routing node that gets a ninth branch.
-module _ (n level : ℕ) (path m : List ℕ) (c : Cell) (f : Full (suc n) level path m c) where
+module _ (n level : ℕ) (path : List Level) (m : List ℕ) (c : Cell) (f : Full (suc n) level path m c) where
   abbrev at : ℕ
   at = part_on path (suc n)
 
@@ -111,37 +113,39 @@ module _ (n level : ℕ) (path m : List ℕ) (c : Cell) (f : Full (suc n) level 
   unfolding PathFrom
   below_from = from.2
 
-  node_here : NodeHere m (suc n) 0 at (place_on path (suc n)) (line_on path n) c
+  node_here : NodeHere m (suc n) 0 at (place_on path (suc n)) c
   node_here = record {
     walk = here;
     routing = omega arith;
     place_in = place_in;
-    line = (path_node path m n below_from).line;
     grid = under_grid;
     cell = f.path_is.grid;
   }
 
-  node_level : (r : ℕ) → NodeLineIs m (suc n) 0 at (place_on path (suc n)) (line_on path n) c r → LineOfLevel (suc n) path m c r
-  node_level r l t =
+  node_level : (b r : Line) → line_on path n ≡ Some b → NodeLineIs m (suc n) 0 at (place_on path (suc n)) b c r → LineOfLevel (suc n) path m c r
+  node_level b r z l t =
       let w = f.path_is.ways (suc n) f.below t in
       let g = f.path_is.goods (suc n) f.below t in
       let o = level_length level path m c f.path_is (suc n) f.below f.splits.all t in
       let e = f.eight in
       let q = f.splits.all n (omega arith) t in
-      let y = (f.splits.each n (omega arith) t).line q in
-      let a = l t (node_line_fits n path m (entry_of c t) here w g q y (omega arith)) in
-      record { is = a.is ∙ node_line_is n path m (entry_of c t) here w g q y; some = a.some; small = a.small }
+      let y : b ≡ line_at index_space n (way_at n path m (entry_of c t)) = sym (ap (λ o. unwrap_or o no_line) z) ∙ (f.splits.each n (omega arith) t).line q in
+      l t (node_line_fits n path m (entry_of c t) here w g q b y (omega arith)) ∙ node_line_is n path m (entry_of c t) here w g q b y
+
+some_line : (o : Option Line) → is_none o ≡ false → IsSome o
+some_line None h = let z : ◌≡◌ {A = ℕ} 0 1 = cc in absurd (omega arith)
+some_line (Some l) h = refl
 
 -- The same for the code, by its level.
-module _ (n level : ℕ) (path m : List ℕ) (c : Cell) (f : Full n level path m c) where
-  module _ (z : n ≡ 0) (k : ℕ) (k_is : k ≡ part_on path n) (p : List ℕ) (p_is : p ≡ part m k) where
+module _ (n level : ℕ) (path : List Level) (m : List ℕ) (c : Cell) (f : Full n level path m c) where
+  module _ (z : n ≡ 0) (p : List ℕ) (p_is : p ≡ part m (part_on path n)) where
     leaf_is : p ≡ part m (part_on path 0)
-    leaf_is = p_is ∙ ap (part m) (k_is ∙ ap (part_on path) z)
+    leaf_is = p_is ∙ ap (part m) (ap (part_on path) z)
 
     pub leaf_ready : LeafHere p c
     leaf_ready = subst (λ (l : List ℕ). LeafHere l c) (sym leaf_is) (leaf_here level path m c (subst (λ (i : ℕ). Full i level path m c) z f))
 
-    pub leaf_found : (r : ℕ) → LeafLineIs p c r → LineOfLevel n path m c r
+    pub leaf_found : (r : Line) → LeafLineIs p c r → LineOfLevel n path m c r
     leaf_found r l =
         subst (λ (i : ℕ). LineOfLevel i path m c r) (sym z)
         (leaf_level level path m c (subst (λ (i : ℕ). Full i level path m c) z f) r (subst (λ (q : List ℕ). LeafLineIs q c r) leaf_is l))
@@ -153,14 +157,15 @@ module _ (n level : ℕ) (path m : List ℕ) (c : Cell) (f : Full n level path m
     f' : Full (suc (n - 1)) level path m c
     f' = subst (λ (i : ℕ). Full i level path m c) (sym up) f
 
-    -- by the numbers of its level, as they were read
-    module _ (k place line : ℕ) (k_is : k ≡ part_on path n) (place_is : place ≡ place_on path n) (line_is : line ≡ line_on path (n - 1)) where
-      pub node_ready : NodeHere m n 0 k place line c
-      node_ready = rw (k_is, place_is, line_is)
-          (subst (λ (i : ℕ). NodeHere m i 0 (part_on path i) (place_on path i) (line_on path (n - 1)) c) up (node_here (n - 1) level path m c f'))
+    -- the node below is split
+    pub below_split : IsSome (line_on path (n - 1))
+    below_split =
+        some_line (line_on path (n - 1)) ((f.splits.each (n - 1) (omega arith) some_payload).split ∙ f.splits.all (n - 1) (omega arith) some_payload)
 
-      pub node_found : (r : ℕ) → NodeLineIs m n 0 k place line c r → LineOfLevel n path m c r
-      node_found r l =
-          let l' : NodeLineIs m n 0 (part_on path n) (place_on path n) (line_on path (n - 1)) c r = rw (k_is, place_is, line_is) at l in
-          subst (λ (i : ℕ). LineOfLevel i path m c r) up (node_level (n - 1) level path m c f' r
-          (subst (λ (i : ℕ). NodeLineIs m i 0 (part_on path i) (place_on path i) (line_on path (n - 1)) c r) (sym up) l'))
+    pub node_ready : NodeHere m n 0 (part_on path n) (place_on path n) c
+    node_ready = subst (λ (i : ℕ). NodeHere m i 0 (part_on path i) (place_on path i) c) up (node_here (n - 1) level path m c f')
+
+    pub node_found : (b r : Line) → line_on path (n - 1) ≡ Some b → NodeLineIs m n 0 (part_on path n) (place_on path n) b c r → LineOfLevel n path m c r
+    node_found b r z l =
+        subst (λ (i : ℕ). LineOfLevel i path m c r) up (node_level (n - 1) level path m c f' b r z
+        (subst (λ (i : ℕ). NodeLineIs m i 0 (part_on path i) (place_on path i) b c r) (sym up) l))

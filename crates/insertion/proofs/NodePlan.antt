@@ -8,6 +8,7 @@ use lib.ListN.{length, take, drop, length-append, length-take}
 use lib.Seq.{drop_at}
 use native.Mathlib.Omega.{arith}
 use borrow.Author.Tests.{leb-false}
+use Rattle.path.specs.declared.level.Level.{Level}
 use Rattle.geometry.specs.declared.rect.Line.{Line}
 use Rattle.geometry.specs.Cells.{on_grid}
 use Rattle.tree.specs.Lists.{All, keep, Bag}
@@ -24,7 +25,6 @@ use Rattle.tree.proofs.Ways.{Descent, descent, way_entries}
 use Rattle.tree.proofs.Bags.{bag_keep, bag_length, bag_all}
 use Rattle.tree.proofs.SplitGroups.{split_groups, row_entries_lem, alike_mid, alike_all}
 use Rattle.plane.specs.Lines.{CellEntry, holds_on, node_line}
-use Rattle.plane.specs.Candidates.{numbered_line}
 use Rattle.plane.specs.Fanout.{fanout, index_space}
 use Rattle.plane.proofs.Rects.{plane_space_laws}
 use Rattle.plane.proofs.Steps.{plane_steps, fits_of_fit}
@@ -36,7 +36,7 @@ use Rattle.memory.proofs.ReadingLaws.{node_parts_lem, row_length, children_lengt
 use Rattle.layout.specs.Nodes.{count_at}
 use Rattle.walks.specs.Walks.{Walkable}
 use Rattle.split_line.specs.Groups.{halves_of, groups_at, LineFits}
-use Rattle.path.specs.Path.{part_on, place_on, line_on, polygon_on}
+use Rattle.path.specs.Path.{part_on, place_on, polygon_on}
 use Rattle.tree_after.specs.Path.{row_at, way_at}
 use Rattle.tree_after.proofs.RowLaws.{row_of}
 use Rattle.insertion.specs.Descent.{items_at}
@@ -56,7 +56,7 @@ fits_same gs hs l a f =
     record { lefts_some = omega arith; lefts_few = omega arith; rights_some = omega arith; rights_few = omega arith }
 
 -- A routing node of the way, at part k, with the branches bs; the node below it on the path is split.
-module _ (n : ℕ) (path m : List ℕ) (e : CellEntry) (v : Walkable (suc n) m 0 (part_on path (suc n)))
+module _ (n : ℕ) (path : List Level) (m : List ℕ) (e : CellEntry) (v : Walkable (suc n) m 0 (part_on path (suc n)))
     (way : descend index_space (suc n) (polygon_on path (suc n)) (items_at (suc n) m (part_on path (suc n))) e ≡ some (way_at (suc n) path m e))
     (good : GoodWay index_space (suc n) (way_at (suc n) path m e)) where
   abbrev k : ℕ
@@ -139,16 +139,13 @@ module _ (n : ℕ) (path m : List ℕ) (e : CellEntry) (v : Walkable (suc n) m 0
       ∙ ap (λ (y : Way index_space n). length (keep q (way_held index_space n y))) under_is
       ∙ sym (row_entries_lem index_space n under q)
 
-  module _ (full : few index_space n under ≡ false) (line : numbered_line (line_on path n) ≡ line_at index_space n under) where
+  module _ (full : few index_space n under ≡ false) (l : Line) (line : l ≡ line_at index_space n under) where
     under_good : GoodWay index_space n under
     unfolding GoodWay way_at
     under_good = good.below
 
     over : fanout < length (row index_space n under)
     over = leb-false (length (row index_space n under)) fanout (sym (few_row index_space n under) ∙ full)
-
-    abbrev l : Line
-    l = numbered_line (line_on path n)
 
     line_is : line_of index_space n (row index_space n under) ≡ l
     line_is = sym (line ∙ line_row index_space n under)
@@ -161,7 +158,7 @@ module _ (n : ℕ) (path m : List ℕ) (e : CellEntry) (v : Walkable (suc n) m 0
 
     -- the groups that the code makes
     abbrev gs : List (List CellEntry)
-    gs = groups_at (suc n) m 0 k place (line_on path n) e
+    gs = groups_at (suc n) m 0 k place l e
 
     gs_is : gs ≡ map (held index_space (suc n)) (take place bs) ++ (halves_of l es ++ map (held index_space (suc n)) (drop (place + 1) bs))
     unfolding groups_at

@@ -6,31 +6,33 @@ use mathlib.Core.List.{List, [], ◌∷◌}
 use native.Mathlib.Omega.{arith}
 use native.Mathlib.Nat.{le_refl}
 use native.Mathlib.Decide.{dec_lt, ℕ_discrete}
-use borrow.Author.Tests.{le-leb, lt-leb, leb-true, leb-false, eq-eqb, ne_eqb}
-use lib.Dec.{leb, eqb}
+use borrow.Author.Tests.{le-leb, lt-leb, leb-true, leb-false}
+use lib.Dec.{leb}
 use lib.ListN.{length, length-append}
+use Rattle.std.specs.Prelude.{None, is_none, unwrap_or}
+use Rattle.geometry.specs.declared.rect.Line.{Line}
+use Rattle.path.specs.declared.level.Level.{Level}
 use Rattle.geometry.specs.declared.rect.Cell.{Cell}
 use Rattle.tree.specs.Split.{split}
 use Rattle.tree.specs.Plan.{row, few, line_at}
 use Rattle.tree.proofs.GoodWays.{way_fits}
 use Rattle.tree.proofs.SplitGroups.{split_one, split_two}
 use Rattle.tree.proofs.OnePass.{few_row}
-use Rattle.plane.specs.Candidates.{numbered_line}
 use Rattle.plane.specs.Fanout.{fanout, index_space}
-use Rattle.plane.specs.Lines.{Payload, some_payload, entry_of}
+use Rattle.plane.specs.Lines.{no_line, Payload, entry_of}
 use Rattle.memory.specs.Layout.{part, item_count, entries_in}
 use Rattle.memory.proofs.ReadingLaws.{entries_length}
 use Rattle.layout.specs.Nodes.{count_at}
 use Rattle.walks.specs.Walks.{Walkable}
 use Rattle.path.specs.Path.{part_on, line_on, polygon_on}
-use Rattle.path.specs.Puts.{LinePut}
+use Rattle.path.proofs.PutLaws.{LinePut}
 use Rattle.tree_after.specs.Path.{way_at, PathNode, PathFrom}
 use Rattle.tree_after.proofs.PathLaws.{path_node}
-use Rattle.insertion.specs.Planning.{GoodPath, Plannable, PlannedAt, FullLevels, AllSplit, SplitBelow, Full, LineOfLevel, PlanMade}
+use Rattle.insertion.specs.Planning.{GoodPath, Plannable, PlannedAt, FullLevels, AllSplit, SplitBelow, LineOfLevel, PlanMade}
 use Rattle.insertion.proofs.NodePlan.{row_length_is}
-use Rattle.insertion.proofs.PathLaws.{part_kept, line_kept, way_kept, polygon_kept, path_few, good_kept, path_below}
+use Rattle.insertion.proofs.PathLaws.{part_kept, line_kept, way_kept, polygon_kept, good_kept, path_below}
 
-module _ (level : ℕ) (path m : List ℕ) (c : Cell) (g : GoodPath level path m c) where
+module _ (level : ℕ) (path : List Level) (m : List ℕ) (c : Cell) (g : GoodPath level path m c) where
   walk_at : (n : ℕ) → n ≤ level → Walkable n m 0 (part_on path n)
   walk_at n h = (path_node path m n (path_below path m level n g.from h)).walk
 
@@ -95,17 +97,17 @@ module _ (level : ℕ) (path m : List ℕ) (c : Cell) (g : GoodPath level path m
       go (no z) below = below j (omega arith) t
 
 -- Before the node on the path at level n gets its line: those below have theirs, and those from n on have none yet.
-pub record Planning (level : ℕ) (path₀ m : List ℕ) (k : ℕ) (c : Cell) (n : ℕ) (path : List ℕ) : Type 0 where
+pub record Planning (level : ℕ) (path₀ : List Level) (m : List ℕ) (k : ℕ) (c : Cell) (n : ℕ) (path : List Level) : Type 0 where
   pub n_le : n ≤ k
   pub levels : FullLevels level path m k
   pub path_is : GoodPath level path m c
   pub splits : SplitBelow n path m c
-  pub rest : (j : ℕ) → n ≤ j → j ≤ level → line_on path j ≡ 0
+  pub rest : (j : ℕ) → n ≤ j → j ≤ level → line_on path j ≡ None
   pub same_length : length path ≡ length path₀
   pub part : part_on path level ≡ part_on path₀ level
   pub polygon : polygon_on path level ≡ polygon_on path₀ level
 
-pub plan_start : (level : ℕ) (path m : List ℕ) (splits : ℕ) (c : Cell) → Plannable level path m c → FullLevels level path m splits → Planning level path m splits c 0 path
+pub plan_start : (level : ℕ) (path : List Level) (m : List ℕ) (splits : ℕ) (c : Cell) → Plannable level path m c → FullLevels level path m splits → Planning level path m splits c 0 path
 plan_start level path m splits c g f = record {
   n_le = omega arith;
   levels = f;
@@ -117,7 +119,7 @@ plan_start level path m splits c g f = record {
   polygon = refl;
 }
 
-module _ (level : ℕ) (path₀ m : List ℕ) (splits : ℕ) (c : Cell) (n : ℕ) (path : List ℕ) (a : Planning level path₀ m splits c n path) where
+module _ (level : ℕ) (path₀ : List Level) (m : List ℕ) (splits : ℕ) (c : Cell) (n : ℕ) (path : List Level) (a : Planning level path₀ m splits c n path) where
   in_path : n < splits → n ≤ level
   in_path h = let i = a.levels.most in omega arith
 
@@ -125,15 +127,9 @@ module _ (level : ℕ) (path₀ m : List ℕ) (splits : ℕ) (c : Cell) (n : ℕ
   pub plan_node : n < splits → PathNode n path m
   plan_node h = path_node path m n (path_below path m level n a.path_is.from (in_path h))
 
-  pub plan_full : n < splits → Full n level path m c
-  plan_full h = record { path_is = a.path_is; below = in_path h; splits = a.splits; eight = a.levels.full n h }
-
-  module _ (r : ℕ) (o : n < splits) (l : LineOfLevel n path m c r) (path₁ : List ℕ) (v : LinePut path n r path₁) where
+  module _ (r : Line) (o : n < splits) (l : LineOfLevel n path m c r) (path₁ : List Level) (v : LinePut path n r path₁) where
     h : n ≤ level
     h = in_path o
-
-    small : r < 131072
-    small = (l some_payload).small
 
     from_n : (j : ℕ) → j ≤ n → PathFrom j path m
     from_n j i = path_below path m level j a.path_is.from (omega arith)
@@ -147,11 +143,10 @@ module _ (level : ℕ) (path₀ m : List ℕ) (splits : ℕ) (c : Cell) (n : ℕ
     planned_here : (t : Payload) → PlannedAt n path₁ m (entry_of c t)
     planned_here t =
         let p = v.line in
-        let s = (l t).some in
         let f : few index_space n (way_at n path₁ m (entry_of c t)) ≡ false = ap (few index_space n) (same_way n t (le_refl n)) ∙ not_few t in
         record {
-          split = ap (λ (i : ℕ). eqb i 0) p ∙ ne_eqb r 0 (λ (z : r ≡ 0). omega arith) ∙ sym f;
-          line = λ z. ap numbered_line p ∙ (l t).is ∙ ap (line_at index_space n) (sym (same_way n t (le_refl n)));
+          split = ap is_none p ∙ sym f;
+          line = λ z. ap (λ o. unwrap_or o no_line) p ∙ l t ∙ ap (line_at index_space n) (sym (same_way n t (le_refl n)));
         }
 
     planned_low : (j : ℕ) → j < n → (t : Payload) → PlannedAt j path₁ m (entry_of c t)
@@ -160,8 +155,8 @@ module _ (level : ℕ) (path₀ m : List ℕ) (splits : ℕ) (c : Cell) (n : ℕ
         let k = line_kept path n r path₁ v j (λ (z : j ≡ n). omega arith) in
         let w = same_way j t (omega arith) in
         record {
-          split = ap (λ (x : ℕ). eqb x 0) k ∙ q.split ∙ ap (few index_space j) (sym w);
-          line = λ z. ap numbered_line k ∙ q.line (ap (few index_space j) (sym w) ∙ z) ∙ ap (line_at index_space j) (sym w);
+          split = ap is_none k ∙ q.split ∙ ap (few index_space j) (sym w);
+          line = λ z. ap (λ o. unwrap_or o no_line) k ∙ q.line (ap (few index_space j) (sym w) ∙ z) ∙ ap (line_at index_space j) (sym w);
         }
 
     -- the levels that are split are the same
@@ -172,17 +167,17 @@ module _ (level : ℕ) (path₀ m : List ℕ) (splits : ℕ) (c : Cell) (n : ℕ
       next = λ i. let k = a.levels.next i in let e = ap (count_at m) (part_kept path n r path₁ v splits) in omega arith;
     }
 
-    pub plan_again : (path' : List ℕ) (n' : ℕ) → path' ≡ path₁ → n' ≡ n + 1 → Planning level path₀ m splits c n' path'
-    plan_again path' n' e f = rw (e, f) (record {
+    pub plan_again : Planning level path₀ m splits c (n + 1) path₁
+    plan_again = record {
       n_le = omega arith;
       levels = levels_kept;
-      path_is = good_kept path n r path₁ v m level c small a.path_is;
+      path_is = good_kept path n r path₁ v m level c a.path_is;
       splits = record { each = λ j i t. each j i (ℕ_discrete j n) t; all = λ j i t. all j i (ℕ_discrete j n) t };
       rest = λ j i k. line_kept path n r path₁ v j (λ (z : j ≡ n). omega arith) ∙ a.rest j (omega arith) k;
       same_length = v.same_length ∙ a.same_length;
       part = part_kept path n r path₁ v level ∙ a.part;
-      polygon = polygon_kept path n r path₁ v level (path_few path n r path₁ v m level a.path_is.from) ∙ a.polygon;
-    })
+      polygon = polygon_kept path n r path₁ v level ∙ a.polygon;
+    }
       where
         each : (j : ℕ) → j < n + 1 → Dec (j ≡ n) → (t : Payload) → PlannedAt j path₁ m (entry_of c t)
         each j i (yes z) t = subst (λ (x : ℕ). PlannedAt x path₁ m (entry_of c t)) (sym z) (planned_here t)
@@ -217,7 +212,7 @@ module _ (level : ℕ) (path₀ m : List ℕ) (splits : ℕ) (c : Cell) (n : ℕ
           let q : n + (j - n) ≡ j = omega arith in
           let w : few index_space j (way_at j path m (entry_of c t)) ≡ true = subst (λ (x : ℕ). few index_space x (way_at x path m (entry_of c t)) ≡ true) q (all_few level path m c a.path_is n (j - n) t (here (omega arith) t) (omega arith)) in
           record {
-            split = eq-eqb (line_on path j) 0 (a.rest j (omega arith) i) ∙ sym w;
+            split = ap is_none (a.rest j (omega arith) i) ∙ sym w;
             line = λ y. absurd (no_both (few index_space j (way_at j path m (entry_of c t))) w y);
           }
         where

@@ -4,11 +4,12 @@ use mathlib.Core.Bool.{Bool, true, false}
 use mathlib.Core.Path.{◌≡◌, refl, sym, ap, ◌∙◌}
 use mathlib.Core.List.{List, [], ◌∷◌}
 use mathlib.Core.Option.{some, bind}
-use lib.Dec.{eqb}
 use lib.ListN.{length}
 use native.Mathlib.Omega.{arith}
 use native.Mathlib.Nat.{le_refl}
 use borrow.Author.Tests.{leb-false}
+use Rattle.std.specs.Prelude.{is_none}
+use Rattle.path.specs.declared.level.Level.{Level}
 use Rattle.geometry.specs.declared.rect.Rect.{Rect}
 use Rattle.geometry.specs.declared.rect.Line.{Line}
 use Rattle.tree.specs.Space.{Side, left, right}
@@ -22,10 +23,9 @@ use Rattle.tree.proofs.Pass.{under_deep}
 use Rattle.tree.proofs.GoodWays.{GoodWay, way_fits}
 use Rattle.tree.proofs.SplitGroups.{split_two}
 use Rattle.plane.specs.Lines.{CellEntry}
-use Rattle.plane.specs.Candidates.{numbered_line}
 use Rattle.plane.specs.Fanout.{fanout, index_space, index_root}
 use Rattle.path.specs.Path.{line_on, polygon_on}
-use Rattle.tree_after.specs.Path.{way_at, row_under, cut_under, planned_tree}
+use Rattle.tree_after.specs.Path.{cut_line, way_at, row_under, cut_under, planned_tree}
 use Rattle.insertion.specs.Planning.{PlannedAt}
 
 -- the branches of a node, by a plan and by the definition
@@ -34,7 +34,7 @@ same_cut : {A : Type 0} (b d : Bool) (k l : Line) (p : List Rect) (f g : List (S
 same_cut b true k l p f g ss e h i = rw (e, i ss)
 same_cut b false k l p f g ss e h i = rw (e, h refl, i (left l ∷ ss), i (right l ∷ ss))
 
-pub row_written : (n : ℕ) (path m : List ℕ) (e : CellEntry) → ((j : ℕ) → j ≤ n → PlannedAt j path m e) → (ss : List (Side Line)) → row_under n path m e ss ≡ write_row index_space n ss (way_at n path m e)
+pub row_written : (n : ℕ) (path : List Level) (m : List ℕ) (e : CellEntry) → ((j : ℕ) → j ≤ n → PlannedAt j path m e) → (ss : List (Side Line)) → row_under n path m e ss ≡ write_row index_space n ss (way_at n path m e)
 unfolding row_under write_row way_at
 row_written zero path m e h ss = sym (under_deep index_space zero ss (way_at zero path m e))
 row_written (suc n) path m e h ss =
@@ -42,11 +42,11 @@ row_written (suc n) path m e h ss =
     rw (
       under_deep index_space (suc n) ss (way_at (suc n) path m e).before,
       under_deep index_space (suc n) ss (way_at (suc n) path m e).after,
-      same_cut (eqb (line_on path n) 0) (few index_space n (way_at n path m e)) (numbered_line (line_on path n)) (line_at index_space n (way_at n path m e)) (polygon_on path n)
+      same_cut (is_none (line_on path n)) (few index_space n (way_at n path m e)) (cut_line path n) (line_at index_space n (way_at n path m e)) (polygon_on path n)
           (λ ts. row_under n path m e ts) (λ ts. write_row index_space n ts (way_at n path m e)) ss q.split q.line (row_written n path m e (λ j i. h j (omega arith))),
     )
 
-module _ (n : ℕ) (path m : List ℕ) (e : CellEntry) (h : (j : ℕ) → j ≤ n → PlannedAt j path m e) (good : GoodWay index_space n (way_at n path m e)) where
+module _ (n : ℕ) (path : List Level) (m : List ℕ) (e : CellEntry) (h : (j : ℕ) → j ≤ n → PlannedAt j path m e) (good : GoodWay index_space n (way_at n path m e)) where
   abbrev p : List Rect
   p = polygon_on path n
 
@@ -57,7 +57,7 @@ module _ (n : ℕ) (path m : List ℕ) (e : CellEntry) (h : (j : ℕ) → j ≤ 
   unfolding cut_under
   cut_written =
       let q = h n (le_refl n) in
-      same_cut (eqb (line_on path n) 0) (few index_space n w) (numbered_line (line_on path n)) (line_at index_space n w) p (λ ts. row_under n path m e ts) (λ ts. write_row index_space n ts w) [] q.split q.line (row_written n path m e h)
+      same_cut (is_none (line_on path n)) (few index_space n w) (cut_line path n) (line_at index_space n w) p (λ ts. row_under n path m e ts) (λ ts. write_row index_space n ts w) [] q.split q.line (row_written n path m e h)
 
   rooted_two : (l : List (Item index_space (suc n))) → length l ≡ 2 → rooted index_space n p l ≡ record { level = suc n; root = p; items = l }
   rooted_two [] i = absurd (omega arith)
@@ -84,7 +84,7 @@ module _ (n : ℕ) (path m : List ℕ) (e : CellEntry) (h : (j : ℕ) → j ≤ 
       go false f = two f
 
 -- The tree after is the planned tree, where the path starts at the root with its polygon as grown.
-pub planned_insert : (t : Tree index_space) (path m : List ℕ) (e : CellEntry) → ((j : ℕ) → j ≤ t.level → PlannedAt j path m e)
+pub planned_insert : (t : Tree index_space) (path : List Level) (m : List ℕ) (e : CellEntry) → ((j : ℕ) → j ≤ t.level → PlannedAt j path m e)
     → GoodWay index_space t.level (way_at t.level path m e) → index_root.grow_root t.root e.cell ≡ polygon_on path t.level
     → descend index_space t.level (polygon_on path t.level) t.items e ≡ some (way_at t.level path m e)
     → insert_tree index_space index_root (some t) e ≡ some (planned_tree t.level path m e)

@@ -1,15 +1,16 @@
 -- The start of an insertion at the root, and its path found: the tree after is the planned one.
-use Prim.Native.Nat.{ℕ, zero, suc, ◌+◌, ◌*◌, ◌≤◌, ◌<◌}
-use mathlib.Core.Bool.{Bool, true, false}
-use mathlib.Core.Path.{◌≡◌, refl, sym, ap, ◌∙◌, subst}
+use Prim.Native.Nat.{ℕ, zero, suc, ◌+◌, ◌≤◌}
+use mathlib.Core.Bool.{true, false}
+use mathlib.Core.Path.{◌≡◌, sym, ap, ◌∙◌, subst}
 use mathlib.Core.List.{List, [], ◌∷◌, flat_map}
 use mathlib.Core.Option.{Option, none, some, bind, some-injective}
 use native.Mathlib.Omega.{arith}
 use native.Mathlib.Nat.{le_refl, zero-add}
 use native.Mathlib.Decide.{ℕ_discrete}
-use mir.Syntax.{w32}
-use mir.Val.{Fits}
 use lib.ListN.{length}
+use Rattle.std.proofs.Common.{Result, Ok, Err, IfOk}
+use Rattle.std.proofs.lemmas.Result.{IfOk-weaker}
+use Rattle.path.specs.declared.level.Level.{Level}
 use Rattle.geometry.specs.declared.rect.Cell.{Cell}
 use Rattle.geometry.specs.declared.rect.Rect.{Rect}
 use Rattle.geometry.specs.Cells.{on_grid}
@@ -43,7 +44,6 @@ use Rattle.memory.specs.Layout.{part, rect_count, root_in, rect_numbers}
 use Rattle.memory.specs.Reading.{reading}
 use Rattle.memory.proofs.ReadingLaws.{ReadAs, read_as, read_sound}
 use Rattle.layout.specs.Nodes.{PartIn}
-use Rattle.layout.proofs.NodeLaws.{rects_length}
 use Rattle.layout.proofs.ReadNodes.{node_polygon}
 use Rattle.answers.specs.Answers.{cells_removed}
 use Rattle.walks.specs.Walks.{Walkable}
@@ -51,14 +51,14 @@ use Rattle.walks.proofs.WalkRows.{walkable}
 use Rattle.walks.proofs.TreeWalk.{tree_walkable}
 use Rattle.queries.specs.Held.{held_read}
 use Rattle.path.specs.Path.{part_on, polygon_on, HasLevel}
-use Rattle.path.specs.Puts.{LevelPut}
-use Rattle.path.proofs.SameLaws.{level_kept}
+use Rattle.path.proofs.PutLaws.{LevelPut}
+use Rattle.path.proofs.PutLaws.{level_kept}
 use Rattle.tree_after.specs.Path.{way_at, planned_tree}
-use Rattle.insertion.specs.declared.descent.Descent.{Descent}
+use Rattle.geometry.specs.declared.cut.TooMany.{TooMany}
 use Rattle.insertion.specs.Descent.{items_at, Descending, Kept, Reached, Stopped, Descended}
-use Rattle.insertion.specs.Removed.{RemovedBelow, RemovedFound}
+use Rattle.insertion.specs.Removed.{RemovedBelow, RemovedIs}
 use Rattle.insertion.specs.Planning.{GoodPath, FullLevels, PlanMade}
-use Rattle.insertion.specs.Insert.{Inserting, PathReady, PathPlanned, PathRefused, PathFound}
+use Rattle.insertion.specs.Insert.{Inserting, PathReady, PathPlanned, PathFound}
 use Rattle.insertion.proofs.DescentLaws.{items_are}
 use Rattle.insertion.proofs.PlanTree.{planned_insert}
 use Rattle.insertion.proofs.SplitCount.{split_often}
@@ -73,7 +73,7 @@ one_rect : (l : List ℕ) (n : ℕ) → length (rects_in l n) ≡ 1 → rects_in
 unfolding rects_in
 one_rect l n h = let e : n ≡ 1 = sym (length_rects l n) ∙ h in rw e
 
-good_below : (path m : List ℕ) (e : CellEntry) (n j : ℕ) → j ≤ n → GoodWay index_space n (way_at n path m e) → GoodWay index_space j (way_at j path m e)
+good_below : (path : List Level) (m : List ℕ) (e : CellEntry) (n j : ℕ) → j ≤ n → GoodWay index_space n (way_at n path m e) → GoodWay index_space j (way_at j path m e)
 unfolding GoodWay way_at
 good_below path m e zero j h g = subst (λ (i : ℕ). GoodWay index_space i (way_at i path m e)) (let z : 0 ≡ j = omega arith in z) g
 good_below path m e (suc n) j h g = go (ℕ_discrete j (suc n)) (λ i. good_below path m e n j i g.below)
@@ -125,19 +125,18 @@ module _ (m : List ℕ) (c : Cell) (x : Tree index_space) (reads : reading fanou
   has_p = (plane_root_laws fanout).grow_has x.root c sound.one
 
   -- the cells removed from the root down
-  root_removed : (path path₁ : List ℕ) → LevelPut path x.level root p path₁ → (u : Descent)
-      → RemovedBelow x.level path₁ m c 0 u
-      → u.reached ≡ true → u.removed ≡ cells_removed (some x) c
+  root_removed : (path path₁ : List Level) → LevelPut path x.level root p path₁ → (u : ℕ)
+      → RemovedBelow x.level path₁ m c 0 u → u ≡ cells_removed (some x) c
   unfolding removed_total
-  root_removed path path₁ v u w g =
-      w.is g ∙ zero-add _
+  root_removed path path₁ v u w =
+      w.is ∙ zero-add _
       ∙ ap (λ (l : List Rect). removed_at index_space x.level l
       (items_at x.level m (part_on path₁ x.level)) c) v.polygon
       ∙ ap (λ (l : List (Item index_space x.level)). removed_at index_space x.level p l c)
       (ap (items_at x.level m) v.part ∙ items_x)
 
   -- the descent starts at the root
-  root_descending : (path path₁ : List ℕ) → HasLevel x.level path → LevelPut path x.level root p path₁ → Descending x.level path₁ m c
+  root_descending : (path path₁ : List Level) → HasLevel x.level path → LevelPut path x.level root p path₁ → Descending x.level path₁ m c
   root_descending path path₁ h v =
       let i : items_at x.level m (part_on path₁ x.level) ≡ x.items = ap (items_at x.level m) v.part ∙ items_x in
       record {
@@ -155,7 +154,7 @@ module _ (m : List ℕ) (c : Cell) (x : Tree index_space) (reads : reading fanou
       }
 
   -- the descent from the root, in the tree's words
-  module _ (path path₁ : List ℕ) (v : LevelPut path x.level root p path₁) where
+  module _ (path path₁ : List Level) (v : LevelPut path x.level root p path₁) where
     from_root : (t : Payload) (o : Option (Way index_space x.level)) → descend index_space x.level (polygon_on path₁ x.level) (items_at x.level m (part_on path₁ x.level)) (entry_of c t) ≡ o
         → descend index_space x.level p x.items (entry_of c t) ≡ o
     from_root t o h =
@@ -167,9 +166,9 @@ module _ (m : List ℕ) (c : Cell) (x : Tree index_space) (reads : reading fanou
     unfolding bind
     refused s t = insert_by_plan index_space index_root x (entry_of c t) ∙ rw (from_root t none (s.way t))
 
-    module _ (path₂ : List ℕ) (kept : Kept x.level path₁ path₂) (z : Reached x.level path₁ m c path₂) where
+    module _ (path₂ : List Level) (kept : Kept x.level path₁ path₂) (z : Reached x.level path₁ m c path₂) where
       polygon_2 : polygon_on path₂ x.level ≡ p
-      polygon_2 = kept.polygon v.few ∙ v.polygon
+      polygon_2 = kept.polygon ∙ v.polygon
 
       part_2 : part_on path₂ x.level ≡ root
       part_2 = kept.part ∙ v.part
@@ -196,9 +195,9 @@ module _ (m : List ℕ) (c : Cell) (x : Tree index_space) (reads : reading fanou
       }
 
   -- a path that is ready
-  module _ (path₂ : List ℕ) (r : PathReady m x.level c path₂) where
+  module _ (path₂ : List Level) (r : PathReady m x.level c path₂) where
     -- and planned
-    module _ (path₃ : List ℕ) (made : PlanMade x.level path₂ m c path₃) where
+    module _ (path₃ : List Level) (made : PlanMade x.level path₂ m c path₃) where
       planned : PathPlanned m x.level c path₃
       planned = record {
         good = made.path_is;
@@ -226,17 +225,6 @@ module _ (m : List ℕ) (c : Cell) (x : Tree index_space) (reads : reading fanou
         let a = nodes_after index_space laws steps index_root (plane_root_laws fanout) (omega arith) x (entry_of c t) way (way_ready t) sound grid new in
         (a.0, a.1, let b = a.2 in omega arith)
 
--- the first rectangle of a part
-pub first_in : (p l : List ℕ) → length p ≡ 128 → l ≡ rect_numbers p → 4 ≤ length l
-first_in p l n e = let d = rects_length p l n e in omega arith
-
-pub first_is : (m : List ℕ) (k : ℕ) (p l : List ℕ) (r : Rect) → p ≡ part m k → l ≡ rect_numbers p → r ≡ rect_at l 0 → r ≡ rect_at (rect_numbers (part m k)) 0
-first_is m k p l r e f g = g ∙ ap (λ (x : List ℕ). rect_at x 0) (f ∙ ap rect_numbers e)
-
--- no cells are removed above the root
-pub start_room : (level : ℕ) → Fits w32 level → 0 + level * 4294967296 < 18446744073709551616
-start_room level h = omega arith
-
 -- The same for the code: the tree's level and root by their numbers.
 module _ (m : List ℕ) (level root : ℕ) (c : Cell) (v : Inserting m level root c) where
   abbrev tree : Tree index_space
@@ -261,7 +249,7 @@ module _ (m : List ℕ) (level root : ℕ) (c : Cell) (v : Inserting m level roo
   pub cell_y : c.y ≤ 65535
   cell_y = (grid_of c v.grid).y_most
 
-  module _ (path path₁ : List ℕ) (h : HasLevel level path) (q : Polygon) (put : LevelPut path level root (rects_of q) path₁) (g : Rect) (u : PolygonOf (g ∷ []) q)
+  module _ (path path₁ : List Level) (h : HasLevel level path) (q : Polygon) (put : LevelPut path level root (rects_of q) path₁) (g : Rect) (u : PolygonOf (g ∷ []) q)
       (r : Rect) (f : g ≡ grown r c) (e : r ≡ rect_at (rect_numbers (part m root)) 0) where
     put_tree : LevelPut path tree.level (root_in m) grown_root path₁
     put_tree =
@@ -274,54 +262,38 @@ module _ (m : List ℕ) (level root : ℕ) (c : Cell) (v : Inserting m level roo
     find_start = subst (λ (i : ℕ). Descending i path₁ m c) v.tree_in.level_is
         (root_descending m c tree v.tree_in.reads v.grid tree_new path path₁ (subst (λ (i : ℕ). HasLevel i path) (sym v.tree_in.level_is) h) put_tree)
 
-    pub find_removed : (u : Descent) → RemovedBelow level path₁ m c 0 u → RemovedFound m c u
-    find_removed u w = record {
-      is = λ g. record {
-        is = λ y k.
-            let same : some tree ≡ some y = some-injective (some tree) (some y) (sym v.tree_in.reads ∙ k) in
-            let w' : RemovedBelow tree.level path₁ m c 0 u = subst (λ (i : ℕ). RemovedBelow i path₁ m c 0 u)
-            (sym v.tree_in.level_is) w in
-            subst (λ (o : Option (Tree index_space)). u.removed ≡ cells_removed o c) same
-            (root_removed m c tree v.tree_in.reads v.grid tree_new path path₁ put_tree u w' g);
-      };
-    }
+    pub find_removed : (b : Result ℕ TooMany) → IfOk b (λ u. RemovedBelow level path₁ m c 0 u) → IfOk b (λ u. RemovedIs m c u)
+    find_removed b = IfOk-weaker b _ _ removed
+      where
+        removed : (u : ℕ) → RemovedBelow level path₁ m c 0 u → RemovedIs m c u
+        removed u w = record {
+          is = λ y k.
+              let same : some tree ≡ some y = some-injective (some tree) (some y) (sym v.tree_in.reads ∙ k) in
+              let w' : RemovedBelow tree.level path₁ m c 0 u = subst (λ (i : ℕ). RemovedBelow i path₁ m c 0 u)
+              (sym v.tree_in.level_is) w in
+              subst (λ (o : Option (Tree index_space)). u ≡ cells_removed o c) same
+              (root_removed m c tree v.tree_in.reads v.grid tree_new path path₁ put_tree u w');
+        }
 
-    module _ (path₂ : List ℕ) (b : Bool) (z : Descended level path₁ m c path₂ b) where
-      find_refused : b ≡ false → PathRefused m c
-      find_refused n = record {
-        after = λ y k t.
-            let same : some tree ≡ some y = some-injective (some tree) (some y) (sym v.tree_in.reads ∙ k) in
-            let z' : Descended level path₁ m c path₂ false = subst (λ (x : Bool). Descended level path₁ m c path₂ x) n z in
-            subst (λ (o : Option (Tree index_space)). insert_tree index_space index_root o (entry_of c t) ≡ none) same
-            (refused m c tree v.tree_in.reads v.grid tree_new path path₁ put_tree (subst (λ (i : ℕ). Descended i path₁ m c path₂ false) (sym v.tree_in.level_is) z').is t);
-      }
-
-      pub find_length : length path₂ ≡ length path
-      find_length = z.kept.same_length ∙ put.same_length
-
-      module _ (n : b ≡ true) where
-        reached : Descended level path₁ m c path₂ true
-        reached = subst (λ (x : Bool). Descended level path₁ m c path₂ x) n z
-
-        z_tree : Descended tree.level path₁ m c path₂ true
-        z_tree = subst (λ (i : ℕ). Descended i path₁ m c path₂ true) (sym v.tree_in.level_is) reached
-
-        find_ready : PathReady m level c path₂
-        find_ready = subst (λ (i : ℕ). PathReady m i c path₂) v.tree_in.level_is (ready m c tree v.tree_in.reads v.grid tree_new path path₁ put_tree path₂ z_tree.kept z_tree.is)
-
+    module _ (path₂ : List Level) (b : Result ℕ TooMany) (z : Descended level path₁ m c path₂ b) where
       pub find_found : PathFound m level c path₂ b
-      find_found = go b refl
+      find_found = go b (subst (λ (i : ℕ). Descended i path₁ m c path₂ b) (sym v.tree_in.level_is) z)
         where
-          go : (d : Bool) → b ≡ d → PathFound m level c path₂ d
-          go true n = find_ready n
-          go false n = find_refused n
+          go : (d : Result ℕ TooMany) → Descended tree.level path₁ m c path₂ d → PathFound m level c path₂ d
+          go (Ok x) z = subst (λ (i : ℕ). PathReady m i c path₂) v.tree_in.level_is (ready m c tree v.tree_in.reads v.grid tree_new path path₁ put_tree path₂ z.kept z.is)
+          go (Err x) z = record {
+            after = λ y k t.
+                let same : some tree ≡ some y = some-injective (some tree) (some y) (sym v.tree_in.reads ∙ k) in
+                subst (λ (o : Option (Tree index_space)). insert_tree index_space index_root o (entry_of c t) ≡ none) same
+                (refused m c tree v.tree_in.reads v.grid tree_new path path₁ put_tree z.is t);
+          }
 
-  module _ (path : List ℕ) (r : PathReady m level c path) where
+  module _ (path : List Level) (r : PathReady m level c path) where
     r_tree : PathReady m tree.level c path
     r_tree = subst (λ (i : ℕ). PathReady m i c path) (sym v.tree_in.level_is) r
 
     -- the plan was made
-    pub ready_planned : (path' : List ℕ) → PlanMade level path m c path' → PathPlanned m level c path'
+    pub ready_planned : (path' : List Level) → PlanMade level path m c path' → PathPlanned m level c path'
     ready_planned path' made = subst (λ (i : ℕ). PathPlanned m i c path') v.tree_in.level_is
         (planned m c tree v.tree_in.reads v.grid tree_new path r_tree path' (subst (λ (i : ℕ). PlanMade i path m c path') (sym v.tree_in.level_is) made))
 

@@ -1,5 +1,5 @@
 // The first entry of an index.
-ghost use Rattle.std.specs.Prelude.{◌≡◌, true, length};
+ghost use Rattle.std.specs.Prelude.{◌≡◌, true, length, Ok};
 ghost use Rattle.std.proofs.Math.Option.{none, some};
 ghost use Rattle.geometry.specs.Cells.{on_grid};
 ghost use Rattle.plane.specs.Fanout.{fanout};
@@ -16,7 +16,7 @@ pub fn insert_first(m: &mut [u32], work: &mut [u32], e: Entry) -> Inserted
     requires m_value { reading fanout m.old ≡ some none }
     requires work_len { length work.old ≡ length m.old }
     requires cell_value { on_grid e.cell ≡ true }
-    ensures { Built m.old work.old (tree_entry e) m.new work.new result }
+    ensures { Built m.old work.old (tree_entry e) m.new work.new (Ok result) }
 {
     let c = e.cell;
     let r = Rect {
@@ -28,7 +28,7 @@ pub fn insert_first(m: &mut [u32], work: &mut [u32], e: Entry) -> Inserted
     let empty = Node::empty();
     put_node(work, 0, Polygon::of(r), empty.with_entry(e));
     put_tree(m, work, 1, 1);
-    Inserted::Accepted {
+    Inserted {
         held: 1,
         removed: 0,
     }

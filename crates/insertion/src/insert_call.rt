@@ -4,18 +4,23 @@ ghost use Rattle.geometry.specs.Cells.{on_grid};
 ghost use Rattle.memory.specs.TreeIn.{Known, TreeIn};
 ghost use Rattle.layout.specs.Entries.{tree_entry};
 ghost use Rattle.answers.specs.Changes.{InsertCall};
-ghost use Rattle.soundness.specs.Open.{OpenedAs};
 ghost use Rattle.insertion.specs.Insert.{InsertDone};
 
 use crate::building::insert_new;
 use crate::first::insert_first;
-use answers::Inserted;
+use answers::{Inserted, Refusal};
 use layout::{Entry, fill_zeros, is_index_length};
 use queries::is_held;
-use soundness::{Opened, open_known};
+use soundness::open_known;
 
 // The insertion into a tree.
-fn insert_in_tree(m: &mut [u32], work: &mut [u32], level: u32, root: u32, e: Entry) -> Inserted
+fn insert_in_tree(
+    m: &mut [u32],
+    work: &mut [u32],
+    level: u32,
+    root: u32,
+    e: Entry,
+) -> Result<Inserted, Refusal>
     requires tree_in { TreeIn m.old level root }
     requires work_len { length work.old ≡ length m.old }
     requires cell_value { on_grid e.cell ≡ true }
@@ -23,38 +28,15 @@ fn insert_in_tree(m: &mut [u32], work: &mut [u32], level: u32, root: u32, e: Ent
         work.new result }
 {
     if is_held(m, level, root, e.cell) {
-        return Inserted::Held;
+        return Err(Refusal::Held);
     }
     let r = insert_new(m, work, level, root, e);
     fill_zeros(work);
     r
 }
 
-// The insertion into an opened memory, its work area and cell tested.
-fn insert_opened(m: &mut [u32], work: &mut [u32], opened: Opened, e: Entry) -> Inserted
-    requires opened_as { OpenedAs m.old opened }
-    requires work_len { length work.old ≡ length m.old }
-    requires cell_value { on_grid e.cell ≡ true }
-    ensures { InsertDone m.old work.old (tree_entry e) m.new
-        work.new result }
-{
-    match opened {
-        Opened::NoSoundTree => {
-            return Inserted::NoSoundTree;
-        }
-        Opened::Empty => {
-            let r = insert_first(m, work, e);
-            fill_zeros(work);
-            return r;
-        }
-        Opened::Tree { level, root } => {
-            return insert_in_tree(m, work, level, root, e);
-        }
-    }
-}
-
 // Inserts an entry; the work area is as long as the index.
-pub fn insert(m: &mut [u32], work: &mut [u32], e: Entry) -> Inserted
+pub fn insert(m: &mut [u32], work: &mut [u32], e: Entry) -> Result<Inserted, Refusal>
     ensures { InsertCall m.old work.old (tree_entry e) m.new
         work.new result }
 {
@@ -62,20 +44,31 @@ pub fn insert(m: &mut [u32], work: &mut [u32], e: Entry) -> Inserted
 }
 
 // The same; a memory that is known to read as an index is not tested.
-pub fn insert_known(m: &mut [u32], work: &mut [u32], known: bool, e: Entry) -> Inserted
+pub fn insert_known(
+    m: &mut [u32],
+    work: &mut [u32],
+    known: bool,
+    e: Entry,
+) -> Result<Inserted, Refusal>
     requires { Known m.old known }
     ensures { InsertCall m.old work.old (tree_entry e) m.new
         work.new result }
 {
     if !is_index_length(m) {
-        return Inserted::WrongLength;
+        return Err(Refusal::WrongLength);
     }
     if work.len() != m.len() {
-        return Inserted::WorkLength;
+        return Err(Refusal::WorkLength);
     }
     if !e.cell.on_grid() {
-        return Inserted::Invalid;
+        return Err(Refusal::Invalid);
     }
-    let opened = open_known(m, known);
-    insert_opened(m, work, opened, e)
+    match open_known(m, known)? {
+        None => {
+            let done = insert_first(m, work, e);
+            fill_zeros(work);
+            Ok(done)
+        }
+        Some(root) => insert_in_tree(m, work, root.level, root.part, e),
+    }
 }

@@ -11,7 +11,7 @@ use Rattle.memory.specs.Layout.{entry_in, entries_in}
 use Rattle.memory.proofs.ReadingLaws.{entries_length}
 use Rattle.memory.proofs.PartImage.{no_entry}
 
-entries_at_lem : (p : List ℕ) (n i : ℕ) → i < n → get_or (entries_in p n) i no_entry ≡ entry_in p i
+pub entries_at_lem : (p : List ℕ) (n i : ℕ) → i < n → get_or (entries_in p n) i no_entry ≡ entry_in p i
 unfolding entries_in
 entries_at_lem p zero i h = absurd (omega arith)
 entries_at_lem p (suc n) i h = go (dec_lt i n) (entries_at_lem p n i)

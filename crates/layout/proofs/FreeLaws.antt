@@ -7,17 +7,13 @@ use native.Mathlib.Omega.{arith}
 use native.Mathlib.Nat.{pow-suc, div-div-eq-div-mul, mod-eq_of_lt, one-mul}
 use native.Mathlib.Decide.{ℕ_discrete}
 use borrow.Author.Tests.{eqb-true}
-use borrow.Rule.Slice.PartMut.{put_mid}
 use lib.Count.{ones, ones_step}
 use lib.Dec.{eqb}
-use lib.ListN.{length, get_or, set, take, drop, replicate, length-set, length-take}
+use lib.ListN.{length, get_or, set, take, length-set, length-take}
 use lib.Pow.{pow-lt}
 use lib.Seq.{get_or-set_same, get_or-set_other, get_or-take, take-set-lt, drop-set-lt}
 use Rattle.memory.specs.Layout.{part, in_use, ones_of, bits_set}
-use Rattle.memory.proofs.ReadingLaws.{part_length}
-use Rattle.layout.specs.PartSet.{without_bit, freed, UsedPart}
-use Rattle.layout.proofs.NodeLaws.{part_is}
-use Rattle.layout.proofs.PartSetLaws.{put_part}
+use Rattle.layout.specs.PartSet.{without_bit, UsedPart}
 
 -- bit s of a word
 abbrev bit : ℕ → ℕ → ℕ
@@ -145,12 +141,3 @@ module _ (m : List ℕ) (k : ℕ) (u : UsedPart m k) where
   pub bit_done : set m (k / 32) (get_or m (k / 32) 0 - 1 * 2 ^ (k % 32) % 2 ^ 32) ≡ without_bit m k
   unfolding without_bit
   bit_done = rw shift_is
-
-  -- part k of the memory without its bit was zeroed
-  pub free_done : (m₁ p : List ℕ) → m₁ ≡ without_bit m k → p ≡ replicate (length (take (64 + 128 * k + 128 - (64 + 128 * k)) (drop (64 + 128 * k) m₁))) 0
-      → put_mid (64 + 128 * k) (64 + 128 * k + 128 - (64 + 128 * k)) m₁ p ≡ freed m k
-  free_done m₁ p e f =
-      let l = cleared_length in
-      let n = u.ends in
-      let h : length (part m₁ k) ≡ 128 = part_length m₁ k (rw e (omega arith)) in
-      put_part m₁ k p ∙ rw (f, part_is m₁ k, h, e)

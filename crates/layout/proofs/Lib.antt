@@ -1,10 +1,8 @@
 pub mod ZeroLaws
-pub mod HeadLaws
 pub mod BitLaws
 pub mod NodeLaws
 pub mod PartLaws
 pub mod GapLists
-pub mod GapLoop
 pub mod GapLaws
 pub mod PartSetLaws
 pub mod FreeLaws
@@ -16,3 +14,4 @@ pub mod BesideLaws
 pub mod LoadedParts
 pub mod ReadNodes
 pub mod EntryRows
+pub mod EntryLists

@@ -1,11 +1,11 @@
 -- Nodes by value: with one more item they are the node of one more item, and their part is the image of a node with these items.
 use Prim.Native.Nat.{ℕ, suc, ◌+◌, ◌*◌, ◌-◌, ◌≤◌, ◌<◌}
 use mathlib.Core.Path.{◌≡◌, refl, sym, ap, ◌∙◌}
-use mathlib.Core.List.{List, [], ◌∷◌, ◌++◌, append_assoc, append-nil, flat_map}
+use mathlib.Core.List.{List, [], ◌∷◌, ◌++◌, append_assoc, flat_map}
 use mathlib.Core.Bool.{Bool}
 use native.Mathlib.Omega.{arith}
 use lib.ListN.{length, get_or, take, drop, set, replicate, length-append, length-replicate, replicate-append-replicate}
-use lib.Seq.{set-append_seam, append_snoc, take-take, get_or-take, get_or-drop}
+use lib.Seq.{set-append_seam, append_snoc, get_or-take, get_or-drop}
 use Rattle.polygons.proofs.ListLaws.{flat_map_append}
 use Rattle.geometry.specs.declared.rect.Cell.{Cell}
 use Rattle.geometry.specs.declared.rect.Rect.{Rect}
@@ -16,11 +16,11 @@ use Rattle.memory.specs.Image.{padded, entry_numbers, node_part}
 use Rattle.memory.proofs.PartImage.{length_padded, length_entries}
 use Rattle.layout.specs.declared.entry.Entry.{Entry}
 use Rattle.layout.specs.declared.node.Node.{Node}
+use Rattle.layout.proofs.NodeLaws.{rest_is}
 use Rattle.layout.specs.Nodes.{NodePart, child_in, count_at, child_at}
 use Rattle.layout.specs.Entries.{tree_entry}
 use Rattle.layout.specs.Items.{put_entry}
-use Rattle.layout.specs.Gap.{MovedDown}
-use Rattle.layout.specs.Loaded.{node_of, leaf_of, routing_of, node_in, child_among, entry_among, node_child, node_entry, with_entry, with_child, ItemOut}
+use Rattle.layout.specs.Loaded.{node_of, leaf_of, routing_of, node_in, child_among, entry_among, node_child, node_entry, with_entry, with_child}
 
 -- a node without items is a leaf without entries, and a routing node without children
 pub no_entries : node_of 0 [] ≡ leaf_of []
@@ -39,57 +39,16 @@ pub count_children : (ks : List ℕ) → (routing_of ks).count ≡ length ks
 unfolding routing_of node_of
 count_children ks = refl
 
--- the room that a node's items have
-pub entry_room : (n : Node) → n.count < 9 → length n.items ≡ 27 → 3 * (n.count + 1) ≤ length n.items
-entry_room n h l = omega arith
-
-pub entries_room : (n : Node) → n.count ≤ 8 → length n.items ≡ 27 → 3 * n.count + 3 ≤ length n.items
-entries_room n h l = omega arith
-
-pub children_room : (n : Node) → n.count ≤ 8 → length n.items ≡ 27 → 1 * n.count + 1 ≤ length n.items
-children_room n h l = omega arith
-
-pub items_long : (n : Node) → length n.items ≡ 27 → 27 ≤ length n.items
-items_long n l = omega arith
-
--- what the functions of a node by value make
-pub empty_is : record { count = 0; items = replicate 27 0 } ≡ node_of 0 []
-unfolding node_of padded
-empty_is = refl
-
-pub load_is : (p l : List ℕ) → length p ≡ 128 → l ≡ take 27 (take (length p - 66) (drop 66 p)) ++ drop 27 (replicate 27 0) → record { count = get_or p 1 0; items = l } ≡ node_in p
-unfolding node_in
-load_is p l h e =
-    let k : 27 ≤ length p - 66 = omega arith in
-    let f : l ≡ take 27 (drop 66 p) = e ∙ append-nil _ ∙ take-take 27 (length p - 66) (drop 66 p) k in
-    rw f
-
-pub node_of_lem : (m : List ℕ) (k : ℕ) (p : List ℕ) (n : Node) → p ≡ part m k → n ≡ node_in p → n ≡ node_in (part m k)
-node_of_lem m k p n e f = f ∙ ap node_in e
-
-pub child_here : (l : List ℕ) (i : ℕ) → get_or l i 0 ≡ child_among l i
-unfolding child_among
-child_here l i = refl
-
-pub cell_here : (l : List ℕ) (i : ℕ) → record { x = get_or l (3 * i) 0; y = get_or l (3 * i + 1) 0 } ≡ (entry_among l i).cell
-unfolding entry_among
-cell_here l i = refl
-
-pub entry_here : (l : List ℕ) (i : ℕ)
-    → tree_entry (record { cell = record { x = get_or l (3 * i) 0; y = get_or l (3 * i + 1) 0 }; tag = get_or l (3 * i + 2) 0 }) ≡ entry_among l i
-unfolding entry_among
-entry_here l i = refl
-
 pub entry_is : (n : Node) (e : CellEntry) (l : List ℕ) → l ≡ put_entry n.items n.count e → record { count = n.count + 1; items = l } ≡ with_entry n e
 unfolding with_entry
 entry_is n e l q = rw q
 
-pub child_is : (n : Node) (k : ℕ) → record { count = n.count + 1; items = set n.items n.count k } ≡ with_child n k
-unfolding with_child
-child_is n k = refl
-
-pub item_out : (w i : ℕ) (n : Node) (l : List ℕ) → MovedDown w (w * i) (w * n.count) n.items l → ItemOut w i n (record { count = n.count - 1; items = l })
-item_out w i n l v = record { count = refl; items = v }
+-- an entry of a part, among the numbers of its items
+pub entry_placed : (p : List ℕ) (i : ℕ) (e : Entry) → tree_entry e ≡ entry_among (take (length p - 66) (drop 66 p)) i → e.cell ≡ (entry_in p i).cell
+unfolding entry_among entry_in
+entry_placed p i e q =
+    let a : 66 + (3 * i + 1) ≡ 66 + 3 * i + 1 = omega arith in
+    ap (λ (x : CellEntry). x.cell) q ∙ rw (rest_is p, get_or-drop 66 p (3 * i) 0, get_or-drop 66 p (3 * i + 1) 0, a)
 
 -- What a loaded node has is what its part has.
 module _ (p : List ℕ) (n : Node) (q : n ≡ node_in p) where

@@ -2,12 +2,11 @@
 use Prim.Native.Nat.{ℕ, zero, suc, ◌+◌, ◌*◌, ◌-◌, ◌≤◌, ◌<◌}
 use mathlib.Core.Path.{◌≡◌, refl, sym, ap, ◌∙◌}
 use mathlib.Core.Bool.{true}
-use mathlib.Core.List.{List, [], ◌∷◌, ◌++◌, append-nil, flat_map}
+use mathlib.Core.List.{List, [], ◌∷◌, ◌++◌, flat_map}
 use native.Mathlib.Omega.{arith}
 use borrow.Author.Tests.{eqb-true}
-use borrow.Rule.Slice.PartMut.{put_mid}
 use lib.Dec.{eqb}
-use lib.ListN.{length, take, drop, get_or, set, replicate, length-append, length-set, length-take, length-drop, take-append-drop, drop_of_length-le}
+use lib.ListN.{length, take, drop, get_or, set, replicate, length-take, length-drop, take-append-drop}
 use lib.Seq.{take_all, take-add, drop-cons, drop-drop, get_or-drop}
 use Rattle.polygons.proofs.Booleans.{split_and}
 use Rattle.polygons.proofs.ListLaws.{flat_map_append}
@@ -19,9 +18,7 @@ use Rattle.memory.specs.Image.{padded, entry_numbers, node_part}
 use Rattle.memory.proofs.ReadingLaws.{zero_at}
 use Rattle.layout.specs.declared.node.Node.{Node}
 use Rattle.layout.specs.Loaded.{with_node}
-use Rattle.layout.specs.Parts.{PartPut, PartRoom}
 use Rattle.layout.proofs.GapLists.{zeros_of}
-use Rattle.layout.proofs.NodeStore.{part_put}
 
 -- a list of zeros
 zeros_are : (l : List ℕ) → all_zero l ≡ true → l ≡ replicate (length l) 0
@@ -55,7 +52,7 @@ three_at l j h =
     rw (e, f, drop-cons l j 0 a, drop-cons l (suc j) 0 b, drop-cons l (suc (suc j)) 0 c)
 
 -- the numbers of a leaf's entries are those of its part
-entries_numbers : (p : List ℕ) (n : ℕ) → 66 + 3 * n ≤ length p → flat_map entry_numbers (entries_in p n) ≡ take (3 * n) (drop 66 p)
+pub entries_numbers : (p : List ℕ) (n : ℕ) → 66 + 3 * n ≤ length p → flat_map entry_numbers (entries_in p n) ≡ take (3 * n) (drop 66 p)
 unfolding entries_in entry_in entry_numbers flat_map
 entries_numbers p zero h = refl
 entries_numbers p (suc n) h =
@@ -131,33 +128,3 @@ pub routing_image : (p : List ℕ) → length p ≡ 128 → rect_count p ≤ 16 
 routing_image p long few items rest =
     let e : item_count p ≡ 1 * item_count p = omega arith in
     part_image 1 p long few (omega arith) rest _ (ap (λ (j : ℕ). take j (drop 66 p)) e)
-
--- a part after the numbers of another were copied into it
-part_copied : (p q : List ℕ) → length p ≡ 128 → length q ≡ 128 → take 128 p ++ drop 128 q ≡ p
-part_copied p q h k =
-    let a : length p ≤ 128 = omega arith in
-    let b : length q ≤ 128 = omega arith in
-    ap (λ (z : List ℕ). z ++ drop 128 q) (take_all 128 p a) ∙ ap (λ (z : List ℕ). p ++ z) (drop_of_length-le q b) ∙ append-nil p
-
--- and after another node was stored in it
-pub node_copied : (p q q₁ r : List ℕ) (n : Node) → length p ≡ 128 → length q ≡ 128 → q₁ ≡ take 128 p ++ drop 128 q → r ≡ with_node q₁ n → r ≡ with_node p n
-node_copied p q q₁ r n h k e f = f ∙ ap (λ (z : List ℕ). with_node z n) (e ∙ part_copied p q h k)
-
--- the copies in the work area
-module _ (w : List ℕ) (next : ℕ) (p q : List ℕ) (room : PartRoom w next) (long : length p ≡ 128) where
-  pub copy_put : q ≡ take 128 p ++ drop 128 (take (64 + 128 * next + 128 - (64 + 128 * next)) (drop (64 + 128 * next) w))
-      → PartPut w next p (put_mid (64 + 128 * next) (64 + 128 * next + 128 - (64 + 128 * next)) w q)
-  copy_put e =
-      let f = room.fits in
-      let old : List ℕ = take (64 + 128 * next + 128 - (64 + 128 * next)) (drop (64 + 128 * next) w) in
-      let g : length old ≡ 128 = simp (length-take, length-drop) (omega arith) in
-      part_put w next p _ f long
-      (ap (λ (z : List ℕ). put_mid (64 + 128 * next) (64 + 128 * next + 128 - (64 + 128 * next)) w z) (e ∙ part_copied p old long g))
-
-  pub copied_put : (n : Node) → length n.items ≡ 27 → q ≡ with_node p n
-      → PartPut w next (with_node p n) (put_mid (64 + 128 * next) (64 + 128 * next + 128 - (64 + 128 * next)) w q)
-  unfolding with_node
-  copied_put n k e =
-      let f = room.fits in
-      let l : length (with_node p n) ≡ 128 = simp (length-set, length-append, length-take, length-drop) (omega arith) in
-      part_put w next (with_node p n) _ f l (ap (λ (z : List ℕ). put_mid (64 + 128 * next) (64 + 128 * next + 128 - (64 + 128 * next)) w z) e)

@@ -5,15 +5,11 @@ use mathlib.Core.List.{List, ◌++◌, append_assoc}
 use mathlib.Core.Logic.{◌≢◌}
 use native.Mathlib.Omega.{arith}
 use native.Mathlib.Decide.{dec_lt}
-use borrow.Rule.Slice.PartMut.{put_mid}
 use lib.ListN.{length, get_or, take, drop, take-append-drop, length-append, length-take, length-drop, get_or-append}
 use lib.Seq.{take_at, drop_at, take-append-le, drop-append-le, drop-append-add, drop-drop, length-take-le, get_or-take}
 use Rattle.memory.specs.Layout.{part, in_use, ones_of, bits_set}
 use Rattle.layout.specs.Nodes.{PartIn}
-use Rattle.layout.specs.declared.node.Node.{Node}
-use Rattle.layout.specs.Loaded.{with_node}
 use Rattle.layout.specs.PartSet.{set_part}
-use Rattle.layout.proofs.NodeLaws.{part_is}
 
 -- 128 numbers before the place where a memory changed
 front : (m z : List ℕ) (a b : ℕ) → b + 128 ≤ a → a ≤ length m → take 128 (drop b (take a m ++ z)) ≡ take 128 (drop b (take a m))
@@ -90,17 +86,3 @@ module _ (m : List ℕ) (k : ℕ) (p : List ℕ) (ends : PartIn m k) (size : len
       let l = length-take-le (64 + 128 * k) m (omega arith) in
       ap ones_of (take-append-le 8 (take (64 + 128 * k) m) _ (omega arith) ∙ sym (take-append-le 8 (take (64 + 128 * k) m) (drop (64 + 128 * k) m) (omega arith))
       ∙ ap (take 8) (take-append-drop (64 + 128 * k) m))
-
--- the memory when a part that was lent on is back
-pub put_part : (m : List ℕ) (k : ℕ) (p : List ℕ) → put_mid (64 + 128 * k) (64 + 128 * k + 128 - (64 + 128 * k)) m p ≡ set_part m k p
-unfolding set_part
-put_part m k p = let e : 64 + 128 * k + 128 - (64 + 128 * k) ≡ 128 = omega arith in ap (λ (n : ℕ). put_mid (64 + 128 * k) n m p) e
-
--- part k is lent on, and a node is stored in it
-pub node_set : (m : List ℕ) (k : ℕ) (n : Node) (p : List ℕ) → p ≡ with_node (take (64 + 128 * k + 128 - (64 + 128 * k)) (drop (64 + 128 * k) m)) n
-    → put_mid (64 + 128 * k) (64 + 128 * k + 128 - (64 + 128 * k)) m p ≡ set_part m k (with_node (part m k) n)
-node_set m k n p e = put_part m k p ∙ ap (set_part m k) (e ∙ ap (λ (q : List ℕ). with_node q n) (part_is m k))
-
--- part k is lent on, and comes back with other numbers
-pub part_replaced : (m : List ℕ) (k : ℕ) (p q : List ℕ) → p ≡ q → put_mid (64 + 128 * k) (64 + 128 * k + 128 - (64 + 128 * k)) m p ≡ set_part m k q
-part_replaced m k p q e = put_part m k p ∙ ap (set_part m k) e

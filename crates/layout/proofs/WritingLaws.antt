@@ -1,29 +1,14 @@
 -- The memory written from a work area is the image of its parts.
-use Prim.Native.Nat.{ℕ, ◌+◌, ◌*◌, ◌-◌, ◌%◌, ◌^◌, ◌≤◌, ◌<◌, min}
-use mathlib.Core.Path.{◌≡◌, sym, ap, ◌∙◌}
+use Prim.Native.Nat.{ℕ, zero, suc, ◌+◌, ◌*◌, ◌-◌, ◌≤◌}
+use mathlib.Core.Path.{◌≡◌, refl, sym, ap, ◌∙◌}
 use mathlib.Core.List.{List, [], ◌++◌, append_assoc, append-nil, flat_map}
 use native.Mathlib.Omega.{arith}
-use lib.Pow.{pow_pos}
 use lib.ListN.{length, take, drop, set, replicate, length-append, length-take, length-drop, drop_of_length-le}
 use lib.Seq.{take_at, take-add, drop_at, length-take-le}
 use Rattle.plane.specs.Best.{up_from}
 use Rattle.memory.specs.Image.{padded, bits_word, head_numbers, memory_of}
 use Rattle.memory.proofs.HeadImage.{head_length}
 use Rattle.layout.specs.Writing.{written}
-use Rattle.layout.proofs.FreeLaws.{shifted}
-
--- the bits of a word
-pub no_bits : (n j : ℕ) → n ≤ 32 * j → 0 ≡ bits_word n j
-unfolding bits_word
-no_bits n j h = let e : min 32 (n - 32 * j) ≡ 0 = omega arith in rw e
-
-pub all_bits : (n j : ℕ) → 32 ≤ n - 32 * j → 4294967295 ≡ bits_word n j
-unfolding bits_word
-all_bits n j h = let e : min 32 (n - 32 * j) ≡ 32 = omega arith in rw e
-
-pub some_bits : (n j : ℕ) → n - 32 * j < 32 → 2 ^ (n - 32 * j) - 1 ≡ bits_word n j
-unfolding bits_word
-some_bits n j h = let e : min 32 (n - 32 * j) ≡ n - 32 * j = omega arith in rw e
 
 -- The memory put together, first numbers first: the parts and the zeros take the place of what stood there.
 module _ (m w : List ℕ) (parts height : ℕ) (fits : 64 + 128 * parts ≤ length m) (long : length w ≡ length m) where
@@ -82,16 +67,23 @@ written_image N height ps w₀ w parts n s f e =
     let g : length (head_numbers parts height ++ all) ≡ 64 + 128 * parts = length-append (head_numbers parts height) all ∙ omega arith in
     rw (n, t, g) (sym (append_assoc (head_numbers parts height) all (replicate (64 + 128 * N - (64 + 128 * parts)) 0)))
 
--- the first 64 numbers, written one after another onto zeros
-pub head_put : (h : List ℕ) (n parts height a b c d e f g i : ℕ) → h ≡ replicate n 0 → n ≡ 64 → a ≡ bits_word parts 0 → b ≡ bits_word parts 1 → c ≡ bits_word parts 2 → d ≡ bits_word parts 3
-    → e ≡ bits_word parts 4 → f ≡ bits_word parts 5 → g ≡ bits_word parts 6 → i ≡ bits_word parts 7
-    → set (set (set (set (set (set (set (set (set (set h 0 a) 1 b) 2 c) 3 d) 4 e) 5 f) 6 g) 7 i) 8 height) 9 (parts - 1) ≡ head_numbers parts height
-unfolding head_numbers padded up_from
-head_put h n parts height a b c d e f g i z l a' b' c' d' e' f' g' i' = rw (z, l, a', b', c', d', e', f', g', i')
+-- a list after the first n words of bits were written to it
+pub words_put : ℕ → ℕ → List ℕ → List ℕ
+words_put parts zero h = h
+words_put parts (suc n) h = set (words_put parts n h) n (bits_word parts n)
 
--- a list of a length, whole
-take_all : (l : List ℕ) (n : ℕ) → length l ≡ n → take n l ≡ l
-take_all l n h = ap (take n) (sym (append-nil l)) ∙ take_at l [] n h
+pub words_none : (parts : ℕ) (h : List ℕ) → h ≡ words_put parts 0 h
+unfolding words_put
+words_none parts h = refl
+
+pub words_next : (parts j b : ℕ) (h l : List ℕ) → l ≡ words_put parts j h → b ≡ bits_word parts j → set l j b ≡ words_put parts (j + 1) h
+unfolding words_put
+words_next parts j b h l e f = let q : j + 1 ≡ suc j = omega arith in rw (e, f, q)
+
+-- the first 64 numbers, written one after another onto zeros
+pub head_put : (h : List ℕ) (parts height j : ℕ) → j ≡ 8 → h ≡ words_put parts j (replicate 64 0) → set (set h 8 height) 9 (parts - 1) ≡ head_numbers parts height
+unfolding head_numbers padded up_from words_put
+head_put h parts height j q e = rw (e, q)
 
 -- The three writes of the code, one after another.
 module _ (m w h mid z : List ℕ) (parts height : ℕ) (fits : 64 + 128 * parts ≤ length m) (long : length w ≡ length m) (head : h ≡ head_numbers parts height) where
@@ -110,26 +102,14 @@ module _ (m w h mid z : List ℕ) (parts height : ℕ) (fits : 64 + 128 * parts 
       let d = length-drop 64 m in
       length-append h (drop 64 m) ∙ omega arith
 
-  pub writes : mid ≡ take (stop - 64) (take (stop - 64) (drop 64 w)) ++ drop (stop - 64) (take (stop - 64) (drop 64 one))
-      → z ≡ replicate (length (take (length two - stop) (drop stop two))) 0
+  pub writes : mid ≡ take (stop - 64) (drop 64 w) → z ≡ replicate (length (take (length two - stop) (drop stop two))) 0
       → take stop two ++ (z ++ drop (length two - stop) (drop stop two)) ≡ written (length m) parts height w
   writes e f =
       let l = length_one in
       let from : List ℕ = take (stop - 64) (drop 64 w) in
-      let a : length from ≡ stop - 64 = simp (length-take, length-drop) (omega arith) in
-      let b : length (take (stop - 64) (drop 64 one)) ≤ stop - 64 = simp (length-take, length-drop) (omega arith) in
-      let g : mid ≡ from = e ∙ ap (λ (x : List ℕ). x ++ drop (stop - 64) (take (stop - 64) (drop 64 one))) (take_all from (stop - 64) a) ∙ ap (λ (x : List ℕ). from ++ x) (drop_of_length-le (take (stop - 64) (drop 64 one)) b) ∙ append-nil from in
       let i : one ≡ head_numbers parts height ++ drop 64 m = ap (λ (x : List ℕ). x ++ drop 64 m) head in
-      let j : two ≡ take 64 one ++ (from ++ drop (stop - 64) (drop 64 one)) = ap (λ (x : List ℕ). take 64 one ++ (x ++ drop (stop - 64) (drop 64 one))) g in
-      let n = length-drop stop two in
-      let k : length (take (length two - stop) (drop stop two)) ≡ length two - stop = length-take (length two - stop) (drop stop two) ∙ omega arith in
-      let o : drop (length two - stop) (drop stop two) ≡ [] = drop_of_length-le (drop stop two) {i = length two - stop} (omega arith) in
+      let j : two ≡ take 64 one ++ (from ++ drop (stop - 64) (drop 64 one)) = ap (λ (x : List ℕ). take 64 one ++ (x ++ drop (stop - 64) (drop 64 one))) e in
+      let k : length (take (length two - stop) (drop stop two)) ≡ length two - stop = simp (length-take, length-drop) (omega arith) in
+      let o : drop (length two - stop) (drop stop two) ≡ [] = drop_of_length-le (drop stop two) {i = length two - stop} (rw length-drop (omega arith)) in
       put_together m w parts height fits long one i two j (take stop two ++ (z ++ drop (length two - stop) (drop stop two)))
       (ap (λ (x : List ℕ). take stop two ++ (x ++ drop (length two - stop) (drop stop two))) (f ∙ ap (λ (y : ℕ). replicate y 0) k) ∙ ap (λ (x : List ℕ). take stop two ++ (replicate (length two - stop) 0 ++ x)) o)
-
--- a shift that stays within 32 bits
-pub bit_room : (n j : ℕ) → n - 32 * j < 32 → 1 ≤ 1 * 2 ^ (n - 32 * j) % 4294967296
-bit_room n j h = let e = shifted (n - 32 * j) h in let z = pow_pos (n - 32 * j) in omega arith
-
-pub low_bits : (n j : ℕ) → n - 32 * j < 32 → 1 * 2 ^ (n - 32 * j) % 4294967296 - 1 ≡ bits_word n j
-low_bits n j h = ap (λ (x : ℕ). x - 1) (shifted (n - 32 * j) h) ∙ some_bits n j h

@@ -7,6 +7,7 @@ use Rattle.memory.specs.Layout.{item_count}
 use Rattle.memory.specs.Image.{padded, entry_numbers}
 use Rattle.layout.specs.declared.node.Node.{Node}
 use Rattle.layout.specs.Gap.{MovedDown}
+use Rattle.layout.specs.Entries.{numbered}
 use Rattle.layout.specs.Items.{put_entry}
 
 -- a node of so many items with these numbers; zeros behind them
@@ -41,6 +42,13 @@ node_child n i = child_among n.items i
 
 abbrev pub node_entry : Node → ℕ → CellEntry
 node_entry n i = entry_among n.items i
+
+-- the entries of a leaf, and the children of a routing node
+abbrev pub node_entries : Node → List CellEntry
+node_entries n = numbered (take (3 * n.count) n.items)
+
+abbrev pub node_children : Node → List ℕ
+node_children n = take n.count n.items
 
 -- a part with the count and the items of a node; its polygon stays
 unfoldable pub with_node : List ℕ → Node → List ℕ

@@ -7,16 +7,11 @@ pub fn bits_set(m: &[u32]) -> u32
     requires { 8 ≤ length m.now }
     ensures { result ≡ bits_set m.now }
 {
-    let mut sum: u32 = 0;
-    let mut i: usize = 0;
-    while i < 8 {
-        sum += u32::count_ones(m[i]);
-        i += 1;
-    }
-    sum
+    m[..8].iter().map(|w| w.count_ones()).sum()
 }
 
 // Whether part k is in use.
+#[tactic(auto, unfolding(memory::specs::Layout::in_use))]
 pub fn in_use(m: &[u32], k: u32) -> bool
     requires in_bounds { 8 ≤ length m.now }
     requires k_bound { k < 256 }

@@ -8,9 +8,5 @@ pub fn move_down(list: &mut [u32], w: usize, from: usize, end: usize)
     requires w_in_bounds { end + w ≤ length list.old }
     ensures { MovedDown w from end list.old list.new }
 {
-    let mut at = from;
-    while at < end {
-        list[at] = list[at + w];
-        at += 1;
-    }
+    list.copy_within(from + w..end + w, from);
 }

@@ -7,21 +7,13 @@ use crate::numbers::{HEAD, HEAD_END, HEIGHT, MOST_PARTS, PART, ROOT};
 use crate::zeros::all_zero;
 
 // Whether the length is that of an index of 1 to 256 parts.
+#[tactic(auto, unfolding(memory::specs::Layout::is_index_length))]
 pub fn is_index_length(m: &[u32]) -> bool
     ensures { result ≡ is_index_length m.now }
 {
     let len = m.len();
-    if len < HEAD {
-        return false;
-    }
-    let n = (len - HEAD) / PART;
-    if len != HEAD + PART * n {
-        return false;
-    }
-    if n < 1 {
-        return false;
-    }
-    n <= MOST_PARTS
+    let n = len.saturating_sub(HEAD) / PART;
+    len == HEAD + PART * n && 1 <= n && n <= MOST_PARTS
 }
 
 // How many parts the memory has.

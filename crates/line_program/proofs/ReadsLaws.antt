@@ -13,10 +13,9 @@ use Rattle.memory.specs.Layout.{parts_of, is_index_length}
 use Rattle.memory.specs.Reading.{reading}
 use Rattle.memory.specs.TreeIn.{Reads}
 use Rattle.memory.proofs.ReadingLaws.{is_index_length_lem, index_length, zeros_zero, zeros_read}
+use Rattle.std.specs.Prelude.{Result, Ok, Err}
 use Rattle.answers.specs.declared.answer.Inserted.{Inserted}
-use Rattle.answers.specs.declared.answer.Inserted.TheVariants as I
-use Rattle.answers.specs.declared.answer.Removed.{Removed}
-use Rattle.answers.specs.declared.answer.Removed.TheVariants as R
+use Rattle.answers.specs.declared.answer.Refusal.{Refusal}
 use Rattle.answers.specs.Answers.{cleared}
 use Rattle.answers.specs.Changes.{inserted_index, InsertMemory, InsertCall, removed_index, RemoveMemory, RemoveCall}
 
@@ -32,34 +31,25 @@ reads_same : {m m' : List ℕ} → m' ≡ m → Reads m → Reads m'
 reads_same e v = record { index = v.index; reads = ap (reading fanout) e ∙ v.reads }
 
 -- an insertion leaves an index, accepted or refused
-inserted_reads : (m : List ℕ) (e : CellEntry) (m' : List ℕ) (r : Inserted) → InsertMemory r m e m' → Reads m → Reads m'
+inserted_reads : (m : List ℕ) (e : CellEntry) (m' : List ℕ) (r : Result Inserted Refusal) → InsertMemory r m e m' → Reads m → Reads m'
 unfolding inserted_index
-inserted_reads m e m' (I.Accepted n removed) p v = record {
+inserted_reads m e m' (Ok done) p v = record {
   index = outcome_index index_space v.index (insertion index_space index_root (parts_of m) v.index e);
   reads = p ∙ rw v.reads;
 }
-inserted_reads m e m' I.WrongLength p v = reads_same p v
-inserted_reads m e m' I.WorkLength p v = reads_same p v
-inserted_reads m e m' I.Invalid p v = reads_same p v
-inserted_reads m e m' I.NoSoundTree p v = reads_same p v
-inserted_reads m e m' I.Held p v = reads_same p v
-inserted_reads m e m' I.OverLimit p v = reads_same p v
-inserted_reads m e m' I.TooManyNodes p v = reads_same p v
+inserted_reads m e m' (Err r) p v = reads_same p v
 
-pub insert_reads : {m w : List ℕ} {e : CellEntry} {m' w' : List ℕ} {r : Inserted} → InsertCall m w e m' w' r → Reads m → Reads m'
+pub insert_reads : {m w : List ℕ} {e : CellEntry} {m' w' : List ℕ} {r : Result Inserted Refusal} → InsertCall m w e m' w' r → Reads m → Reads m'
 insert_reads {m} {w} {e} {m'} {w'} {r} h v = inserted_reads m e m' r h.memory v
 
 -- a removal leaves an index, accepted or refused
-removed_reads : (m : List ℕ) (c : Cell) (m' : List ℕ) (r : Removed) → RemoveMemory r m c m' → Reads m → Reads m'
+removed_reads : (m : List ℕ) (c : Cell) (m' : List ℕ) (r : Result ℕ Refusal) → RemoveMemory r m c m' → Reads m → Reads m'
 unfolding removed_index
-removed_reads m c m' (R.Accepted n) p v = record {
+removed_reads m c m' (Ok held) p v = record {
   index = outcome_index index_space v.index (removal index_space v.index c);
   reads = p ∙ rw v.reads;
 }
-removed_reads m c m' R.WrongLength p v = reads_same p v
-removed_reads m c m' R.Invalid p v = reads_same p v
-removed_reads m c m' R.NoSoundTree p v = reads_same p v
-removed_reads m c m' R.NotHeld p v = reads_same p v
+removed_reads m c m' (Err r) p v = reads_same p v
 
-pub remove_reads : {m : List ℕ} {c : Cell} {m' : List ℕ} {r : Removed} → RemoveCall m c m' r → Reads m → Reads m'
+pub remove_reads : {m : List ℕ} {c : Cell} {m' : List ℕ} {r : Result ℕ Refusal} → RemoveCall m c m' r → Reads m → Reads m'
 remove_reads {m} {c} {m'} {r} h v = removed_reads m c m' r h.memory v

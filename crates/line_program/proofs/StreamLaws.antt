@@ -8,12 +8,17 @@ use native.Mathlib.Decide.{dec_le}
 use lib.Dec.{eqb}
 use lib.ListN.{length, take, length-append, length-take}
 use lib.Seq.{take_all}
+use Rattle.std.specs.Prelude.{Option}
 use Rattle.commands.specs.declared.parsing.Command.{Command}
 use Rattle.commands.specs.Split.{put_first, split_at}
 use Rattle.commands.specs.Commands.{command_of}
-use Rattle.commands.proofs.SplitLoop.{join_first}
 use Rattle.commands.proofs.CommandReturns.{parse_long}
 use Rattle.line_program.specs.Stream.{lines_in, lines_of, commands_of, OnePiece}
+
+-- the pieces with some bytes put in front of the first
+unfoldable pub join_first : List ℕ → List (List ℕ) → List (List ℕ)
+join_first f [] = f ∷ []
+join_first f (p ∷ ps) = (f ++ p) ∷ ps
 
 -- there is always a piece
 pub record Pieces (sep : ℕ) (s : List ℕ) : Type 0 where
@@ -136,14 +141,14 @@ last_line b s e = rw e
 
 -- What is left of the input after some parts of it were read, of which kept is not answered yet: each further part is answered up to a rest
 -- without line feed, of which the first 81 bytes are kept; at the end of the input, what is kept is the last line.
-pub data Reads : List ℕ → List (List ℕ) → List Command → Type 0 where
+pub data Reads : List ℕ → List (List ℕ) → List (Option Command) → Type 0 where
   ends : (kept : List ℕ) → Reads kept [] (commands_of kept)
-  part : {parts : List (List ℕ)} {ds : List Command} (kept new rest : List ℕ) (cs : List Command)
+  part : {parts : List (List ℕ)} {ds : List (Option Command)} (kept new rest : List ℕ) (cs : List (Option Command))
       → ((more : List ℕ) → commands_of ((kept ++ new) ++ more) ≡ cs ++ commands_of (rest ++ more)) → OnePiece rest
       → Reads (take 81 rest) parts ds → Reads kept (new ∷ parts) (cs ++ ds)
 
 -- all that is answered are the commands of the whole input
-pub all_read : {kept : List ℕ} {parts : List (List ℕ)} {cs : List Command} → Reads kept parts cs → cs ≡ commands_of (kept ++ flatten parts)
+pub all_read : {kept : List ℕ} {parts : List (List ℕ)} {cs : List (Option Command)} → Reads kept parts cs → cs ≡ commands_of (kept ++ flatten parts)
 unfolding flatten
 all_read (ends kept) = ap commands_of (sym (append-nil kept))
 all_read (part {parts = ps} {ds = ds} kept new rest cs e o r) =

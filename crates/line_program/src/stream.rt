@@ -1,13 +1,14 @@
 // Lines taken from the bytes that were read so far.
-ghost use Rattle.std.specs.Prelude.{◌≡◌, ◌+◌, ◌*◌, ◌≤◌, min, length};
+ghost use Rattle.std.specs.Prelude.{◌+◌, ◌*◌, ◌≤◌, length};
 ghost use Rattle.line_program.specs.Response.{lent};
 ghost use Rattle.line_program.specs.Stream.{LinesAnswered, Kept};
 
 use crate::opening::is_index;
 use crate::response::respond;
-use commands::find_byte;
+use commands::{Output, find_byte};
 
-#[derive(Clone, Copy)]
+// How far the lines are answered. No Option: the numbers mean the same, whether a line is left or not.
+#[derive(Clone, Copy, Debug, PartialEq, Eq)]
 pub struct Progress {
     // where the first line that is not answered starts
     pub next: usize,
@@ -36,24 +37,24 @@ pub fn answer_lines(
         (lent m.new work.new list.new) out.new result }
 {
     let room = out.len() - (64 + 12 * list.len());
-    let mut next = from;
-    let mut written = 0;
     let known = is_index(m);
-    while written <= room {
+    let mut output = Output { bytes: out, at: 0 };
+    let mut next = from;
+    while output.at <= room {
         let end = find_byte(input, next, b'\n');
         if end == input.len() {
             return Progress {
                 next,
-                written,
+                written: output.at,
                 done: true,
             };
         }
-        written = respond(&input[next..end], m, work, list, out, written, known);
+        respond(&input[next..end], m, work, list, known, &mut output);
         next = end + 1;
     }
     Progress {
         next,
-        written,
+        written: output.at,
         done: false,
     }
 }
@@ -65,20 +66,7 @@ pub fn keep_rest(input: &mut [u8], from: usize, to: usize) -> usize
     requires to_in_bounds { to ≤ length input.old }
     ensures { Kept input.old from to input.new result }
 {
-    let n = kept_length(to - from);
-    let mut i = 0;
-    while i < n {
-        input[i] = input[from + i];
-        i += 1;
-    }
-    n
-}
-
-fn kept_length(n: usize) -> usize
-    ensures { result ≡ min 81 n }
-{
-    if 81 < n {
-        return 81;
-    }
-    n
+    let kept = (to - from).min(81);
+    input.copy_within(from..from + kept, 0);
+    kept
 }

@@ -3,33 +3,29 @@
 -- returned and the values stored (`made`), not of what a definition says that they should be.
 use Prim.Native.Nat.{ℕ, ◌≤◌}
 use mathlib.Core.Path.{◌≡◌, refl, ap, ◌∙◌}
-use mathlib.Core.List.{List, [], map}
+use mathlib.Core.Bool.{false, cond}
+use mathlib.Core.List.{List, [], ◌∷◌, map}
+use native.Mathlib.Omega.{arith}
+use lib.Dec.{eqb}
 use contract.Lifetimes.{Lfts}
 use borrow.Fn.Kinds.{ended_of}
 use denote.Triple.Clauses.{AtExit}
 use borrow.Fn.World.{ArgsD, ResD}
-use lib.ListN.{length}
+use lib.ListN.{length, get_or}
 use Rattle.geometry.specs.Cells.{cell_of, rect_of}
 use Rattle.tree.specs.Lists.{All}
 use Rattle.tree.specs.Calls.{insert_call, remove_call, clear_call, point_call, window_call, nearest_call, empty_call}
 use Rattle.tree.proofs.Lists.{all_of_map, all_any}
 use Rattle.plane.specs.Lines.{entry_of}
 use Rattle.answers.specs.Answers.{insert_answer, remove_answer, clear_answer, point_answer, window_answer, nearest_answer, empty_answer}
-use Rattle.answers.specs.Numbers.{insert_reply, remove_reply, clear_reply, point_reply, window_reply, nearest_reply, empty_reply}
+use Rattle.answers.specs.Numbers.{refusal_number, matches_told, accepts, point_values, insert_reply, remove_reply, clear_reply, point_reply, window_reply, nearest_reply, empty_reply}
 use Rattle.answers.specs.declared.answer.Inserted.{Inserted}
-use Rattle.answers.specs.declared.answer.Inserted.TheVariants as I
-use Rattle.answers.specs.declared.answer.Removed.{Removed}
-use Rattle.answers.specs.declared.answer.Removed.TheVariants as R
-use Rattle.answers.specs.declared.answer.Cleared.{Cleared}
-use Rattle.answers.specs.declared.answer.Cleared.TheVariants as C
+use Rattle.std.specs.Prelude.{Option, Some, None, Result, Ok, Err}
+use Rattle.answers.specs.declared.answer.Refusal.{Refusal}
 use Rattle.answers.specs.declared.answer.PointFound.{PointFound}
-use Rattle.answers.specs.declared.answer.PointFound.TheVariants as P
 use Rattle.answers.specs.declared.answer.WindowFound.{WindowFound}
-use Rattle.answers.specs.declared.answer.WindowFound.TheVariants as W
 use Rattle.answers.specs.declared.answer.NearestFound.{NearestFound}
-use Rattle.answers.specs.declared.answer.NearestFound.TheVariants as Near
 use Rattle.answers.specs.declared.answer.EmptyFound.{EmptyFound}
-use Rattle.answers.specs.declared.answer.EmptyFound.TheVariants as Empty
 use Rattle.history.specs.Calls.{Performed, fresh_memory, Linked}
 use Rattle.history.specs.Contract.{ByContract}
 use Rattle.history.specs.Claim.{HistoryClaim}
@@ -126,68 +122,59 @@ pub data Step : Type 0 where
   nearests : Nearest → Step
   empties : Emptiness → Step
 
+-- a refusal has a number, and tells the matches where that is 9
+refused : (r : Refusal) → eqb (refusal_number r) 0 ≡ false
+refused r = grind arith
+
+told : (r : Refusal) (before : ℕ) → cond (eqb (refusal_number r) 9) (get_or (matches_told r) 0 before ∷ []) [] ≡ matches_told r
+told r before = grind arith
+
 -- The number and the values stored are those of the answer: one law for each kind of call, by the cases of its answer.
-insert_tells : (r : Inserted) (n held removed held' removed' : ℕ) → n ≡ (insert_reply r).number
+insert_tells : (r : Result Inserted Refusal) (n held removed held' removed' : ℕ) → n ≡ (insert_reply r).number
     → held' ≡ stored (insert_reply r) 0 held → removed' ≡ stored (insert_reply r) 1 removed
     → insert_seen n held' removed' ≡ insert_reply r
-insert_tells (I.Accepted k x) n held removed held' removed' p q o = rw (p, q, o)
-insert_tells I.WrongLength n held removed held' removed' p q o = rw p
-insert_tells I.WorkLength n held removed held' removed' p q o = rw p
-insert_tells I.Invalid n held removed held' removed' p q o = rw p
-insert_tells I.NoSoundTree n held removed held' removed' p q o = rw p
-insert_tells I.Held n held removed held' removed' p q o = rw p
-insert_tells I.OverLimit n held removed held' removed' p q o = rw p
-insert_tells I.TooManyNodes n held removed held' removed' p q o = rw p
+insert_tells (Ok done) n held removed held' removed' p q o = rw (p, q, o)
+insert_tells (Err r) n held removed held' removed' p q o = rw (p, refused r)
 
-remove_tells : (r : Removed) (n held held' : ℕ) → n ≡ (remove_reply r).number → held' ≡ stored (remove_reply r) 0 held
+remove_tells : (r : Result ℕ Refusal) (n held held' : ℕ) → n ≡ (remove_reply r).number → held' ≡ stored (remove_reply r) 0 held
     → change_seen n held' ≡ remove_reply r
-remove_tells (R.Accepted k) n held held' p q = rw (p, q)
-remove_tells R.WrongLength n held held' p q = rw p
-remove_tells R.Invalid n held held' p q = rw p
-remove_tells R.NoSoundTree n held held' p q = rw p
-remove_tells R.NotHeld n held held' p q = rw p
+remove_tells (Ok k) n held held' p q = rw (p, q)
+remove_tells (Err r) n held held' p q = rw (p, refused r)
 
-clear_tells : (r : Cleared) (n held held' : ℕ) → n ≡ (clear_reply r).number → held' ≡ stored (clear_reply r) 0 held
+clear_tells : (r : Result ℕ Refusal) (n held held' : ℕ) → n ≡ (clear_reply r).number → held' ≡ stored (clear_reply r) 0 held
     → change_seen n held' ≡ clear_reply r
-clear_tells (C.Accepted k) n held held' p q = rw (p, q)
-clear_tells C.WrongLength n held held' p q = rw p
+clear_tells (Ok k) n held held' p q = rw (p, q)
+clear_tells (Err r) n held held' p q = rw (p, refused r)
 
-point_tells : (r : PointFound) (n held visits tag held' visits' tag' : ℕ) → n ≡ (point_reply r).number
+point_tells : (r : Result PointFound Refusal) (n held visits tag held' visits' tag' : ℕ) → n ≡ (point_reply r).number
     → held' ≡ stored (point_reply r) 0 held → visits' ≡ stored (point_reply r) 1 visits → tag' ≡ stored (point_reply r) 2 tag
     → point_seen n held' visits' tag' ≡ point_reply r
-point_tells (P.Held x y) n held visits tag held' visits' tag' p q a b = rw (p, q, a, b)
-point_tells (P.NotHeld y) n held visits tag held' visits' tag' p q a b = rw (p, q, a)
-point_tells P.WrongLength n held visits tag held' visits' tag' p q a b = rw p
-point_tells P.Invalid n held visits tag held' visits' tag' p q a b = rw p
-point_tells P.NoSoundTree n held visits tag held' visits' tag' p q a b = rw p
+point_tells (Ok found) n held visits tag held' visits' tag' p q a b = go found.tag q a b
+  where
+    go : (t : Option ℕ) → held' ≡ get_or (point_values t found.visits) 0 held → visits' ≡ get_or (point_values t found.visits) 1 visits
+        → tag' ≡ get_or (point_values t found.visits) 2 tag → point_seen n held' visits' tag' ≡ accepts (point_values t found.visits)
+    go (Some x) q a b = rw (p, q, a, b)
+    go None q a b = rw (p, q, a)
+point_tells (Err r) n held visits tag held' visits' tag' p q a b = rw (p, refused r)
 
-window_tells : (r : WindowFound) (n matches visits matches' visits' : ℕ) → n ≡ (window_reply r).number
+window_tells : (r : Result WindowFound Refusal) (n matches visits matches' visits' : ℕ) → n ≡ (window_reply r).number
     → matches' ≡ stored (window_reply r) 0 matches → visits' ≡ stored (window_reply r) 1 visits
     → window_seen n matches' visits' ≡ window_reply r
-window_tells (W.Found x y) n matches visits matches' visits' p q a = rw (p, q, a)
-window_tells W.WrongLength n matches visits matches' visits' p q a = rw p
-window_tells W.Invalid n matches visits matches' visits' p q a = rw p
-window_tells W.NoSoundTree n matches visits matches' visits' p q a = rw p
-window_tells (W.ShortList x) n matches visits matches' visits' p q a = rw (p, q)
+window_tells (Ok found) n matches visits matches' visits' p q a = rw (p, q, a)
+window_tells (Err r) n matches visits matches' visits' p q a = rw (p, q, refused r, told r matches)
 
-nearest_tells : (r : NearestFound) (n x y tag distance visits x' y' tag' distance' visits' : ℕ) → n ≡ (nearest_reply r).number
+nearest_tells : (r : Result NearestFound Refusal) (n x y tag distance visits x' y' tag' distance' visits' : ℕ) → n ≡ (nearest_reply r).number
     → x' ≡ stored (nearest_reply r) 0 x → y' ≡ stored (nearest_reply r) 1 y → tag' ≡ stored (nearest_reply r) 2 tag
     → distance' ≡ stored (nearest_reply r) 3 distance → visits' ≡ stored (nearest_reply r) 4 visits
     → nearest_seen n x' y' tag' distance' visits' ≡ nearest_reply r
-nearest_tells (Near.Found _ _ _ _ _) n x y tag distance visits x' y' tag' distance' visits' p a b d e f = rw (p, a, b, d, e, f)
-nearest_tells Near.WrongLength n x y tag distance visits x' y' tag' distance' visits' p a b d e f = rw p
-nearest_tells Near.Invalid n x y tag distance visits x' y' tag' distance' visits' p a b d e f = rw p
-nearest_tells Near.NoSoundTree n x y tag distance visits x' y' tag' distance' visits' p a b d e f = rw p
-nearest_tells Near.NothingHeld n x y tag distance visits x' y' tag' distance' visits' p a b d e f = rw p
+nearest_tells (Ok found) n x y tag distance visits x' y' tag' distance' visits' p a b d e f = rw (p, a, b, d, e, f)
+nearest_tells (Err r) n x y tag distance visits x' y' tag' distance' visits' p a b d e f = rw (p, refused r)
 
-empty_tells : (r : EmptyFound) (n empty visits empty' visits' : ℕ) → n ≡ (empty_reply r).number
+empty_tells : (r : Result EmptyFound Refusal) (n empty visits empty' visits' : ℕ) → n ≡ (empty_reply r).number
     → empty' ≡ stored (empty_reply r) 0 empty → visits' ≡ stored (empty_reply r) 1 visits
     → empty_seen n empty' visits' ≡ empty_reply r
-empty_tells (Empty.Empty _) n empty visits empty' visits' p q a = rw (p, q, a)
-empty_tells (Empty.Occupied _) n empty visits empty' visits' p q a = rw (p, q, a)
-empty_tells Empty.WrongLength n empty visits empty' visits' p q a = rw p
-empty_tells Empty.Invalid n empty visits empty' visits' p q a = rw p
-empty_tells Empty.NoSoundTree n empty visits empty' visits' p q a = rw p
+empty_tells (Ok found) n empty visits empty' visits' p q a = rw (p, q, a)
+empty_tells (Err r) n empty visits empty' visits' p q a = rw (p, refused r)
 
 -- What a step was handed, and what came of it: the lists and places as they were at the return, and the number returned.
 abbrev pub made : Step → Performed

@@ -3,10 +3,7 @@ ghost use Rattle.geometry.specs.Cells.{cell_of, rect_of};
 ghost use Rattle.plane.specs.Lines.{entry_of};
 ghost use Rattle.lintzoger.specs.Exports.{InsertExported, RemoveExported, ClearExported, PointExported, WindowExported, NearestExported, EmptyExported};
 
-use answers::{
-    Cleared, EmptyFound, Inserted, NearestFound, PointFound, Removed, WindowFound, clear_reply,
-    empty_reply, insert_reply, nearest_reply, point_reply, remove_reply, window_reply,
-};
+use answers::Refusal;
 use emptiness::is_empty;
 use geometry::{Cell, Rect};
 use insertion::insert;
@@ -33,17 +30,13 @@ pub extern "C" fn lintzoger_insert(
         cell: Cell { x, y },
         tag,
     };
-    let answer = insert(index, work, entry);
-    match answer {
-        Inserted::Accepted {
-            held: n,
-            removed: cells,
-        } => {
-            *held = n;
-            *removed = cells;
+    match insert(index, work, entry) {
+        Ok(done) => {
+            *held = done.held;
+            *removed = done.removed;
             0
         }
-        _ => insert_reply(answer).number,
+        Err(refusal) => refusal.number(),
     }
 }
 
@@ -52,13 +45,12 @@ pub extern "C" fn lintzoger_remove(index: &mut [u32], x: u32, y: u32, held: &mut
     ensures { RemoveExported index.old (cell_of x y) held.old result index.new
         held.new }
 {
-    let answer = remove(index, Cell { x, y });
-    match answer {
-        Removed::Accepted(n) => {
+    match remove(index, Cell { x, y }) {
+        Ok(n) => {
             *held = n;
             0
         }
-        _ => remove_reply(answer).number,
+        Err(refusal) => refusal.number(),
     }
 }
 
@@ -66,13 +58,12 @@ pub extern "C" fn lintzoger_remove(index: &mut [u32], x: u32, y: u32, held: &mut
 pub extern "C" fn lintzoger_clear(index: &mut [u32], held: &mut u32) -> u32
     ensures { ClearExported index.old held.old result index.new held.new }
 {
-    let answer = clear(index);
-    match answer {
-        Cleared::Accepted(n) => {
+    match clear(index) {
+        Ok(n) => {
             *held = n;
             0
         }
-        _ => clear_reply(answer).number,
+        Err(refusal) => refusal.number(),
     }
 }
 
@@ -89,20 +80,16 @@ pub extern "C" fn lintzoger_point(
         held.old visits.old tag.old result
         held.new visits.new tag.new }
 {
-    let answer = point(index, Cell { x, y });
-    match answer {
-        PointFound::Held { tag: t, visits: v } => {
-            *held = 1;
-            *visits = v;
-            *tag = t;
+    match point(index, Cell { x, y }) {
+        Ok(found) => {
+            *held = found.tag.is_some() as u32;
+            *visits = found.visits;
+            if let Some(t) = found.tag {
+                *tag = t;
+            }
             0
         }
-        PointFound::NotHeld { visits: v } => {
-            *held = 0;
-            *visits = v;
-            0
-        }
-        _ => point_reply(answer).number,
+        Err(refusal) => refusal.number(),
     }
 }
 
@@ -121,21 +108,18 @@ pub extern "C" fn lintzoger_window(
         list.old matches.old visits.old result
         list.new matches.new visits.new }
 {
-    let answer = window(index, Rect { llx, lly, urx, ury }, list);
-    match answer {
-        WindowFound::Found {
-            matches: m,
-            visits: v,
-        } => {
-            *matches = m;
-            *visits = v;
+    match window(index, Rect { llx, lly, urx, ury }, list) {
+        Ok(found) => {
+            *matches = found.matches;
+            *visits = found.visits;
             0
         }
-        WindowFound::ShortList { matches: m } => {
-            *matches = m;
-            window_reply(answer).number
+        Err(refusal) => {
+            if let Refusal::ShortList { matches: m } = refusal {
+                *matches = m;
+            }
+            refusal.number()
         }
-        _ => window_reply(answer).number,
     }
 }
 
@@ -155,23 +139,16 @@ pub extern "C" fn lintzoger_nearest(
         visits.old result
         near_x.new near_y.new tag.new distance.new visits.new }
 {
-    let answer = nearest(index, Cell { x, y });
-    match answer {
-        NearestFound::Found {
-            x: found_x,
-            y: found_y,
-            tag: found_tag,
-            distance: d,
-            visits: v,
-        } => {
-            *near_x = found_x;
-            *near_y = found_y;
-            *tag = found_tag;
-            *distance = d;
-            *visits = v;
+    match nearest(index, Cell { x, y }) {
+        Ok(found) => {
+            *near_x = found.x;
+            *near_y = found.y;
+            *tag = found.tag;
+            *distance = found.distance;
+            *visits = found.visits;
             0
         }
-        _ => nearest_reply(answer).number,
+        Err(refusal) => refusal.number(),
     }
 }
 
@@ -188,18 +165,12 @@ pub extern "C" fn lintzoger_is_empty(
     ensures { EmptyExported index.now (rect_of llx lly urx ury)
         empty.old visits.old result empty.new visits.new }
 {
-    let answer = is_empty(index, Rect { llx, lly, urx, ury });
-    match answer {
-        EmptyFound::Empty { visits: v } => {
-            *empty = 1;
-            *visits = v;
+    match is_empty(index, Rect { llx, lly, urx, ury }) {
+        Ok(found) => {
+            *empty = found.empty as u32;
+            *visits = found.visits;
             0
         }
-        EmptyFound::Occupied { visits: v } => {
-            *empty = 0;
-            *visits = v;
-            0
-        }
-        _ => empty_reply(answer).number,
+        Err(refusal) => refusal.number(),
     }
 }

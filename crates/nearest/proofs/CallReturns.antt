@@ -1,15 +1,11 @@
 -- The returns of the call.
 use Prim.Native.Nat.{ℕ, suc, ◌+◌, ◌≤◌}
 use mathlib.Core.Path.{◌≡◌, refl, sym, ap, ◌∙◌, subst}
-use mathlib.Core.Bool.{Bool, true, false, not}
 use mathlib.Core.List.{List}
 use mathlib.Core.Option.{Option, none, some, some-injective}
 use native.Mathlib.Omega.{arith}
-use borrow.Author.Tests.{not-true, not-false}
-use Rattle.polygons.proofs.Booleans.{not_both}
 use Rattle.geometry.specs.declared.rect.Cell.{Cell}
 use Rattle.geometry.specs.declared.rect.Rect.{Rect}
-use Rattle.geometry.specs.Cells.{on_grid}
 use Rattle.tree.specs.Nodes.{Item}
 use Rattle.tree.specs.Sound.{SoundItem}
 use Rattle.tree.specs.Nearest as N
@@ -18,37 +14,38 @@ use Rattle.tree.proofs.NearestWalk.{walk_nearest}
 use Rattle.plane.specs.Lines.{CellEntry}
 use Rattle.plane.specs.Fanout.{fanout, index_space, index_root}
 use Rattle.plane.proofs.Rects.{plane_space_laws}
-use Rattle.memory.specs.Layout.{is_index_length, root_in}
+use Rattle.memory.specs.Layout.{root_in}
 use Rattle.memory.specs.Reading.{reading, read_node}
 use Rattle.memory.specs.TreeIn.{TreeIn}
 use Rattle.memory.proofs.ReadingLaws.{read_as, read_sound}
 use Rattle.answers.specs.declared.answer.NearestFound.{NearestFound}
-use Rattle.answers.specs.declared.answer.NearestFound.TheVariants.{Found, WrongLength, Invalid, NoSoundTree, NothingHeld}
-use Rattle.answers.specs.Answers.{nearest_end, nearest_read, nearest_answer}
+use Rattle.answers.specs.declared.answer.Refusal.{Refusal}
+use Rattle.answers.specs.declared.answer.Refusal.TheVariants as R
+use Rattle.answers.specs.Answers.{nearest_end, nearest_read}
+use Rattle.soundness.specs.Open.{NoTree, OpenedAs}
 use Rattle.walks.specs.Walks.{any_polygon, any_entry, visits_below}
 use Rattle.walks.proofs.TreeWalk.{tree_walkable}
 use Rattle.walks.proofs.WalkRows.{visits_few}
-use Rattle.soundness.specs.declared.opening.Opened.{Opened}
-use Rattle.soundness.specs.declared.opening.Opened.TheVariants as O
-use Rattle.soundness.specs.Open.{OpenedAs}
+use Rattle.std.specs.Prelude.{Some, None, Result, Ok, Err}
+use Rattle.std.specs.Prelude as Code
+use Rattle.nearest.specs.declared.near.Candidate.{Candidate}
 use Rattle.nearest.specs.declared.near.Near.{Near}
-use Rattle.nearest.specs.Near.{MetBy, near_by, best_of, GoodNear, near_of, met_of}
+use Rattle.nearest.specs.Near.{MetBy, candidate, near_by, near_of, met_of}
 use Rattle.nearest.specs.Below.{walk_from, walk_below, near_below, NearWalk}
-use Rattle.nearest.proofs.NearMet.{best_near, visits_near, good_near}
 
--- nothing met is the same for every cell
-nothing_for : (c d : Cell) (v : ℕ) → near_by d none v ≡ near_by c none v
-unfolding near_by
-nothing_for c d v = refl
+-- the answer by the code's form
+abbrev candidate_found : Candidate → ℕ → NearestFound
+candidate_found k v =
+    record { x = k.entry.cell.x; y = k.entry.cell.y; tag = k.entry.tag; distance = k.distance; visits = v }
 
-pub nothing_good : (c d : Cell) (r : Near) → r ≡ near_by d none 0 → GoodNear c r
-nothing_good c d r e = good_near c r none 0 (e ∙ nothing_for c d 0)
+abbrev found_end : Code.Option Candidate → ℕ → Result NearestFound Refusal
+found_end None v = Err R.NothingHeld
+found_end (Some k) v = Ok (candidate_found k v)
 
-nothing_met : (c d : Cell) (r : Near) → r ≡ near_by d none 0 → met_of c r ≡ N.start index_space c
-nothing_met c d r e =
-    let b : best_of r ≡ none = ap best_of e ∙ best_near d none 0 in
-    let v : r.visits ≡ 0 = ap (λ (x : Near). x.visits) e ∙ visits_near d none 0 in
-    λ z. record { best = b z; entered = v z }
+found_is : (c : Cell) (o : Option CellEntry) (v : ℕ) → found_end (candidate c o) v ≡ nearest_end c o v
+unfolding nearest_end
+found_is c none v = refl
+found_is c (some e) v = refl
 
 -- every reading of a node is sound
 abbrev SoundAt : List ℕ → ℕ → ℕ → Type 0
@@ -76,9 +73,9 @@ module _ (m : List ℕ) (level root : ℕ) (x : TreeIn m level root) where
     sound = subst (λ (l : ℕ). SoundAt m l root) x.level_is (subst (SoundAt m x.tree.level) x.root_is root_sound);
   }
 
-  pub tree_room : (d : Cell) (r : Near) → r ≡ near_by d none 0 → r.visits + visits_below any_polygon level m 0 root ≤ 256
-  tree_room d r e =
-      let v : r.visits ≡ 0 = ap (λ (y : Near). y.visits) e ∙ visits_near d none 0 in
+  pub tree_room : (r : Near) → r ≡ record { best = None; visits = 0 } → r.visits + visits_below any_polygon level m 0 root ≤ 256
+  tree_room r e =
+      let v : r.visits ≡ 0 = ap (λ (y : Near). y.visits) e in
       let f = visits_few any_polygon any_entry level m 0 root (tree_walkable m level root x) in
       omega arith
 
@@ -87,10 +84,10 @@ module _ (m : List ℕ) (level root : ℕ) (x : TreeIn m level root) where
   unfolding walk_below walk_from
   whole_walk c w e = rw (e, ← x.level_is, ← x.root_is, (read_as fanout m x.tree x.reads).root_node)
 
-  module _ (c d : Cell) (n r : Near) (ni : n ≡ near_by d none 0) (e : r ≡ near_below c level m 0 root n) where
+  module _ (c : Cell) (n r : Near) (ni : n ≡ record { best = None; visits = 0 }) (e : r ≡ near_below c level m 0 root n) where
     result : r ≡ near_by c (best c) (entered c)
     result =
-        let w = whole_walk c (met_of c n) (nothing_met c d n ni) in
+        let w = whole_walk c (met_of c n) (ap (met_of c) ni) in
         let s = walk_nearest index_space (plane_space_laws fanout) c index_root (some x.tree) (read_sound fanout m x.tree x.reads).sound in
         e ∙ ap (near_of c) w ∙ ap (λ (o : Option CellEntry). near_by c o (entered c)) s
 
@@ -98,43 +95,24 @@ module _ (m : List ℕ) (level root : ℕ) (x : TreeIn m level root) where
     unfolding nearest_read
     read_is = rw x.reads
 
-    pub tree_nothing : r.found ≡ false → NothingHeld ≡ nearest_read c (reading fanout m)
-    unfolding near_by nearest_end
-    tree_nothing f = go (best c) (entered c) result f ∙ sym read_is
-      where
-        go : (o : Option CellEntry) (v : ℕ) → r ≡ near_by c o v → r.found ≡ false → NothingHeld ≡ nearest_end c o v
-        go none v q f = refl
-        go (some a) v q f = absurd (not_both true refl (sym (ap (λ (y : Near). y.found) q) ∙ f))
+    answer_is : found_end r.best r.visits ≡ nearest_read c (reading fanout m)
+    answer_is = ap (λ (y : Near). found_end y.best y.visits) result ∙ found_is c (best c) (entered c) ∙ sym read_is
 
-    pub tree_found : r.found ≡ true → Found r.x r.y r.tag r.distance r.visits ≡ nearest_read c (reading fanout m)
-    unfolding near_by nearest_end
-    tree_found f = go (best c) (entered c) result f ∙ sym read_is
-      where
-        go : (o : Option CellEntry) (v : ℕ) → r ≡ near_by c o v → r.found ≡ true → Found r.x r.y r.tag r.distance r.visits ≡ nearest_end c o v
-        go none v q f = absurd (not_both false (sym (ap (λ (y : Near). y.found) q) ∙ f) refl)
-        go (some a) v q f = ap (λ (y : Near). Found y.x y.y y.tag y.distance y.visits) q
+    pub tree_nothing : r.best ≡ None → Err R.NothingHeld ≡ nearest_read c (reading fanout m)
+    tree_nothing f = rw f at answer_is
 
-module _ (m : List ℕ) (c : Cell) (o : Opened) (p : OpenedAs m o) where
-  pub read_no_tree : o ≡ O.NoSoundTree → NoSoundTree ≡ nearest_read c (reading fanout m)
+    pub tree_found : (k : Candidate) → r.best ≡ Some k
+        → Ok (candidate_found k r.visits) ≡ nearest_read c (reading fanout m)
+    tree_found k f = rw f at answer_is
+
+-- what is answered where the memory reads as no tree, or as the empty index
+module _ (m : List ℕ) (c : Cell) where
+  pub read_no_tree : (r : Refusal) → NoTree m r → Err r ≡ nearest_read c (reading fanout m)
   unfolding nearest_read
-  read_no_tree q = let r : reading fanout m ≡ none = rw q at p in rw r
+  read_no_tree r p = rw (p.reason, p.reads)
 
-  pub read_empty : o ≡ O.Empty → NothingHeld ≡ nearest_read c (reading fanout m)
+  pub read_empty : OpenedAs m (Ok None) → Err R.NothingHeld ≡ nearest_read c (reading fanout m)
   unfolding nearest_read nearest_end
-  read_empty q = let r : reading fanout m ≡ some none = rw q at p in rw r
+  read_empty p = rw p
 
-pub answer_wrong_length : (m : List ℕ) (c : Cell) (b : Bool) → b ≡ is_index_length m → not b ≡ true → WrongLength ≡ nearest_answer m c
-unfolding nearest_answer
-answer_wrong_length m c b e f = rw (← e, not-true b f)
-
-module _ (m : List ℕ) (c : Cell) (e : is_index_length m ≡ true) (g : Bool) (h : g ≡ on_grid c) where
-  pub answer_off_grid : not g ≡ true → Invalid ≡ nearest_answer m c
-  unfolding nearest_answer
-  answer_off_grid k = rw (e, ← h, not-true g k)
-
-  pub answer_tested : not g ≡ false → (r : NearestFound) → r ≡ nearest_read c (reading fanout m) → r ≡ nearest_answer m c
-  unfolding nearest_answer
-  answer_tested k r q = rw (e, ← h, not-false g k) q
-
-pub grid_tested : (c : Cell) (g : Bool) → g ≡ on_grid c → not g ≡ false → on_grid c ≡ true
-grid_tested c g e f = sym e ∙ not-false g f
+pub ruleset without_tree = (read_no_tree, read_empty)

@@ -24,7 +24,7 @@ use Rattle.walks.proofs.WalkLoop.{AtChild, nothing_left, child_start, child_hit,
 use Rattle.nearest.specs.declared.near.Near.{Near}
 use Rattle.nearest.specs.Near.{MetBy, nearest_among, near_by, best_of, GoodNear, near_of, met_of, with_node, enters_near}
 use Rattle.nearest.specs.Below.{walk_below, near_below, NearWalk}
-use Rattle.nearest.proofs.NearMet.{good_near, met_near, good_entered, visits_entered, met_entered, enters_is}
+use Rattle.nearest.proofs.NearMet.{good_near, near_is, met_near, good_entered, met_entered, enters_is}
 use Rattle.nearest.proofs.NearRows.{walk_row, child_walk, row_walk, child_passed, child_entered, leaf_walk, node_walk, walk_bound}
 use Rattle.nearest.proofs.NearSound.{SoundRow, row_sound, first_sound, rest_sound, polygon_sound}
 
@@ -47,7 +47,7 @@ pub near_leaf : (c : Cell) (level : ℕ) (m : List ℕ) (lo k : ℕ) (met e r : 
     → r ≡ near_by c (nearest_among c (best_of e) (entries_in p (item_count p))) e.visits → r ≡ near_below c level m lo k met
 near_leaf c level m lo k met e r p z x good ei q h =
     let w = leaf_walk c m lo k (met_of c met) (subst (λ (n : ℕ). Walkable n m lo k) z x.walk) in
-    let t = met_entered c met e good ei in
+    let t = met_entered c met e ei in
     let b : best_of e ≡ best_of met = ap (λ (u : MetBy c). u.best) t in
     let v : e.visits ≡ suc met.visits = ap (λ (u : MetBy c). u.entered) t in
     h
@@ -92,7 +92,7 @@ module _ (c : Cell) (level : ℕ) (m : List ℕ) (lo k n : ℕ) (r₀ : Near) wh
         let w : met_of c r ≡ walk_row c (level - 1) m lo k (children_in (part m k)) (met_of c r₀)
         = sym (fold_none (level - 1) (to_branch index_space c (level - 1)) m low k (met_of c r))
         ∙ ap (λ (ks : List ℕ). walk_row c (level - 1) m low k ks (met_of c r)) (sym d) ∙ x.whole in
-        x.good ∙ ap (near_of c) (w ∙ whole_node level ne x.at.walkable met g e)
+        near_is c r x.good ∙ ap (near_of c) (w ∙ whole_node level ne x.at.walkable met g e)
       where
         whole_node : (level : ℕ) → (level ≡ 0 → ⊥) → Walkable level m lo k → (met : Near) → GoodNear c met → r₀ ≡ with_node met
             → walk_row c (level - 1) m lo k (children_in (part m k)) (met_of c r₀) ≡ walk_below c level m lo k (met_of c met)
@@ -100,7 +100,7 @@ module _ (c : Cell) (level : ℕ) (m : List ℕ) (lo k n : ℕ) (r₀ : Near) wh
         whole_node (suc l) ne y met g e =
             let q : suc l - 1 ≡ l = omega arith in
             ap (λ (a : ℕ). walk_row c a m lo k (children_in (part m k)) (met_of c r₀)) q
-            ∙ ap (walk_row c l m lo k (children_in (part m k))) (met_entered c met r₀ g e)
+            ∙ ap (walk_row c l m lo k (children_in (part m k))) (met_entered c met r₀ e)
             ∙ sym (node_walk c l m lo k (met_of c met) y)
 
     module _ (h : i < n) (j : ℕ) (g : j ≡ child_at m k i) where
@@ -140,12 +140,12 @@ module _ (c : Cell) (level : ℕ) (m : List ℕ) (lo k n : ℕ) (r₀ : Near) wh
 
       pub near_room : (met : Near) → GoodNear c met → r₀ ≡ with_node met → met.visits + visits_below any_polygon level m lo k ≤ 256
           → r.visits + visits_below any_polygon (level - 1) m low j ≤ 256
-      near_room met gm e q = let a = hit.visits in let d = x.few in let w = visits_entered c met r₀ gm e in omega arith
+      near_room met gm e q = let a = hit.visits in let d = x.few in let w = ap (λ (y : Near). y.visits) e in omega arith
 
       pub near_good : GoodNear c r
       near_good = x.good
 
-      module _ (d : ℕ) (di : d ≡ least_distance rect_distance c (polygon_in (part m j))) (b : Bool) (e : b ≡ enters_near r d) where
+      module _ (d : ℕ) (di : d ≡ least_distance rect_distance c (polygon_in (part m j))) (b : Bool) (e : b ≡ enters_near r.best d) where
         test : enters index_space c (polygon_in (part m j)) (best_of r) ≡ b
         test = enters_is c (polygon_in (part m j)) r d b x.good di e
 

@@ -1,11 +1,14 @@
 -- The nearest entry met so far and the nodes entered, as the code has them.
-use Rattle.std.specs.Prelude.{ℕ, ◌+◌, Bool, true, false, cond, not, ◌||◌, List, ◌≡◌, leb}
+use Rattle.std.specs.Prelude.{ℕ, ◌+◌, Bool, true, List, [], ◌∷◌, ◌≡◌, leb, Some, None, IfSome}
+use Rattle.std.specs.Prelude as Code
 use Rattle.std.proofs.Math.Option.{Option, none, some}
 use Rattle.geometry.specs.declared.rect.Cell.{Cell}
 use Rattle.distance.specs.Distance.{squared}
 use Rattle.tree.specs.Nearest.{or_nearer, nearest_of, Met}
 use Rattle.plane.specs.Lines.{CellEntry}
 use Rattle.plane.specs.Fanout.{index_space}
+use Rattle.layout.specs.Entries.{tree_entry}
+use Rattle.nearest.specs.declared.near.Candidate.{Candidate}
 use Rattle.nearest.specs.declared.near.Near.{Near}
 
 -- the nearest so far with one more entry, and with several
@@ -19,25 +22,30 @@ nearest_among c o es = nearest_of index_space c o es
 abbrev pub MetBy : Cell → Type 0
 MetBy c = Met index_space c
 
--- an entry, or none, and the nodes entered, as the code has them
-unfoldable pub near_by : Cell → Option CellEntry → ℕ → Near
-near_by c none v = record { found = false; distance = 0; x = 0; y = 0; tag = 0; visits = v }
-near_by c (some e) v = record {
-  found = true;
-  distance = squared c e.cell;
-  x = e.cell.x;
-  y = e.cell.y;
-  tag = e.tag;
-  visits = v;
-}
+-- a candidate's place in the order of the query: its distance, then its x, then its y
+abbrev pub rank_of : Candidate → List ℕ
+rank_of k = k.distance ∷ k.entry.cell.x ∷ k.entry.cell.y ∷ []
 
--- the entry that the code has
-unfoldable pub best_of : Near → Option CellEntry
-best_of r = cond r.found (some (record { cell = record { x = r.x; y = r.y }; tag = r.tag })) none
+-- an entry, or none, as the code has it: with its squared distance
+abbrev pub candidate : Cell → Option CellEntry → Code.Option Candidate
+candidate c none = None
+candidate c (some e) = Some (record { distance = squared c e.cell; entry = record { cell = e.cell; tag = e.tag } })
+
+-- the entry that the code has, if any
+abbrev pub candidate_entry : Code.Option Candidate → Option CellEntry
+candidate_entry None = none
+candidate_entry (Some k) = some (tree_entry k.entry)
+
+abbrev pub best_of : Near → Option CellEntry
+best_of r = candidate_entry r.best
+
+-- an entry, or none, and the nodes entered, as the code has them
+abbrev pub near_by : Cell → Option CellEntry → ℕ → Near
+near_by c o v = record { best = candidate c o; visits = v }
 
 -- the distance is that of the entry
 abbrev pub GoodNear : Cell → Near → Type 0
-GoodNear c r = r ≡ near_by c (best_of r) r.visits
+GoodNear c r = IfSome r.best (λ k. k.distance ≡ squared c k.entry.cell)
 
 -- from the definition's form to the code's, and back
 abbrev pub near_of : (c : Cell) → MetBy c → Near
@@ -47,16 +55,10 @@ abbrev pub met_of : (c : Cell) → Near → MetBy c
 met_of c r = record { best = best_of r; entered = r.visits }
 
 -- one more node is entered
-unfoldable pub with_node : Near → Near
-with_node r = record {
-  found = r.found;
-  distance = r.distance;
-  x = r.x;
-  y = r.y;
-  tag = r.tag;
-  visits = r.visits + 1;
-}
+abbrev pub with_node : Near → Near
+with_node r = record { best = r.best; visits = r.visits + 1 }
 
 -- 'no entry has been met yet or the least squared distance .. is at most the best so far'
-unfoldable pub enters_near : Near → ℕ → Bool
-enters_near r d = not r.found || leb d r.distance
+unfoldable pub enters_near : Code.Option Candidate → ℕ → Bool
+enters_near None d = true
+enters_near (Some k) d = leb d k.distance

@@ -13,7 +13,7 @@ use crate::leaf::nearest_in_leaf;
 use crate::near::Near;
 use distance::least_distance;
 use geometry::Cell;
-use layout::{child, node_at, part_at, rect_count, rects};
+use layout::{children_at, part_at, polygon_rects};
 
 // The least squared distance from the cell to a cell of the polygon at part k.
 fn polygon_distance(m: &[u32], k: u32, c: Cell) -> u64
@@ -21,8 +21,7 @@ fn polygon_distance(m: &[u32], k: u32, c: Cell) -> u64
     requires c_value { on_grid c ≡ true }
     ensures { result ≡ least_distance rect_distance c (polygon_in (part m.now k)) }
 {
-    let p = part_at(m, k);
-    least_distance(rects(p), rect_count(p) as usize, c)
+    least_distance(polygon_rects(m, k), c)
 }
 
 // The walk below the node at part k, which it enters, from what was met before. It enters a child if nothing was
@@ -38,18 +37,13 @@ pub fn nearest_below(m: &[u32], level: u32, lo: u32, k: u32, c: Cell, met: Near)
     if level == 0 {
         return nearest_in_leaf(part_at(m, k), c, entered);
     }
-    let node = node_at(m, k);
-    let n = node.count as usize;
     let mut best = entered;
     let mut low = lo;
-    let mut i = 0;
-    while i < n {
-        let j = child(&node.items, i);
-        if best.enters(polygon_distance(m, j, c)) {
-            best = nearest_below(m, level - 1, low, j, c, best);
+    for &part in children_at(m, k) {
+        if best.enters(polygon_distance(m, part, c)) {
+            best = nearest_below(m, level - 1, low, part, c, best);
         }
-        low = j + 1;
-        i += 1;
+        low = part + 1;
     }
     best
 }

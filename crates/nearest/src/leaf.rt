@@ -8,7 +8,7 @@ ghost use Rattle.nearest.specs.Near.{near_by, best_of, nearest_among, GoodNear};
 
 use crate::near::Near;
 use geometry::Cell;
-use layout::{Node, nth_entry};
+use layout::entries;
 
 // The nearest so far with the entries of a leaf's part.
 pub fn nearest_in_leaf(p: &[u32], c: Cell, met: Near) -> Near
@@ -19,13 +19,9 @@ pub fn nearest_in_leaf(p: &[u32], c: Cell, met: Near) -> Near
     ensures { result ≡ near_by c (nearest_among c (best_of met)
         (entries_in p.now (item_count p.now))) met.visits }
 {
-    let leaf = Node::load(p);
-    let n = leaf.count as usize;
     let mut best = met;
-    let mut i = 0;
-    while i < n {
-        best = best.with_entry(c, nth_entry(&leaf.items, i));
-        i += 1;
+    for e in entries(p) {
+        best = best.with_entry(c, e);
     }
     best
 }

@@ -1,77 +1,71 @@
 // What the walk for the nearest entry has met.
-ghost use Rattle.std.specs.Prelude.{◌≡◌, true, ◌≤◌};
-ghost use Rattle.std.proofs.Math.Option.{none};
+ghost use Rattle.std.specs.Prelude.{◌≡◌, true, ◌≤◌, None};
 ghost use Rattle.geometry.specs.Cells.{on_grid};
+ghost use Rattle.tree.specs.Order.{comes_before};
 ghost use Rattle.layout.specs.Entries.{tree_entry};
-ghost use Rattle.nearest.specs.Near.{near_by, best_of, one_more, GoodNear, with_node, enters_near};
+ghost use Rattle.nearest.specs.Near.{near_by, best_of, one_more, rank_of, GoodNear, with_node, enters_near};
 
 use distance::squared_distance;
 use geometry::Cell;
 use layout::Entry;
 
-// The nearest entry met so far, if any, its squared distance, and the nodes entered. Where none was met, the
-// other numbers are 0.
+// An entry and its squared distance.
+#[derive(Clone, Copy)]
+pub struct Candidate {
+    pub distance: u64,
+    pub entry: Entry,
+}
+
+impl Candidate {
+    // Whether it is nearer than another, or as near with a smaller x, then a smaller y.
+    #[tactic(auto, unfolding(tree::specs::Order::comes_before))]
+    fn is_before(self, other: Candidate) -> bool
+        ensures { result ≡ comes_before (rank_of self) (rank_of other) }
+    {
+        let a = self.entry.cell;
+        let b = other.entry.cell;
+        (self.distance, a.x, a.y) < (other.distance, b.x, b.y)
+    }
+}
+
+// The nearest entry met so far, if any, and the nodes entered.
 #[derive(Clone, Copy)]
 pub struct Near {
-    pub found: bool,
-    pub distance: u64,
-    pub x: u32,
-    pub y: u32,
-    pub tag: u32,
+    pub best: Option<Candidate>,
     pub visits: u32,
 }
 
 impl Near {
     // Nothing was met yet.
     pub fn nothing() -> Near
-        ensures { result ≡ near_by (record { x = 0; y = 0 }) none 0 }
+        ensures { result ≡ record { best = None; visits = 0 } }
     {
         Near {
-            found: false,
-            distance: 0,
-            x: 0,
-            y: 0,
-            tag: 0,
+            best: None,
             visits: 0,
         }
     }
 
     // With one more entry: it is taken if it is nearer, or as near with a smaller x, then a smaller y.
-    pub fn with_entry(self, c: Cell, e: Entry) -> Near
+    #[tactic(auto, unfolding(tree::specs::Nearest::or_nearer))]
+    pub fn with_entry(self, c: Cell, entry: Entry) -> Near
         requires c_value { on_grid c ≡ true }
-        requires cell_value { on_grid e.cell ≡ true }
+        requires cell_value { on_grid entry.cell ≡ true }
         requires good_near { GoodNear c self }
-        ensures { result ≡ near_by c (one_more c (best_of self) (tree_entry e)) self.visits }
+        ensures { result ≡ near_by c (one_more c (best_of self) (tree_entry entry)) self.visits }
     {
-        let at = e.cell;
-        let d = squared_distance(c, at);
-        let taken = Near {
-            found: true,
-            distance: d,
-            x: at.x,
-            y: at.y,
-            tag: e.tag,
-            visits: self.visits,
+        let met = Candidate {
+            distance: squared_distance(c, entry.cell),
+            entry,
         };
-        if !self.found {
-            return taken;
+        if self.best.is_none_or(|best| met.is_before(best)) {
+            Near {
+                best: Some(met),
+                visits: self.visits,
+            }
+        } else {
+            self
         }
-        if d < self.distance {
-            return taken;
-        }
-        if self.distance < d {
-            return self;
-        }
-        if at.x < self.x {
-            return taken;
-        }
-        if self.x < at.x {
-            return self;
-        }
-        if at.y < self.y {
-            return taken;
-        }
-        self
     }
 
     // One more node is entered.
@@ -79,18 +73,17 @@ impl Near {
         requires { self.visits ≤ 255 }
         ensures { result ≡ with_node self }
     {
-        let mut r = self;
-        r.visits = self.visits + 1;
-        r
+        Near {
+            best: self.best,
+            visits: self.visits + 1,
+        }
     }
 
     // Whether a child is entered whose polygon is at this least squared distance.
+    #[tactic(auto, unfolding(crate::specs::Near::enters_near))]
     pub fn enters(self, d: u64) -> bool
-        ensures { result ≡ enters_near self d }
+        ensures { result ≡ enters_near self.best d }
     {
-        if !self.found {
-            return true;
-        }
-        d <= self.distance
+        self.best.is_none_or(|best| d <= best.distance)
     }
 }

@@ -5,71 +5,56 @@ ghost use Rattle.plane.specs.Fanout.{fanout};
 ghost use Rattle.memory.specs.Reading.{reading};
 ghost use Rattle.memory.specs.TreeIn.{TreeIn, Known};
 ghost use Rattle.answers.specs.Answers.{nearest_read, nearest_answer};
-ghost use Rattle.soundness.specs.Open.{OpenedAs};
 
 use crate::below::nearest_below;
 use crate::near::Near;
-use answers::NearestFound;
+use answers::{NearestFound, Refusal};
 use geometry::Cell;
-use layout::is_index_length;
-use soundness::{Opened, open_known};
+use layout::{Entry, is_index_length};
+use soundness::open_known;
 
 // The nearest entry of the tree in a memory.
-fn nearest_in_tree(m: &[u32], level: u32, root: u32, c: Cell) -> NearestFound
+fn nearest_in_tree(m: &[u32], level: u32, root: u32, c: Cell) -> Result<NearestFound, Refusal>
     requires tree_in { TreeIn m.now level root }
     requires c_value { on_grid c ≡ true }
     ensures { result ≡ nearest_read c (reading fanout m.now) }
 {
     let near = nearest_below(m, level, 0, root, c, Near::nothing());
-    if !near.found {
+    let Some(best) = near.best else {
         // not reached: a sound tree holds an entry
-        return NearestFound::NothingHeld;
-    }
-    NearestFound::Found {
-        x: near.x,
-        y: near.y,
-        tag: near.tag,
-        distance: near.distance,
+        return Err(Refusal::NothingHeld);
+    };
+    let Entry { cell, tag } = best.entry;
+    Ok(NearestFound {
+        x: cell.x,
+        y: cell.y,
+        tag,
+        distance: best.distance,
         visits: near.visits,
-    }
-}
-
-// The nearest entry of an opened memory, the cell tested.
-fn nearest_opened(m: &[u32], opened: Opened, c: Cell) -> NearestFound
-    requires opened_as { OpenedAs m.now opened }
-    requires c_value { on_grid c ≡ true }
-    ensures { result ≡ nearest_read c (reading fanout m.now) }
-{
-    match opened {
-        Opened::NoSoundTree => {
-            return NearestFound::NoSoundTree;
-        }
-        Opened::Empty => {
-            return NearestFound::NothingHeld;
-        }
-        Opened::Tree { level, root } => {
-            return nearest_in_tree(m, level, root, c);
-        }
-    }
+    })
 }
 
 // The entry nearest the cell, its squared distance, and the nodes that the walk enters.
-pub fn nearest(m: &[u32], c: Cell) -> NearestFound
+pub fn nearest(m: &[u32], c: Cell) -> Result<NearestFound, Refusal>
     ensures { result ≡ nearest_answer m.now c }
 {
     nearest_known(m, false, c)
 }
 
 // The same; a memory that is known to read as an index is not tested.
-pub fn nearest_known(m: &[u32], known: bool, c: Cell) -> NearestFound
+#[tactic(auto, using(crate::proofs::CallReturns::without_tree), unfolding(answers::specs::Answers::nearest_answer))]
+pub fn nearest_known(m: &[u32], known: bool, c: Cell) -> Result<NearestFound, Refusal>
     requires { Known m.now known }
     ensures { result ≡ nearest_answer m.now c }
 {
     if !is_index_length(m) {
-        return NearestFound::WrongLength;
+        return Err(Refusal::WrongLength);
     }
     if !c.on_grid() {
-        return NearestFound::Invalid;
+        return Err(Refusal::Invalid);
     }
-    nearest_opened(m, open_known(m, known), c)
+    match open_known(m, known)? {
+        None => Err(Refusal::NothingHeld),
+        Some(root) => nearest_in_tree(m, root.level, root.part, c),
+    }
 }

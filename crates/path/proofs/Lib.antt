@@ -1,4 +1,1 @@
-pub mod ReadLaws
-pub mod SameLaws
 pub mod PutLaws
-pub mod NodePutLaws

@@ -1,2 +1,2 @@
+pub mod Level
 pub mod Path
-pub mod Puts

@@ -1,36 +1,51 @@
--- The path of an insertion, from the root down to the leaf that gets the entry, in a lent list: some numbers for each
--- level, a level being the number of steps down to the leaf. Number 0 is the part of the node on the path, number 1
--- the place of the branch gone to among its branches, number 2 the line that splits the node (0 where it is not
--- split), number 3 the count of its polygon's rectangles, as grown in this insertion, and from number 4 on stand the
--- rectangles, at most 16.
-use Rattle.std.specs.Prelude.{ℕ, ◌+◌, ◌*◌, ◌≤◌, List, length, drop, get_or}
+-- The path of an insertion, from the root down to the leaf that gets the entry: a level for each of its nodes, a level
+-- being the number of steps down to the leaf.
+use native.Mathlib.Omega.{arith}
+use Rattle.std.specs.Prelude.{ℕ, ◌<◌, ◌≤◌, List, [], Option, None, length, get_or, ◌≡◌}
+use Rattle.geometry.specs.declared.rect.Line.{Line}
 use Rattle.geometry.specs.declared.rect.Rect.{Rect}
-use Rattle.geometry.specs.Numbers.{rects_in}
+use Rattle.geometry.specs.Numbers.{rects_of}
+use Rattle.path.specs.declared.level.Level.{Level}
 
--- how many numbers a level has
-abbrev pub level_numbers : ℕ
-level_numbers = 68
+-- what is read where the path has no such level
+abbrev pub no_level : Level
+no_level = record { part = 0; place = 0; line = None; polygon = record { rects = []; count = 0; few = omega arith } }
 
--- the numbers of a level of the path
-unfoldable pub part_on : List ℕ → ℕ → ℕ
-part_on path n = get_or path (level_numbers * n) 0
+abbrev pub level_on : List Level → ℕ → Level
+level_on path n = get_or path n no_level
 
-unfoldable pub place_on : List ℕ → ℕ → ℕ
-place_on path n = get_or path (level_numbers * n + 1) 0
+-- the part of the node on the path at a level
+abbrev pub part_on : List Level → ℕ → ℕ
+part_on path n = (level_on path n).part
 
-unfoldable pub line_on : List ℕ → ℕ → ℕ
-line_on path n = get_or path (level_numbers * n + 2) 0
+-- the place among its branches of the one gone to
+abbrev pub place_on : List Level → ℕ → ℕ
+place_on path n = (level_on path n).place
 
-unfoldable pub rect_count_on : List ℕ → ℕ → ℕ
-rect_count_on path n = get_or path (level_numbers * n + 3) 0
+-- the line that splits it
+abbrev pub line_on : List Level → ℕ → Option Line
+line_on path n = (level_on path n).line
 
-unfoldable pub polygon_on : List ℕ → ℕ → List Rect
-polygon_on path n = rects_in (drop (level_numbers * n + 4) path) (rect_count_on path n)
+-- its polygon, as grown
+abbrev pub polygon_on : List Level → ℕ → List Rect
+polygon_on path n = rects_of (level_on path n).polygon
 
--- the list has the numbers of a level
-abbrev pub HasLevel : ℕ → List ℕ → Type 0
-HasLevel n path = level_numbers * n + level_numbers ≤ length path
+-- how many rectangles that has
+abbrev pub rect_count_on : List Level → ℕ → ℕ
+rect_count_on path n = (level_on path n).polygon.count
 
--- the polygon of a level has no more rectangles than the level has room for
-abbrev pub FewRects : ℕ → List ℕ → Type 0
+-- the path has the level
+abbrev pub HasLevel : ℕ → List Level → Type 0
+HasLevel n path = n < length path
+
+-- the polygon of the level has no more rectangles than a polygon has room for
+abbrev pub FewRects : ℕ → List Level → Type 0
 FewRects n path = rect_count_on path n ≤ 16
+
+-- the level j of two paths is the same
+abbrev pub SameLevel : ℕ → List Level → List Level → Type 0
+SameLevel j path path' = level_on path' j ≡ level_on path j
+
+-- every level above the level n is the same
+abbrev pub SameAbove : ℕ → List Level → List Level → Type 0
+SameAbove n path path' = (j : ℕ) → n < j → SameLevel j path path'

@@ -1,14 +1,29 @@
-// The layout of a level of the path (docs/LAYOUT.md).
+// A level of the path.
+ghost use Rattle.std.specs.Prelude.{◌≡◌};
+ghost use Rattle.path.specs.Level.{level_of};
 
-// How many numbers the path has for each level. The first of them is the part of the node.
-pub const LEVEL_NUMBERS: usize = 68;
+use geometry::{Line, Polygon};
 
-// Where a level has the place of the branch gone to, the number of the line that splits the node, and how many
-// rectangles the node's polygon has; and where these start.
-pub const PLACE: usize = 1;
+// The node on the path at a level: its part, the place among its branches of the one gone to, the line that splits it,
+// None where it is not split, and its polygon, as grown.
+#[derive(Clone, Copy)]
+pub struct Level {
+    pub part: u32,
+    pub place: u32,
+    pub line: Option<Line>,
+    pub polygon: Polygon,
+}
 
-pub const LINE: usize = 2;
-
-pub const RECT_COUNT: usize = 3;
-
-pub const RECTS: usize = 4;
+impl Level {
+    // The level of a node that is not split so far, and from which the path does not go on so far.
+    pub fn of(part: u32, polygon: Polygon) -> Level
+        ensures { result ≡ level_of part polygon }
+    {
+        Level {
+            part,
+            place: 0,
+            line: None,
+            polygon,
+        }
+    }
+}

@@ -1,10 +1,7 @@
-// The path of an insertion in its lent list: the numbers of each level, read and written (docs/LAYOUT.md).
+// The path of an insertion, from the root down to the leaf that gets the entry: a level for each of its nodes, a level
+// being the number of steps down to the leaf.
 #![tactic(auto)]
 
 mod level;
-mod reading;
-mod writing;
 
-pub use level::LEVEL_NUMBERS;
-pub use reading::{line_on, part_on, place_on, polygon_on};
-pub use writing::{put_line_on, put_node_on, put_place_on};
+pub use level::Level;

@@ -1,12 +1,10 @@
 -- The path of the point query's walk: a step down to the child that has the cell, the end where none has it, the loop
 -- over the levels.
-use Prim.Native.Nat.{ℕ, zero, suc, ◌+◌, ◌-◌, ◌≤◌, ◌<◌}
-use mathlib.Core.Path.{◌≡◌, refl, sym, ◌∙◌}
+use Prim.Native.Nat.{ℕ, suc, ◌+◌, ◌-◌, ◌≤◌, ◌<◌}
+use mathlib.Core.Path.{◌≡◌, sym, ◌∙◌}
 use mathlib.Core.Bool.{true, false}
 use mathlib.Core.List.{List, []}
 use native.Mathlib.Omega.{arith}
-use mir.Syntax.{w32}
-use mir.Val.{Fits}
 use lib.ListN.{get_or}
 use Rattle.geometry.specs.declared.rect.Cell.{Cell}
 use Rattle.tree.specs.Lists.{All}
@@ -15,14 +13,15 @@ use Rattle.tree.proofs.OneBranch.{visits_one, entries_one, visits_none, entries_
 use Rattle.plane.specs.Fanout.{index_space}
 use Rattle.memory.specs.Layout.{part, children_in}
 use Rattle.layout.specs.Nodes.{count_at, NodePart}
-use Rattle.walks.specs.declared.child.ChildFound.{ChildFound}
-use Rattle.walks.specs.declared.child.ChildFound.TheVariants.{Child, NoChild}
+use Rattle.walks.specs.declared.child.Child.{Child}
 use Rattle.walks.specs.Walks.{has_test, cell_test, visits_from, visits_below, entries_from, entries_below, held_below, leaf_entries, Walkable, SoundWalk}
 use Rattle.walks.specs.Children.{Children, NoneBefore, FirstChild, ChildIs}
 use Rattle.walks.proofs.ChildLaws.{blank, branch_count, in_branches, child_is, child_reads, child_polygon, child_sound_walk, children_of}
 use Rattle.walks.proofs.WalkRows.{leaf_visits, leaf_entries_lem, node_part_lem, visits_few}
-use Rattle.queries.specs.declared.point_query.Found.{Found}
-use Rattle.queries.specs.Point.{found, found_of}
+use Rattle.std.specs.Prelude.{Option, Some, None}
+use Rattle.answers.specs.declared.answer.PointFound.{PointFound}
+use Rattle.answers.specs.Answers.{point_end}
+use Rattle.queries.specs.Point.{found}
 
 -- from a sound node
 module _ (c : Cell) (n : ℕ) (m : List ℕ) (lo k : ℕ) (v : SoundWalk (suc n) m lo k) where
@@ -66,77 +65,97 @@ module _ (c : Cell) (n : ℕ) (m : List ℕ) (lo k : ℕ) (v : SoundWalk (suc n)
     end_entries = rw v.walk.reads
         (entries_none index_space (has_test c) (cell_test c) n v.walk.node.child none_has)
 
--- The walk from part k came to part p, with so many levels left below it and so many visits, that of p among them.
-pub record OnPath (c : Cell) (level : ℕ) (m : List ℕ) (lo k remaining from p visits : ℕ) : Type 0 where
-  pub walk : SoundWalk remaining m from p
-  pub visits_are : visits + visits_below (has_test c) remaining m from p ≡ 1 + visits_below (has_test c) level m lo k
-  pub entries_are : held_below c remaining m from p ≡ held_below c level m lo k
+-- The walk from part k came to part p, so many levels below it: as many nodes were entered before p.
+pub record OnPath (c : Cell) (level : ℕ) (m : List ℕ) (lo k depth from p : ℕ) : Type 0 where
+  pub inside : depth ≤ level
+  pub walk : SoundWalk (level - depth) m from p
+  pub visits_are : depth + visits_below (has_test c) (level - depth) m from p ≡ visits_below (has_test c) level m lo k
+  pub entries_are : held_below c (level - depth) m from p ≡ held_below c level m lo k
   pub few : visits_below (has_test c) level m lo k ≤ 256
 
 module _ (c : Cell) (level : ℕ) (m : List ℕ) (lo k : ℕ) where
-  pub path_start : SoundWalk level m lo k → OnPath c level m lo k level lo k 1
-  path_start v = record {
-    walk = v;
-    visits_are = refl;
-    entries_are = refl;
-    few = visits_few (has_test c) (cell_test c) level m lo k v.walk;
-  }
+  pub path_start : SoundWalk level m lo k → OnPath c level m lo k 0 lo k
+  path_start v =
+      let z : level - 0 ≡ level = omega arith in
+      let a : 0 + visits_below (has_test c) level m lo k ≡ visits_below (has_test c) level m lo k = omega arith in
+      record {
+        inside = omega arith;
+        walk = rw z v;
+        visits_are = rw z a;
+        entries_are = rw z;
+        few = visits_few (has_test c) (cell_test c) level m lo k v.walk;
+      }
 
-  pub path_children : (remaining from p visits : ℕ) → OnPath c level m lo k remaining from p visits → 0 < remaining → Children m p
-  path_children zero from p visits x h = absurd (omega arith)
-  path_children (suc n) from p visits x h = children_of n m from p x.walk
+  module _ (depth from p : ℕ) (x : OnPath c level m lo k depth from p) where
+    -- above the leaves
+    module _ (h : depth < level) where
+      abbrev left : ℕ
+      left = level - (depth + 1)
 
-  pub path_fits : (remaining from p visits : ℕ) → OnPath c level m lo k remaining from p visits → Fits w32 (visits + 1)
-  path_fits remaining from p visits x =
-      let a = x.visits_are in
-      let b = x.few in
-      omega arith
+      one_less : level - depth ≡ suc left
+      one_less = omega arith
 
-  pub path_next : (remaining from p visits : ℕ) → OnPath c level m lo k remaining from p visits → 0 < remaining → (r : ChildFound)
-      → ChildIs m from p c r
-      → (i low j : ℕ) → r ≡ Child i low j → OnPath c level m lo k (remaining - 1) low j (visits + 1)
-  path_next zero from p visits x h r w i low j e = absurd (omega arith)
-  path_next (suc n) from p visits x h r w i low j e =
-      let q : FirstChild m from p c i low j = rw e at w in
-      let z : suc n - 1 ≡ n = omega arith in
-      let a = x.visits_are in
-      let b = step_visits c n m from p x.walk i low j q in
-      rw z (record {
-        walk = step_walk c n m from p x.walk i low j q;
-        visits_are = omega arith;
-        entries_are = sym (step_entries c n m from p x.walk i low j q) ∙ x.entries_are;
-        few = x.few;
-      })
+      here : SoundWalk (suc left) m from p
+      here = rw one_less at x.walk
 
-  pub path_none : (remaining from p visits : ℕ) → OnPath c level m lo k remaining from p visits → 0 < remaining → (r : ChildFound)
-      → ChildIs m from p c r → r ≡ NoChild
-      → record { held = false; tag = 0; visits = visits }
-      ≡ found (held_below c level m lo k) (visits_below (has_test c) level m lo k)
-  unfolding found found_of
-  path_none zero from p visits x h r w e = absurd (omega arith)
-  path_none (suc n) from p visits x h r w e =
-      let q : NoneBefore m p c (count_at m p) = rw e at w in
-      let a = x.visits_are in
-      let b = end_visits c n m from p x.walk q in
-      let s : visits ≡ visits_below (has_test c) level m lo k = omega arith in
-      rw (← x.entries_are, end_entries c n m from p x.walk q, ← s)
+      visits_here : depth + visits_below (has_test c) (suc left) m from p ≡ visits_below (has_test c) level m lo k
+      visits_here = rw one_less at x.visits_are
 
-  -- the last node of the path is a leaf
-  module _ (remaining from p visits : ℕ) (x : OnPath c level m lo k remaining from p visits) (z : remaining ≤ 0) (l : List ℕ)
-      (l_is : l ≡ part m p) where
-    at_leaf : Walkable 0 m from p
-    at_leaf = let e : remaining ≡ 0 = omega arith in rw e at x.walk.walk
+      entries_here : held_below c (suc left) m from p ≡ held_below c level m lo k
+      entries_here = rw one_less at x.entries_are
 
-    pub path_part : NodePart l
-    path_part = node_part_lem 0 m from p at_leaf l l_is
+      pub path_children : Children m p
+      path_children = children_of left m from p here
 
-    pub path_leaf : (r : Found) → r ≡ found (leaf_entries (cell_test c) l) visits
-        → r ≡ found (held_below c level m lo k) (visits_below (has_test c) level m lo k)
-    path_leaf r e =
-        let q : remaining ≡ 0 = omega arith in
-        let a : visits + visits_below (has_test c) 0 m from p
-        ≡ 1 + visits_below (has_test c) level m lo k = rw q at x.visits_are in
-        let b = leaf_visits (has_test c) (cell_test c) m from p at_leaf in
-        let d : held_below c 0 m from p ≡ held_below c level m lo k = rw q at x.entries_are in
-        let s : visits ≡ visits_below (has_test c) level m lo k = omega arith in
-        e ∙ rw (← d, leaf_entries_lem (has_test c) (cell_test c) m from p at_leaf, ← l_is, ← s)
+      pub path_next : (r : Option Child) → ChildIs m from p c r → (b : Child) → r ≡ Some b
+          → OnPath c level m lo k (depth + 1) b.low b.part
+      path_next r w d e =
+          let i = d.at in
+          let low = d.low in
+          let j = d.part in
+          let q : FirstChild m from p c i low j = rw e at w in
+          let a = visits_here in
+          let b = step_visits c left m from p here i low j q in
+          record {
+            inside = omega arith;
+            walk = step_walk c left m from p here i low j q;
+            visits_are = omega arith;
+            entries_are = sym (step_entries c left m from p here i low j q) ∙ entries_here;
+            few = x.few;
+          }
+
+      pub path_none : (r : Option Child) → ChildIs m from p c r → r ≡ None
+          → record { tag = None; visits = depth + 1 }
+          ≡ found (held_below c level m lo k) (visits_below (has_test c) level m lo k)
+      unfolding found point_end
+      path_none r w e =
+          let q : NoneBefore m p c (count_at m p) = rw e at w in
+          let a = visits_here in
+          let b = end_visits c left m from p here q in
+          let s : depth + 1 ≡ visits_below (has_test c) level m lo k = omega arith in
+          rw (← entries_here, end_entries c left m from p here q, ← s)
+
+    -- the last node of the path is a leaf
+    module _ (z : level ≤ depth) where
+      at_end : level - depth ≡ 0
+      at_end = omega arith
+
+      at_leaf : Walkable 0 m from p
+      at_leaf = let w : SoundWalk 0 m from p = rw at_end at x.walk in w.walk
+
+      all_visits : level + 1 ≡ visits_below (has_test c) level m lo k
+      all_visits =
+          let a : depth + visits_below (has_test c) 0 m from p ≡ visits_below (has_test c) level m lo k = rw at_end at x.visits_are in
+          let b = leaf_visits (has_test c) (cell_test c) m from p at_leaf in
+          let i = x.inside in
+          omega arith
+
+      module _ (l : List ℕ) (l_is : l ≡ part m p) where
+        pub path_part : NodePart l
+        path_part = node_part_lem 0 m from p at_leaf l l_is
+
+        pub path_leaf : (r : PointFound) → r ≡ found (leaf_entries (cell_test c) l) (level + 1)
+            → r ≡ found (held_below c level m lo k) (visits_below (has_test c) level m lo k)
+        path_leaf r e =
+            let d : held_below c 0 m from p ≡ held_below c level m lo k = rw at_end at x.entries_are in
+            e ∙ rw (← d, leaf_entries_lem (has_test c) (cell_test c) m from p at_leaf, ← l_is, all_visits)

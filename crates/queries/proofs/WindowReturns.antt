@@ -19,16 +19,14 @@ use Rattle.memory.specs.Layout.{is_index_length, part, polygon_in}
 use Rattle.memory.specs.Reading.{reading}
 use Rattle.memory.specs.TreeIn.{TreeIn}
 use Rattle.answers.specs.declared.answer.WindowFound.{WindowFound}
-use Rattle.answers.specs.declared.answer.WindowFound.TheVariants.{Found, ShortList, WrongLength, Invalid, NoSoundTree}
+use Rattle.std.specs.Prelude.{Result, Ok, Err}
+use Rattle.answers.specs.declared.answer.Refusal.{Refusal}
+use Rattle.answers.specs.declared.answer.Refusal.TheVariants as R
 use Rattle.answers.specs.Answers.{matches_in, window_read, window_written, window_answer, window_list}
 use Rattle.answers.specs.Listing.{list_width, listed_numbers, put_listed}
 use Rattle.answers.specs.Changes.{WindowCall}
 use Rattle.walks.specs.Walks.{meets_test, visits_below, matches_below}
 use Rattle.walks.proofs.TreeWalk.{tree_walkable, tree_window_visits, tree_matches}
-use Rattle.soundness.specs.declared.opening.Opened.{Opened}
-use Rattle.soundness.specs.declared.opening.Opened.TheVariants as O
-use Rattle.soundness.specs.Open.{OpenedAs}
-use Rattle.queries.specs.declared.window_query.Matched.{Matched}
 use Rattle.queries.specs.Window.{matched, put_entries, Listed, WalkRoom, WindowDone}
 use Rattle.queries.proofs.WindowWrite.{length_put}
 
@@ -72,7 +70,7 @@ puts_first l es h =
 
 module _ (m : List ℕ) (level root : ℕ) (w : Rect) (l : List ℕ) (v : TreeIn m level root) (b : Bool) (e : b ≡ meets_test w (polygon_in (part m root))) where
   -- the root's polygon shares no cell with the window
-  pub window_outside : not b ≡ true → WindowDone m w l l (Found 0 0)
+  pub window_outside : not b ≡ true → WindowDone m w l l (Ok (record { matches = 0; visits = 0 }))
   unfolding window_read window_written flat_map
   window_outside f =
       let g : meets_test w (polygon_in (part m root)) ≡ false = sym e ∙ not-true b f in
@@ -81,7 +79,7 @@ module _ (m : List ℕ) (level root : ℕ) (w : Rect) (l : List ℕ) (v : TreeIn
       let z : leb 0 (length l) ≡ true = le-leb 0 (length l) (omega arith) in
       record { answer = rw (v.reads, x, y, z); list = rw (v.reads, x, z) }
 
-  module _ (f : not b ≡ false) (d : Matched) (g : d ≡ matched (matches_below w level m 0 root) (visits_below (meets_test w) level m 0 root)) where
+  module _ (f : not b ≡ false) (d : WindowFound) (g : d ≡ matched (matches_below w level m 0 root) (visits_below (meets_test w) level m 0 root)) where
     matches_are : matches_in w (some v.tree) ≡ matches_below w level m 0 root
     matches_are =
         let h : meets_test w (polygon_in (part m root)) ≡ true = sym e ∙ not-false b f in
@@ -101,7 +99,7 @@ module _ (m : List ℕ) (level root : ℕ) (w : Rect) (l : List ℕ) (v : TreeIn
     visits_is = ap (λ r. r.visits) g
 
     -- the list is too short
-    pub window_short : length l < list_width * d.matches → WindowDone m w l l (ShortList d.matches)
+    pub window_short : length l < list_width * d.matches → WindowDone m w l l (Err (R.ShortList d.matches))
     unfolding window_read window_written
     window_short h =
         let c = count_is in
@@ -114,7 +112,7 @@ module _ (m : List ℕ) (level root : ℕ) (w : Rect) (l : List ℕ) (v : TreeIn
         record { walk = tree_walkable m level root v; room = omega arith }
 
     pub window_written_lem : (l' : List ℕ) (next : ℕ) → list_width * d.matches ≤ length l → Listed l 0 (matches_below w level m 0 root) l' next
-        → WindowDone m w l l' (Found d.matches d.visits)
+        → WindowDone m w l l' (Ok d)
     unfolding window_read window_written
     window_written_lem l' next h q =
         let c = count_is in
@@ -126,29 +124,16 @@ module _ (m : List ℕ) (level root : ℕ) (w : Rect) (l : List ℕ) (v : TreeIn
           list = q.list ∙ puts_first l _ k ∙ rw (v.reads, matches_are, z);
         }
 
--- a memory that was opened as no tree or as the empty index
-module _ (m : List ℕ) (w : Rect) (l : List ℕ) (o : Opened) (p : OpenedAs m o) where
-  pub window_no_tree : o ≡ O.NoSoundTree → WindowDone m w l l NoSoundTree
-  unfolding window_read window_written
-  window_no_tree r = let q : reading fanout m ≡ none = rw r at p in record { answer = rw q; list = rw q }
+-- a memory that was opened as the empty index
+pub window_empty : (m : List ℕ) (w : Rect) (l : List ℕ) → reading fanout m ≡ some none → WindowDone m w l l (Ok (record { matches = 0; visits = 0 }))
+unfolding window_read window_written keep flat_map
+window_empty m w l p =
+    let z : leb 0 (length l) ≡ true = le-leb 0 (length l) (omega arith) in
+    record { answer = rw (p, z); list = rw (p, z) }
 
-  pub window_empty : o ≡ O.Empty → WindowDone m w l l (Found 0 0)
-  unfolding window_read window_written keep flat_map
-  window_empty r =
-      let q : reading fanout m ≡ some none = rw r at p in
-      let z : leb 0 (length l) ≡ true = le-leb 0 (length l) (omega arith) in
-      record { answer = rw (q, z); list = rw (q, z) }
-
--- a call on a memory, a window and a list, test by test
-pub window_wrong_length : (m : List ℕ) (w : Rect) (l : List ℕ) (b : Bool) → b ≡ is_index_length m → not b ≡ true → WindowCall m w l l WrongLength
+-- a call on a memory of a right length and a window, tested
+pub window_tested : (m : List ℕ) (w : Rect) (l : List ℕ) → is_index_length m ≡ true → (g : Bool) → g ≡ valid w → not g ≡ false
+    → (l' : List ℕ) (r : Result WindowFound Refusal) → WindowDone m w l l' r → WindowCall m w l l' r
 unfolding window_answer window_list
-window_wrong_length m w l b e f = record { answer = rw (← e, not-true b f); list = rw (← e, not-true b f) }
-
-module _ (m : List ℕ) (w : Rect) (l : List ℕ) (e : is_index_length m ≡ true) (g : Bool) (h : g ≡ valid w) where
-  pub window_bad : not g ≡ true → WindowCall m w l l Invalid
-  unfolding window_answer window_list
-  window_bad k = record { answer = rw (e, ← h, not-true g k); list = rw (e, ← h, not-true g k) }
-
-  pub window_tested : not g ≡ false → (l' : List ℕ) (r : WindowFound) → WindowDone m w l l' r → WindowCall m w l l' r
-  unfolding window_answer window_list
-  window_tested k l' r q = record { answer = rw (e, ← h, not-false g k) q.answer; list = rw (e, ← h, not-false g k) q.list }
+window_tested m w l e g h k l' r q =
+    record { answer = rw (e, ← h, not-false g k) q.answer; list = rw (e, ← h, not-false g k) q.list }

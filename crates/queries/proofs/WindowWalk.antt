@@ -1,63 +1,21 @@
--- The walks of the window query: the counts of a leaf and of the children, and the list that is written.
+-- The walk of the window query that counts.
 use Prim.Native.Nat.{ℕ, ◌+◌, ◌-◌, ◌≤◌, ◌<◌}
 use mathlib.Core.Path.{◌≡◌, refl, ap, ◌∙◌}
 use mathlib.Core.Bool.{Bool, true, false}
-use mathlib.Core.List.{List, [], ◌∷◌, ◌++◌}
+use mathlib.Core.List.{List, [], ◌++◌}
 use native.Mathlib.Omega.{arith}
 use mir.Syntax.{w32}
 use mir.Val.{Fits}
 use lib.ListN.{length, length-append}
 use Rattle.geometry.specs.declared.rect.Rect.{Rect}
 use Rattle.plane.specs.Lines.{CellEntry}
-use Rattle.memory.specs.Layout.{part, entry_in, polygon_in}
-use Rattle.layout.specs.declared.node.Node.{Node}
-use Rattle.layout.specs.Loaded.{node_in, node_entry}
-use Rattle.layout.specs.Nodes.{child_at, count_at, NodePart}
+use Rattle.memory.specs.Layout.{part, polygon_in}
+use Rattle.layout.specs.Nodes.{child_at, count_at}
 use Rattle.walks.specs.Walks.{meets_test, inside_test, visits_below, leaf_entries, Walkable, matches_below}
-use Rattle.walks.proofs.WalkLeaf.{AtEntry, entry_miss, entry_hit, entry_end, loaded_start, entry_small, entry_test}
 use Rattle.walks.proofs.WalkRows.{leaf_visits, leaf_entries_lem, entries_few}
 use Rattle.walks.proofs.WalkLoop.{AtChild, child_start, child_miss, child_hit, end_visits, end_entries, so_far_few}
-use Rattle.queries.specs.declared.window_query.Matched.{Matched}
+use Rattle.answers.specs.declared.answer.WindowFound.{WindowFound}
 use Rattle.queries.specs.Window.{matched}
-
--- Before the i-th entry of a leaf: a count of those that are in the window.
-pub record CountLeaf (w : Rect) (p : List ℕ) (n i sum : ℕ) : Type 0 where
-  pub es : List CellEntry
-  pub at : AtEntry (inside_test w) p n i es
-  pub so_far : sum ≡ length es
-  pub few : sum ≤ i
-
-module _ (w : Rect) (p : List ℕ) (n : ℕ) (leaf : Node) (l : leaf ≡ node_in p) where
-  pub count_start : NodePart p → n ≡ leaf.count → CountLeaf w p n 0 0
-  count_start v c = record { es = []; at = loaded_start (inside_test w) p n leaf l v c; so_far = refl; few = omega arith }
-
-  module _ (i sum : ℕ) (x : CountLeaf w p n i sum) where
-    pub count_end : n ≤ i → sum ≡ length (leaf_entries (inside_test w) p)
-    count_end h = x.so_far ∙ ap length (entry_end (inside_test w) p n i x.es x.at h)
-
-    pub count_small : i < n → i < 8
-    count_small h = entry_small (inside_test w) p n i x.es x.at leaf l h
-
-    module _ (h : i < n) (b : Bool) (e : b ≡ inside_test w (node_entry leaf i)) where
-      passed : b ≡ inside_test w (entry_in p i)
-      passed = entry_test (inside_test w) p n i x.es x.at leaf l h b e
-
-      pub count_miss : (sum' : ℕ) → b ≡ false → sum' ≡ sum → CountLeaf w p n (i + 1) sum'
-      count_miss sum' f q =
-          let s = x.so_far in
-          let t = x.few in
-          record { es = x.es; at = entry_miss (inside_test w) p n i x.es x.at h b passed f; so_far = omega arith; few = omega arith }
-
-      pub count_hit : (sum' : ℕ) → b ≡ true → sum' ≡ sum + 1 → CountLeaf w p n (i + 1) sum'
-      count_hit sum' f q =
-          let s = x.so_far in
-          let t = x.few in
-          record {
-            es = x.es ++ (entry_in p i ∷ []);
-            at = entry_hit (inside_test w) p n i x.es x.at h b passed f;
-            so_far = rw length-append (omega arith);
-            few = omega arith;
-          }
 
 module _ (w : Rect) (level : ℕ) (m : List ℕ) (lo k : ℕ) where
   -- a node that is a leaf
@@ -69,7 +27,7 @@ module _ (w : Rect) (level : ℕ) (m : List ℕ) (lo k : ℕ) where
       rw (z, leaf_entries_lem (meets_test w) (inside_test w) m lo k v', leaf_visits (meets_test w) (inside_test w) m lo k v', ← q, ← e)
 
 -- Before the i-th child: the counts so far.
-pub record CountLoop (w : Rect) (level : ℕ) (m : List ℕ) (lo k n i low : ℕ) (a : Matched) : Type 0 where
+pub record CountLoop (w : Rect) (level : ℕ) (m : List ℕ) (lo k n i low : ℕ) (a : WindowFound) : Type 0 where
   pub es : List CellEntry
   pub at : AtChild (meets_test w) (inside_test w) level m lo k n i low a.visits es
   pub so_far : a.matches ≡ length es
@@ -83,7 +41,7 @@ module _ (w : Rect) (level : ℕ) (m : List ℕ) (lo k n : ℕ) where
       → length es ≤ length (matches_below w level m lo k)
   so_far_entries i low vs es a = rw (← a.entries, length-append) (omega arith)
 
-  module _ (i low : ℕ) (a : Matched) (x : CountLoop w level m lo k n i low a) where
+  module _ (i low : ℕ) (a : WindowFound) (x : CountLoop w level m lo k n i low a) where
     pub counting_end : n ≤ i → a ≡ matched (matches_below w level m lo k) (visits_below (meets_test w) level m lo k)
     unfolding matched
     counting_end h =
@@ -92,10 +50,10 @@ module _ (w : Rect) (level : ℕ) (m : List ℕ) (lo k n : ℕ) where
         rw (← e, ← f)
 
     module _ (h : i < n) (j : ℕ) (j_is : j ≡ child_at m k i) (b : Bool) (e : b ≡ meets_test w (polygon_in (part m j))) where
-      pub counting_miss : (a' : Matched) → b ≡ false → a' ≡ a → CountLoop w level m lo k n (i + 1) (j + 1) a'
+      pub counting_miss : (a' : WindowFound) → b ≡ false → a' ≡ a → CountLoop w level m lo k n (i + 1) (j + 1) a'
       counting_miss a' f q = rw q (record { es = x.es; at = child_miss (meets_test w) (inside_test w) level m lo k n i low a.visits x.es x.at h j j_is b e f; so_far = x.so_far })
 
-      module _ (f : b ≡ true) (d : Matched) (g : d ≡ matched (matches_below w (level - 1) m low (j)) (visits_below (meets_test w) (level - 1) m low (j))) where
+      module _ (f : b ≡ true) (d : WindowFound) (g : d ≡ matched (matches_below w (level - 1) m low (j)) (visits_below (meets_test w) (level - 1) m low (j))) where
         counted_next : CountLoop w level m lo k n (i + 1) (j + 1) (record { matches = a.matches + d.matches; visits = a.visits + d.visits })
         unfolding matched
         counted_next =
@@ -119,6 +77,6 @@ module _ (w : Rect) (level : ℕ) (m : List ℕ) (lo k n : ℕ) where
         pub visits_fit : Fits w32 (a.visits + d.visits)
         visits_fit = let q = so_far_few (meets_test w) (inside_test w) level m lo k _ _ _ _ _ counted_next.at in omega arith
 
-        pub counting_hit : (a' : Matched) → a' ≡ record { matches = a.matches + d.matches; visits = a.visits + d.visits }
+        pub counting_hit : (a' : WindowFound) → a' ≡ record { matches = a.matches + d.matches; visits = a.visits + d.visits }
             → CountLoop w level m lo k n (i + 1) (j + 1) a'
         counting_hit a' q = rw q counted_next

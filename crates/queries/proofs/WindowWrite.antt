@@ -1,23 +1,22 @@
 -- The walk that writes the matches of a window: entries put one after another, the loop of a leaf and the loop over the children.
 use Prim.Native.Nat.{ℕ, ◌+◌, ◌*◌, ◌-◌, ◌≤◌, ◌<◌}
 use mathlib.Core.Path.{◌≡◌, refl, sym, ap, ◌∙◌}
-use mathlib.Core.Bool.{Bool, true, false}
-use mathlib.Core.List.{List, [], ◌∷◌, ◌++◌}
+use mathlib.Core.Bool.{Bool, true, false, cond}
+use mathlib.Core.List.{List, [], ◌∷◌, ◌++◌, append-nil}
+use lib.Seq.{append_snoc}
 use native.Mathlib.Omega.{arith}
 use lib.ListN.{length, length-append, length-set}
 use Rattle.geometry.specs.declared.rect.Rect.{Rect}
+use Rattle.geometry.specs.Cells.{has_cell}
+use Rattle.tree.specs.Lists.{keep}
 use Rattle.plane.specs.Lines.{CellEntry}
-use Rattle.memory.specs.Layout.{part, entry_in, polygon_in}
+use Rattle.memory.specs.Layout.{part, polygon_in, item_count, entries_in}
 use Rattle.layout.specs.declared.entry.Entry.{Entry}
-use Rattle.layout.specs.declared.node.Node.{Node}
 use Rattle.layout.specs.Entries.{tree_entry}
-use Rattle.layout.specs.Loaded.{node_in, node_child, node_entry}
 use Rattle.layout.specs.Nodes.{child_at, count_at}
 use Rattle.answers.specs.Listing.{list_width, put_listed}
 use Rattle.walks.specs.Walks.{meets_test, inside_test, leaf_entries, Walkable, matches_below}
-use Rattle.walks.proofs.WalkLeaf.{AtEntry, entry_miss, entry_hit, entry_end, loaded_start, entry_small, entry_nine, entry_put, entry_test}
 use Rattle.walks.proofs.WalkRows.{leaf_entries_lem, node_part_lem}
-use Rattle.walks.proofs.WalkNode.{walk_count, walk_child}
 use Rattle.walks.proofs.WalkLoop.{AtChild, child_start, child_miss, child_hit, end_entries, child_walkable}
 use Rattle.queries.specs.Window.{put_entries, Listed, LeafRoom, WalkRoom}
 
@@ -55,57 +54,57 @@ more l at es l' next fs l'' next' x y =
 one_more_lem : (l : List ℕ) (next : ℕ) (e : CellEntry) (l' : List ℕ) → l' ≡ put_listed l next e → Listed l next (e ∷ []) l' (next + 1)
 one_more_lem l next e l' q = record { next_is = refl; list = q ∙ sym (put_one l next e); same_length = ap length q ∙ length_put l next e }
 
--- Before the i-th entry of a leaf: those in the window that were passed are written.
-pub record WriteLeaf (w : Rect) (p : List ℕ) (n : ℕ) (l₀ : List ℕ) (at₀ i : ℕ) (l : List ℕ) (next : ℕ) : Type 0 where
+-- Before the entries that are left: those of the others that are in the window are written.
+pub record WriteLeaf (w : Rect) (p l₀ : List ℕ) (at₀ : ℕ) (left : List CellEntry) (l : List ℕ) (next : ℕ) : Type 0 where
   pub es : List CellEntry
-  pub at : AtEntry (inside_test w) p n i es
+  pub whole : es ++ keep (inside_test w) left ≡ leaf_entries (inside_test w) p
   pub room : list_width * (at₀ + length (leaf_entries (inside_test w) p)) ≤ length l₀
-  pub fits : list_width * next ≤ length l
   pub so_far : Listed l₀ at₀ es l next
 
-module _ (w : Rect) (p : List ℕ) (n : ℕ) (l₀ : List ℕ) (at₀ : ℕ) (leaf : Node) (q : leaf ≡ node_in p) where
-  pub write_start : LeafRoom p w l₀ at₀ → n ≡ leaf.count → WriteLeaf w p n l₀ at₀ 0 l₀ at₀
-  write_start v c = record { es = []; at = loaded_start (inside_test w) p n leaf q v.leaf c; room = v.room; fits = (let r = v.room in omega arith); so_far = put_none l₀ at₀ }
+module _ (w : Rect) (p l₀ : List ℕ) (at₀ : ℕ) where
+  pub write_start : LeafRoom p w l₀ at₀ → (left : List CellEntry) → left ≡ entries_in p (item_count p)
+      → WriteLeaf w p l₀ at₀ left l₀ at₀
+  unfolding leaf_entries
+  write_start v left q = record { es = []; whole = rw q; room = v.room; so_far = put_none l₀ at₀ }
 
-  module _ (i : ℕ) (l : List ℕ) (next : ℕ) (x : WriteLeaf w p n l₀ at₀ i l next) where
-    pub write_end : n ≤ i → Listed l₀ at₀ (leaf_entries (inside_test w) p) l next
-    write_end h = rw (entry_end (inside_test w) p n i x.es x.at h) at x.so_far
+  module _ (left : List CellEntry) (l : List ℕ) (next : ℕ) (x : WriteLeaf w p l₀ at₀ left l next) where
+    pub write_end : left ≡ [] → Listed l₀ at₀ (leaf_entries (inside_test w) p) l next
+    unfolding keep
+    write_end q =
+        let a : x.es ++ [] ≡ leaf_entries (inside_test w) p = rw q at x.whole in
+        rw (sym (append-nil x.es) ∙ a) at x.so_far
 
-    pub write_small : i < n → i < 8
-    write_small h = entry_small (inside_test w) p n i x.es x.at leaf q h
+    module _ (e : Entry) (others : List CellEntry) (q : left ≡ tree_entry e ∷ others) (b : Bool) (is : b ≡ has_cell w e.cell) where
+      passed : b ≡ inside_test w (tree_entry e)
+      unfolding inside_test
+      passed = is
 
-    pub write_nine : i < n → i < 9
-    write_nine h = entry_nine (inside_test w) p n i x.es x.at leaf q h
-
-    module _ (h : i < n) (b : Bool) (e : b ≡ inside_test w (node_entry leaf i)) where
-      passed : b ≡ inside_test w (entry_in p i)
-      passed = entry_test (inside_test w) p n i x.es x.at leaf q h b e
+      whole_next : x.es ++ cond b (tree_entry e ∷ keep (inside_test w) others) (keep (inside_test w) others)
+          ≡ leaf_entries (inside_test w) p
+      unfolding keep
+      whole_next = rw passed (rw q at x.whole)
 
       pub write_room : b ≡ true → list_width * (next + 1) ≤ length l
       write_room f =
-          let a = (entry_hit (inside_test w) p n i x.es x.at h b passed f).entries in
-          let q = simp length-append at (ap length a) in
+          let a : x.es ++ (tree_entry e ∷ keep (inside_test w) others) ≡ leaf_entries (inside_test w) p = rw f at whole_next in
+          let n = simp length-append at (ap length a) in
           let r = x.room in
           let s = x.so_far.next_is in
           let t = x.so_far.same_length in
           omega arith
 
-      pub write_miss : (l' : List ℕ) (next' : ℕ) → b ≡ false → l' ≡ l → next' ≡ next → WriteLeaf w p n l₀ at₀ (i + 1) l' next'
-      write_miss l' next' f u r = rw (u, r) (record { es = x.es; at = entry_miss (inside_test w) p n i x.es x.at h b passed f; room = x.room; fits = x.fits; so_far = x.so_far })
+      pub write_miss : b ≡ false → WriteLeaf w p l₀ at₀ others l next
+      write_miss f = record { es = x.es; whole = rw f at whole_next; room = x.room; so_far = x.so_far }
 
-      pub write_hit : (d : Entry) (l'' l' : List ℕ) (next' : ℕ) → b ≡ true → tree_entry d ≡ node_entry leaf i
-          → l'' ≡ put_listed l next (tree_entry d) → l' ≡ l'' → next' ≡ next + 1 → WriteLeaf w p n l₀ at₀ (i + 1) l' next'
-      write_hit d l'' l' next' f g u s r =
-          let v = entry_put (inside_test w) p n i x.es x.at leaf q h (put_listed l next) d l'' g u in
+      pub write_hit : (l'' l' : List ℕ) (next' : ℕ) → b ≡ true → l'' ≡ put_listed l next (tree_entry e)
+          → l' ≡ l'' → next' ≡ next + 1 → WriteLeaf w p l₀ at₀ others l' next'
+      write_hit l'' l' next' f u s r =
+          let a : x.es ++ (tree_entry e ∷ keep (inside_test w) others) ≡ leaf_entries (inside_test w) p = rw f at whole_next in
           rw (s, r) (record {
-            es = x.es ++ (entry_in p i ∷ []);
-            at = entry_hit (inside_test w) p n i x.es x.at h b passed f;
+            es = x.es ++ (tree_entry e ∷ []);
+            whole = append_snoc x.es (tree_entry e) (keep (inside_test w) others) ∙ a;
             room = x.room;
-            fits =
-                let a : length l'' ≡ length l = ap length v ∙ length_put l next (entry_in p i) in
-                let y = write_room f in
-                omega arith;
-            so_far = more l₀ at₀ x.es l next (entry_in p i ∷ []) l'' (next + 1) x.so_far (one_more_lem l next (entry_in p i) l'' v);
+            so_far = more l₀ at₀ x.es l next (tree_entry e ∷ []) l'' (next + 1) x.so_far (one_more_lem l next (tree_entry e) l'' u);
           })
 
 module _ (w : Rect) (level : ℕ) (m : List ℕ) (lo k : ℕ) (l : List ℕ) (at : ℕ) where
@@ -175,11 +174,3 @@ module _ (w : Rect) (level : ℕ) (m : List ℕ) (lo k n : ℕ) (l₀ : List ℕ
         room = x.room;
         so_far = more l₀ at₀ x.es l next _ l'' next' x.so_far q;
       })
-
-    -- the same, by the node as it was loaded
-    pub entered_room : (node : Node) → node ≡ node_in (part m k) → i < n → (j : ℕ) → j ≡ node_child node i
-        → (b : Bool) → b ≡ meets_test w (polygon_in (part m j)) → b ≡ true → WalkRoom (level - 1) m low j w l next
-    entered_room node q h j g b e f =
-        let c = walk_count level m lo k x.at.walkable node q in
-        let d = x.at.count in
-        writing_room h j (walk_child level m lo k x.at.walkable node q i j (omega arith) g) b e f

@@ -1,18 +1,18 @@
 -- The two walks of a window query: what they count and write.
-use Rattle.std.specs.Prelude.{ℕ, ◌+◌, ◌*◌, ◌≤◌, List, [], ◌∷◌, ◌≡◌, length}
+use Rattle.std.specs.Prelude.{ℕ, ◌+◌, ◌*◌, ◌≤◌, List, [], ◌∷◌, ◌≡◌, length, Result}
 use Rattle.geometry.specs.declared.rect.Rect.{Rect}
 use Rattle.plane.specs.Lines.{CellEntry}
 use Rattle.plane.specs.Fanout.{fanout}
 use Rattle.memory.specs.Reading.{reading}
 use Rattle.layout.specs.Nodes.{NodePart}
+use Rattle.answers.specs.declared.answer.Refusal.{Refusal}
 use Rattle.answers.specs.declared.answer.WindowFound.{WindowFound}
 use Rattle.answers.specs.Listing.{list_width, put_listed}
 use Rattle.answers.specs.Answers.{window_read, window_written}
 use Rattle.walks.specs.Walks.{inside_test, matches_below, leaf_entries, Walkable}
-use Rattle.queries.specs.declared.window_query.Matched.{Matched}
 
 -- what a walk for a window found: how many entries match, and the visits
-unfoldable pub matched : List CellEntry → ℕ → Matched
+unfoldable pub matched : List CellEntry → ℕ → WindowFound
 matched es v = record { matches = length es; visits = v }
 
 -- a list with the numbers of some entries from the at-th place on
@@ -37,6 +37,6 @@ pub record WalkRoom (n : ℕ) (m : List ℕ) (lo k : ℕ) (w : Rect) (l : List �
   pub room : list_width * (at + length (matches_below w n m lo k)) ≤ length l
 
 -- A window query of the index that the memory reads as ended with that answer, and left the list l'.
-pub record WindowDone (m : List ℕ) (w : Rect) (l l' : List ℕ) (r : WindowFound) : Type 0 where
+pub record WindowDone (m : List ℕ) (w : Rect) (l l' : List ℕ) (r : Result WindowFound Refusal) : Type 0 where
   pub answer : r ≡ window_read w (length l) (reading fanout m)
   pub list : l' ≡ window_written w (reading fanout m) l

@@ -14,9 +14,5 @@ pub fn is_held(m: &[u32], level: u32, root: u32, c: Cell) -> bool
     requires { TreeIn m.now level root }
     ensures { result ≡ held_read c (reading fanout m.now) }
 {
-    if !polygon_has(m, root, c) {
-        return false;
-    }
-    let found = point_below(m, level, 0, root, c);
-    found.held
+    polygon_has(m, root, c) && point_below(m, level, 0, root, c).tag.is_some()
 }

@@ -5,69 +5,46 @@ ghost use Rattle.memory.specs.TreeIn.{TreeIn, Known};
 ghost use Rattle.layout.specs.Nodes.{NodePart};
 ghost use Rattle.answers.specs.Changes.{WindowCall};
 ghost use Rattle.walks.specs.Walks.{meets_test, inside_test, visits_below, matches_below, leaf_entries, Walkable};
-ghost use Rattle.soundness.specs.Open.{OpenedAs};
 ghost use Rattle.queries.specs.Window.{matched, Listed, LeafRoom, WalkRoom, WindowDone};
 
 use crate::listing::put_listed;
-use answers::{LIST_WIDTH, WindowFound};
+use answers::{LIST_WIDTH, Refusal, WindowFound};
 use geometry::Rect;
-use layout::{Node, child, is_index_length, node_at, nth_entry, part_at};
-use soundness::{Opened, open_known};
-use walks::{is_inside, polygon_meets};
-
-// How many entries match a window, and the nodes visited.
-#[derive(Clone, Copy)]
-pub struct Matched {
-    pub matches: u32,
-    pub visits: u32,
-}
+use layout::{children_at, entries, is_index_length, part_at};
+use soundness::open_known;
+use walks::polygon_meets;
 
 // How many entries of a leaf's part are in the window.
 fn count_leaf(p: &[u32], w: Rect) -> u32
     requires { NodePart p.now }
     ensures { result ≡ length (leaf_entries (inside_test w) p.now) }
 {
-    let leaf = Node::load(p);
-    let n = leaf.count as usize;
-    let mut matches: u32 = 0;
-    let mut i = 0;
-    while i < n {
-        if is_inside(&leaf.items, i, w) {
-            matches += 1;
-        }
-        i += 1;
-    }
-    matches
+    entries(p).filter(|e| w.has_cell(e.cell)).count() as u32
 }
 
 // Counts the matches and the visits below the node at part k, whose subtree has the parts from lo on: the
 // walk enters only children whose polygon shares a cell with the window.
-pub fn count_below(m: &[u32], level: u32, lo: u32, k: u32, w: Rect) -> Matched
+pub fn count_below(m: &[u32], level: u32, lo: u32, k: u32, w: Rect) -> WindowFound
     requires { Walkable level m.now lo k }
     ensures { result ≡ matched (matches_below w level m.now lo k)
         (visits_below (meets_test w) level m.now lo k) }
 {
     if level == 0 {
         let matches = count_leaf(part_at(m, k), w);
-        return Matched { matches, visits: 1 };
+        return WindowFound { matches, visits: 1 };
     }
-    let node = node_at(m, k);
-    let n = node.count as usize;
-    let mut so_far = Matched {
+    let mut so_far = WindowFound {
         matches: 0,
         visits: 1,
     };
     let mut low = lo;
-    let mut i = 0;
-    while i < n {
-        let j = child(&node.items, i);
-        if polygon_meets(m, j, w) {
-            let below = count_below(m, level - 1, low, j, w);
+    for &part in children_at(m, k) {
+        if polygon_meets(m, part, w) {
+            let below = count_below(m, level - 1, low, part, w);
             so_far.matches += below.matches;
             so_far.visits += below.visits;
         }
-        low = j + 1;
-        i += 1;
+        low = part + 1;
     }
     so_far
 }
@@ -79,16 +56,12 @@ fn write_leaf(p: &[u32], w: Rect, list: &mut [u32], at: usize) -> usize
     ensures { Listed list.old at (leaf_entries (inside_test w) p.now)
         list.new result }
 {
-    let leaf = Node::load(p);
-    let n = leaf.count as usize;
     let mut next = at;
-    let mut i = 0;
-    while i < n {
-        if is_inside(&leaf.items, i, w) {
-            put_listed(list, next, nth_entry(&leaf.items, i));
+    for e in entries(p) {
+        if w.has_cell(e.cell) {
+            put_listed(list, next, e);
             next += 1;
         }
-        i += 1;
     }
     next
 }
@@ -110,85 +83,74 @@ pub fn write_below(
     if level == 0 {
         return write_leaf(part_at(m, k), w, list, at);
     }
-    let node = node_at(m, k);
-    let n = node.count as usize;
     let mut next = at;
     let mut low = lo;
-    let mut i = 0;
-    while i < n {
-        let j = child(&node.items, i);
-        if polygon_meets(m, j, w) {
-            next = write_below(m, level - 1, low, j, w, list, next);
+    for &part in children_at(m, k) {
+        if polygon_meets(m, part, w) {
+            next = write_below(m, level - 1, low, part, w, list, next);
         }
-        low = j + 1;
-        i += 1;
+        low = part + 1;
     }
     next
 }
 
 // The window query of the tree in a memory: its root is visited too, if its polygon shares a cell with the
 // window. The list is written only if all matches fit.
-fn window_in_tree(m: &[u32], level: u32, root: u32, w: Rect, list: &mut [u32]) -> WindowFound
+fn window_in_tree(
+    m: &[u32],
+    level: u32,
+    root: u32,
+    w: Rect,
+    list: &mut [u32],
+) -> Result<WindowFound, Refusal>
     requires { TreeIn m.now level root }
     ensures { WindowDone m.now w list.old list.new result }
 {
     if !polygon_meets(m, root, w) {
-        return WindowFound::Found {
+        return Ok(WindowFound {
             matches: 0,
             visits: 0,
-        };
+        });
     }
     let found = count_below(m, level, 0, root, w);
     let matches = found.matches;
     if list.len() < LIST_WIDTH * (matches as usize) {
-        return WindowFound::ShortList { matches };
+        return Err(Refusal::ShortList { matches });
     }
     write_below(m, level, 0, root, w, list, 0);
-    WindowFound::Found {
-        matches,
-        visits: found.visits,
-    }
-}
-
-// The window query of an opened memory, its window tested.
-fn window_opened(m: &[u32], opened: Opened, w: Rect, list: &mut [u32]) -> WindowFound
-    requires { OpenedAs m.now opened }
-    ensures { WindowDone m.now w list.old list.new result }
-{
-    match opened {
-        Opened::NoSoundTree => {
-            return WindowFound::NoSoundTree;
-        }
-        Opened::Empty => {
-            return WindowFound::Found {
-                matches: 0,
-                visits: 0,
-            };
-        }
-        Opened::Tree { level, root } => {
-            return window_in_tree(m, level, root, w, list);
-        }
-    }
+    Ok(found)
 }
 
 // Writes x, y and tag of each entry in the window to the list, in depth-first order, and leaves the rest
 // of it; answers the matches and the nodes whose polygon shares a cell with the window.
-pub fn window(m: &[u32], w: Rect, list: &mut [u32]) -> WindowFound
+pub fn window(m: &[u32], w: Rect, list: &mut [u32]) -> Result<WindowFound, Refusal>
     ensures { WindowCall m.now w list.old list.new result }
 {
     window_known(m, false, w, list)
 }
 
 // The same; a memory that is known to read as an index is not tested.
-pub fn window_known(m: &[u32], known: bool, w: Rect, list: &mut [u32]) -> WindowFound
+#[tactic(auto, unfolding(answers::specs::Answers::window_answer, answers::specs::Answers::window_list, answers::specs::Answers::window_read, answers::specs::Answers::window_written))]
+pub fn window_known(
+    m: &[u32],
+    known: bool,
+    w: Rect,
+    list: &mut [u32],
+) -> Result<WindowFound, Refusal>
     requires { Known m.now known }
     ensures { WindowCall m.now w list.old list.new result }
 {
     if !is_index_length(m) {
-        return WindowFound::WrongLength;
+        return Err(Refusal::WrongLength);
     }
     if !w.is_valid() {
-        return WindowFound::Invalid;
+        return Err(Refusal::Invalid);
     }
-    window_opened(m, open_known(m, known), w, list)
+    match open_known(m, known)? {
+        None => Ok(WindowFound {
+            matches: 0,
+            visits: 0,
+        }),
+        Some(root) => window_in_tree(m, root.level, root.part, w, list),
+    }
 }

@@ -2,6 +2,6 @@ pub mod FirstLaws
 pub mod DropLaws
 pub mod PairLaws
 pub mod SearchLaws
-pub mod FindLoops
+pub mod FindLaws
 pub mod PairLoops
 pub mod RefineLoops

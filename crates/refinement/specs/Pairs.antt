@@ -1,12 +1,12 @@
 -- Pairs of rectangles, which the refine of a polygon looks through in the order of the list, and what it finds.
-use Rattle.std.specs.Prelude.{◌≡◌, Bool, false, ◌||◌, List, ℕ, ◌≤◌, ◌<◌, length, get_or}
+use Rattle.std.specs.Prelude.{◌≡◌, Option, None, Some, Bool, false, ◌||◌, List, ℕ, ◌≤◌, ◌<◌, length, get_or}
 use Rattle.geometry.specs.declared.rect.Rect.{Rect}
 use Rattle.geometry.specs.declared.polygon.Polygon.{Polygon}
 use Rattle.geometry.specs.Cells.{no_rect}
 use Rattle.geometry.specs.Numbers.{rects_of}
 use Rattle.geometry.specs.Refine.{within, dropped, joinable, joined, refine}
 use Rattle.refinement.specs.declared.polygon_refine.Next.{Next}
-use Rattle.refinement.specs.declared.polygon_refine.Next.TheVariants.{Drop, Join, Done}
+use Rattle.refinement.specs.declared.polygon_refine.Next.TheVariants.{Drop, Join}
 
 -- one of the two is contained in the other
 unfoldable pub nested : Rect → Rect → Bool
@@ -44,8 +44,8 @@ pub record Joining (p : Polygon) (i j : ℕ) : Type 0 where
   pub same : refine (joined (rects_of p) i j) ≡ refine (rects_of p)
   pub others : OthersApart (joined (rects_of p) i j) i
 
--- what comes next in refining a polygon
-abbrev pub NextIs : Polygon → Next → Type 0
-NextIs p (Drop i from) = Dropping p i from
-NextIs p (Join i j) = Joining p i j
-NextIs p Done = refine (rects_of p) ≡ rects_of p
+-- what comes next in refining a polygon, if anything does
+abbrev pub NextIs : Polygon → Option Next → Type 0
+NextIs p (Some (Drop i from)) = Dropping p i from
+NextIs p (Some (Join i j)) = Joining p i j
+NextIs p None = refine (rects_of p) ≡ rects_of p

@@ -1,13 +1,24 @@
 -- What is known between two steps of refine, so that the search for the next step goes on where it stood.
-use Rattle.std.specs.Prelude.{◌≡◌, Bool, false, ◌&&◌, not, List, ℕ, ◌+◌, ◌-◌, ◌≤◌, ◌<◌, eqb, length, get_or}
+use Rattle.std.specs.Prelude.{◌≡◌, Bool, false, ◌&&◌, not, cond, Option, None, Some, List, ℕ, ◌+◌, ◌-◌, ◌≤◌, ◌<◌, eqb, ltb, length, get_or}
+use Rattle.std.specs.Option.{option_map}
 use Rattle.geometry.specs.declared.rect.Rect.{Rect}
 use Rattle.geometry.specs.Cells.{no_rect}
 use Rattle.geometry.specs.Refine.{first_from, within, contained, first_contained, joinable, joins, partner, has_partner, first_join, refine_step}
 use Rattle.geometry.specs.Numbers.{rects_in}
 use Rattle.refinement.specs.declared.refine.Search.{Search}
 use Rattle.refinement.specs.declared.refine.Search.TheVariants.{Contained, Union}
-use Rattle.refinement.specs.declared.refine.Step.{Step}
-use Rattle.refinement.specs.declared.refine.Step.TheVariants.{Shorter, Done}
+
+-- The place that a search found, from the definitions of the places, which give the length n where there is none.
+unfoldable pub below : ℕ → ℕ → Option ℕ
+below n i = cond (ltb i n) (Some i) None
+
+-- a place with its partner
+abbrev pub with_partner : List Rect → ℕ → ℕ × ℕ
+with_partner l i = (i, partner l i)
+
+-- the first two of n that are joinable: the first place that has a partner, and its partner
+unfoldable pub first_two : List Rect → ℕ → Option (ℕ × ℕ)
+first_two l n = option_map (with_partner l) (below n (first_join l))
 
 -- the i-th is another than the p-th and is contained in it
 unfoldable pub in_union : List Rect → ℕ → ℕ → Bool
@@ -69,6 +80,7 @@ Known l (Union p from) = AfterJoin l p from
 
 -- A step of refine on n rectangles shortened the list by one, and the search goes on there.
 pub record Shortened (m : List ℕ) (n : ℕ) (s : Search) (m' : List ℕ) : Type 0 where
+  pub some : 0 < n
   pub list : rects_in m' (n - 1) ≡ refine_step (rects_in m n)
   pub known : Known (rects_in m' (n - 1)) s
   pub same_length : length m' ≡ length m
@@ -78,7 +90,7 @@ pub record Finished (m : List ℕ) (n : ℕ) (m' : List ℕ) : Type 0 where
   pub none_applies : refine_step (rects_in m n) ≡ rects_in m n
   pub same : m' ≡ m
 
--- what a step did
-abbrev pub Stepped : List ℕ → ℕ → Step → List ℕ → Type 0
-Stepped m n (Shorter s) m' = Shortened m n s m'
-Stepped m n Done m' = Finished m n m'
+-- what a step did: one rectangle less, and where the search goes on; or none applies
+abbrev pub Stepped : List ℕ → ℕ → Option Search → List ℕ → Type 0
+Stepped m n (Some s) m' = Shortened m n s m'
+Stepped m n None m' = Finished m n m'

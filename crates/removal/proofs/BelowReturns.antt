@@ -8,8 +8,8 @@ use lib.ListN.{get_or}
 use Rattle.geometry.specs.declared.rect.Cell.{Cell}
 use Rattle.memory.specs.Layout.{part, children_in}
 use Rattle.memory.proofs.ReadingLaws.{low_at}
-use Rattle.walks.specs.declared.child.ChildFound.{ChildFound}
-use Rattle.walks.specs.declared.child.ChildFound.TheVariants.{Child, NoChild}
+use Rattle.walks.specs.declared.child.Child.{Child}
+use Rattle.std.specs.Prelude.{Option, Some, None}
 use Rattle.walks.specs.Children.{Children, FirstChild, ChildIs}
 use Rattle.walks.proofs.ChildLaws.{child_is, children_of}
 use Rattle.removal.specs.Place.{EntryPlace, HoldsCell}
@@ -36,8 +36,8 @@ pub below_children : (level : ℕ) (m : List ℕ) (lo k : ℕ) (c : Cell) → Re
 below_children zero m lo k c v ne = absurd (ne refl)
 below_children (suc n) m lo k c v ne = children_of n m lo k v.path
 
-pub below_some : (level : ℕ) (m : List ℕ) (lo k : ℕ) (c : Cell) (r : ChildFound) → Removable level m lo k c
-    → (level ≡ 0 → ⊥) → ChildIs m lo k c r → r ≡ NoChild
+pub below_some : (level : ℕ) (m : List ℕ) (lo k : ℕ) (c : Cell) (r : Option Child) → Removable level m lo k c
+    → (level ≡ 0 → ⊥) → ChildIs m lo k c r → r ≡ None
     → RemovedBelow level m lo k c m true
 below_some zero m lo k c r v ne w e = absurd (ne refl)
 below_some (suc n) m lo k c r v ne w e = absurd (some_has n m lo k c v (rw e at w))
@@ -80,20 +80,20 @@ module _ (m : List ℕ) (lo k : ℕ) (c : Cell) (i low j : ℕ) (q : FirstChild 
 
 -- the same, from what was found
 module _ (level : ℕ) (m : List ℕ) (lo k : ℕ) (c : Cell) (v : Removable level m lo k c) (ne : level ≡ 0 → ⊥)
-    (r : ChildFound) (w : ChildIs m lo k c r)
-    (i low j : ℕ) (e : r ≡ Child i low j) where
-  found : FirstChild m lo k c i low j
+    (r : Option Child) (w : ChildIs m lo k c r)
+    (b : Child) (e : r ≡ Some b) where
+  found : FirstChild m lo k c b.at b.low b.part
   found = rw e at w
 
-  pub below_child : Removable (level - 1) m low j c
-  below_child = child_at_lem m lo k c i low j found level v ne
+  pub below_child : Removable (level - 1) m b.low b.part c
+  below_child = child_at_lem m lo k c b.at b.low b.part found level v ne
 
-  module _ (m₁ : List ℕ) (t : Bool) (x : RemovedBelow (level - 1) m low j c m₁ t) where
+  module _ (m₁ : List ℕ) (t : Bool) (x : RemovedBelow (level - 1) m b.low b.part c m₁ t) where
     pub below_stays : t ≡ true → RemovedBelow level m lo k c m₁ true
-    below_stays = stays m lo k c i low j found m₁ t level v ne x
+    below_stays = stays m lo k c b.at b.low b.part found m₁ t level v ne x
 
-    pub below_takes_branch : TakesItem m₁ k i
-    below_takes_branch = takes m lo k c i low j found m₁ t level v ne x
+    pub below_takes_branch : TakesItem m₁ k b.at
+    below_takes_branch = takes m lo k c b.at b.low b.part found m₁ t level v ne x
 
-    pub below_node : t ≡ false → (m₂ : List ℕ) (s : Bool) → BranchTaken m₁ k i m₂ s → RemovedBelow level m lo k c m₂ s
-    below_node = taken m lo k c i low j found m₁ t level v ne x
+    pub below_node : t ≡ false → (m₂ : List ℕ) (s : Bool) → BranchTaken m₁ k b.at m₂ s → RemovedBelow level m lo k c m₂ s
+    below_node = taken m lo k c b.at b.low b.part found m₁ t level v ne x

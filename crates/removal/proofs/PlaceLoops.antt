@@ -1,18 +1,15 @@
 -- The loop that finds a cell's entry in a leaf.
 use Prim.Native.Nat.{ℕ, ◌+◌, ◌≤◌, ◌<◌}
-use mathlib.Core.Path.{◌≡◌, sym, ◌∙◌}
-use mathlib.Core.Bool.{Bool, true, false, not}
+use mathlib.Core.Path.{◌≡◌, sym, ap, ◌∙◌}
+use mathlib.Core.Bool.{Bool, true, false, not, not-not, ◌&&◌}
+use lib.Dec.{eqb}
 use mathlib.Core.List.{List}
 use native.Mathlib.Omega.{arith}
 use native.Mathlib.Decide.{dec_lt}
-use borrow.Author.Tests.{not-true, not-false}
 use lib.ListN.{length}
 use Rattle.polygons.proofs.Booleans.{not_both}
 use Rattle.geometry.specs.declared.rect.Cell.{Cell}
 use Rattle.memory.specs.Layout.{item_count, entry_in}
-use Rattle.layout.specs.declared.node.Node.{Node}
-use Rattle.layout.specs.Loaded.{node_in, node_entry}
-use Rattle.layout.proofs.LoadedLaws.{loaded_test}
 use Rattle.walks.specs.Walks.{cell_test}
 use Rattle.removal.specs.Place.{EntryPlace, HoldsCell}
 
@@ -34,18 +31,19 @@ module _ (p : List ℕ) (c : Cell) where
   pub seek_start : HoldsCell p c → SeekEntry p c 0
   seek_start h = seek_at p c 0 h (omega arith)
 
-  module _ (leaf : Node) (l : leaf ≡ node_in p) (i : ℕ) (v : SeekEntry p c i) (b : Bool) (t : b ≡ cell_test c (node_entry leaf i)) where
-    e : b ≡ cell_test c (entry_in p i)
-    e = loaded_test p leaf l (cell_test c) i b v.few t
+  module _ (i : ℕ) (v : SeekEntry p c i) (d : Cell) (d_is : d ≡ (entry_in p i).cell) (b : Bool) (t : b ≡ not (eqb d.x c.x && eqb d.y c.y)) where
+    e : not b ≡ cell_test c (entry_in p i)
+    unfolding cell_test
+    e = rw (t, ← d_is, not-not)
 
-    pub seek_found : not b ≡ false → EntryPlace p c i
-    seek_found f = record { inside = v.inside; is = sym e ∙ not-false b f }
+    pub seek_found : b ≡ false → EntryPlace p c i
+    seek_found f = record { inside = v.inside; is = sym e ∙ ap not f }
 
-    pub seek_again : not b ≡ true → SeekEntry p c (i + 1)
+    pub seek_again : b ≡ true → SeekEntry p c (i + 1)
     seek_again f = seek_at p c (i + 1) v.holds (go (dec_lt i v.holds.at))
       where
         go : Dec (i < v.holds.at) → i + 1 ≤ v.holds.at
         go (yes l) = omega arith
         go (no l) =
             let q : v.holds.at ≡ i = let k = v.i_le in omega arith in
-            absurd (not_both (cell_test c (entry_in p i)) (rw q at v.holds.place.is) (sym e ∙ not-true b f))
+            absurd (not_both (cell_test c (entry_in p i)) (rw q at v.holds.place.is) (sym e ∙ ap not f))

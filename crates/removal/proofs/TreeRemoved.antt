@@ -26,7 +26,8 @@ use Rattle.memory.proofs.SoundTested.{test_of_sound}
 use Rattle.memory.proofs.ReadingLaws.{ReadAs, read_as, read_sound, make_reading, zeros_read, index_length}
 use Rattle.layout.specs.PartSet.{no_tree}
 use Rattle.layout.proofs.BesideLaws.{right_same, head_same}
-use Rattle.answers.specs.declared.answer.Removed.TheVariants.{Accepted, NotHeld}
+use Rattle.std.specs.Prelude.{Ok, Err}
+use Rattle.answers.specs.declared.answer.Refusal.TheVariants.{NotHeld}
 use Rattle.answers.specs.Answers.{remove_end, remove_read}
 use Rattle.answers.specs.Changes.{removed_index}
 use Rattle.walks.specs.Count.{entries_at}
@@ -38,7 +39,7 @@ use Rattle.removal.specs.Tree.{RemoveDone}
 use Rattle.removal.proofs.ZeroMemory.{all_zeros}
 
 -- the cell is not held
-pub not_held : (m : List ℕ) (level root : ℕ) (c : Cell) (b : Bool) → TreeIn m level root → b ≡ held_read c (reading fanout m) → not b ≡ true → RemoveDone m c m NotHeld
+pub not_held : (m : List ℕ) (level root : ℕ) (c : Cell) (b : Bool) → TreeIn m level root → b ≡ held_read c (reading fanout m) → not b ≡ true → RemoveDone m c m (Err NotHeld)
 unfolding held_read remove_read remove_end
 not_held m level root c b v e f =
     let h : holds index_space c (some v.tree) ≡ false = sym (rw v.reads at e) ∙ not-true b f in
@@ -92,7 +93,7 @@ module _ (m : List ℕ) (level root : ℕ) (c : Cell) (b : Bool) (v : TreeIn m l
     held_some = let a = entries_remaining in let h = count_is in omega arith
 
     -- the answer, and the memory by what it reads as
-    done : (m' : List ℕ) → reading fanout m' ≡ some (remove index_space c (some v.tree)) → length m' ≡ length m → RemoveDone m c m' (Accepted (n - 1))
+    done : (m' : List ℕ) → reading fanout m' ≡ some (remove index_space c (some v.tree)) → length m' ≡ length m → RemoveDone m c m' (Ok (n - 1))
     unfolding remove_read remove_end removed_index
     done m' r l =
         let a = entries_remaining in
@@ -141,7 +142,7 @@ module _ (m : List ℕ) (level root : ℕ) (c : Cell) (b : Bool) (v : TreeIn m l
             tested = test_of_sound fanout _ (rw q at (remove_sound index_space (plane_space_laws fanout) index_root c (some v.tree) sound));
           })
 
-      pub tree_remaining : s ≡ true → RemoveDone m c m₁ (Accepted (n - 1))
+      pub tree_remaining : s ≡ true → RemoveDone m c m₁ (Ok (n - 1))
       unfolding prune
       tree_remaining t =
           done m₁ (reads_remaining (without index_space v.tree.level c v.tree.items) refl (sym t ∙ remaining_is)) below.beside.same_length
@@ -151,7 +152,7 @@ module _ (m : List ℕ) (level root : ℕ) (c : Cell) (b : Bool) (v : TreeIn m l
       none_remaining_lem (x ∷ l) q = let z : ◌≡◌ {A = ℕ} 0 1 = cc in absurd (omega arith)
 
       -- nothing is left: the memory is all zeros
-      pub tree_gone : (m₂ : List ℕ) → s ≡ false → m₂ ≡ no_tree m₁ → RemoveDone m c m₂ (Accepted (n - 1))
+      pub tree_gone : (m₂ : List ℕ) → s ≡ false → m₂ ≡ no_tree m₁ → RemoveDone m c m₂ (Ok (n - 1))
       unfolding prune total
       tree_gone m₂ t d =
           let q = none_remaining_lem (without index_space v.tree.level c v.tree.items) (sym t ∙ remaining_is) in

@@ -4,7 +4,7 @@ ghost use Rattle.removal.specs.Below.{TakesItem, EntryTaken, BranchTaken, Remova
 use crate::place::entry_place;
 use geometry::Cell;
 use layout::{node_at, part_at, set_free, set_node};
-use walks::{ChildFound, child_with};
+use walks::{Child, child_with};
 
 // Takes the i-th entry out of the leaf at part k, which is set free if it was the last. Answers whether
 // the leaf is left.
@@ -21,7 +21,8 @@ fn take_entry(m: &mut [u32], k: u32, i: usize) -> bool
     true
 }
 
-// The same with the i-th branch of the routing node at part k.
+// The same with the i-th branch of the routing node at part k. Two functions, since each promises what is taken by a
+// definition of its own.
 fn take_branch(m: &mut [u32], k: u32, i: usize) -> bool
     requires { TakesItem m.old k i }
     ensures { BranchTaken m.old k i m.new result }
@@ -45,8 +46,7 @@ pub fn remove_below(m: &mut [u32], level: u32, lo: u32, k: u32, c: Cell) -> bool
         let i = entry_place(part_at(m, k), c);
         return take_entry(m, k, i);
     }
-    let child = child_with(m, lo, k, c);
-    let ChildFound::Child { at, low, part } = child else {
+    let Some(Child { at, low, part }) = child_with(m, lo, k, c) else {
         // not reached: an entry of the cell is held below the node
         return true;
     };

@@ -2,17 +2,17 @@
 ghost use Rattle.std.specs.Prelude.{◌≡◌};
 ghost use Rattle.answers.specs.Answers.{clear_answer, cleared};
 
-use answers::Cleared;
+use answers::Refusal;
 use layout::{fill_zeros, is_index_length};
 
 // Empties the index. It needs only a right length, so it also serves a memory that reads as no tree.
-pub fn clear(m: &mut [u32]) -> Cleared
+pub fn clear(m: &mut [u32]) -> Result<u32, Refusal>
     ensures answer { result ≡ clear_answer m.old }
     ensures memory { m.new ≡ cleared m.old }
 {
     if is_index_length(m) {
         fill_zeros(m);
-        return Cleared::Accepted(0);
+        return Ok(0);
     }
-    Cleared::WrongLength
+    Err(Refusal::WrongLength)
 }

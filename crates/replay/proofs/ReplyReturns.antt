@@ -1,37 +1,24 @@
 -- Replies: where their numbers are stored.
-use Prim.Native.Nat.{ℕ, ◌+◌, ◌*◌, ◌≤◌}
-use mathlib.Core.List.{List, [], ◌∷◌, ◌++◌, append_assoc}
-use mathlib.Core.Path.{◌≡◌, refl, sym, ap, ◌∙◌}
+use Prim.Native.Nat.{ℕ, suc, ◌+◌, ◌*◌, ◌-◌, ◌≤◌}
+use mathlib.Core.List.{List, ◌++◌, append_assoc}
+use mathlib.Core.Path.{◌≡◌, sym, ◌∙◌}
 use native.Mathlib.Omega.{arith}
-use native.Mathlib.Numerals.{towards_suc}
-use lib.ListN.{length, get_or, set, take, drop}
-use lib.Seq.{sets, length-sets, sets-eq}
-use Rattle.answers.specs.Numbers.{seven_of, with_seven}
+use native.Mathlib.Numerals.{add-one}
+use lib.ListN.{length, set, take, drop, length-set}
+use lib.Seq.{length-sets, sets-eq, drop-drop}
+use Rattle.answers.specs.Numbers.{with_seven}
 use Rattle.answers.specs.declared.reply.Reply.{Reply}
 use Rattle.replay.specs.Replies.{reply_numbers, put_reply}
 
--- a list of seven values
-seven_are : (l : List ℕ) → length l ≡ 7 → l ≡ seven_of l
-seven_are [] h = absurd (omega arith)
-seven_are (a ∷ []) h = absurd (omega arith)
-seven_are (a ∷ b ∷ []) h = absurd (omega arith)
-seven_are (a ∷ b ∷ c ∷ []) h = absurd (omega arith)
-seven_are (a ∷ b ∷ c ∷ d ∷ []) h = absurd (omega arith)
-seven_are (a ∷ b ∷ c ∷ d ∷ e ∷ []) h = absurd (omega arith)
-seven_are (a ∷ b ∷ c ∷ d ∷ e ∷ f ∷ []) h = absurd (omega arith)
-seven_are (a ∷ b ∷ c ∷ d ∷ e ∷ f ∷ g ∷ []) h = refl
-seven_are (a ∷ b ∷ c ∷ d ∷ e ∷ f ∷ g ∷ x ∷ l) h = absurd (omega arith)
-
--- its numbers stored one after another
-pub stored_reply : (a : List ℕ) (i : ℕ) (r : Reply) → length r.values ≡ 7
-    → set (set (set (set (set (set (set (set a (8 * i) r.number)
-    (8 * i + 1) (get_or r.values 0 0)) (8 * i + 2) (get_or r.values 1 0)) (8 * i + 3) (get_or r.values 2 0)) (8 * i + 4) (get_or r.values 3 0))
-    (8 * i + 5) (get_or r.values 4 0)) (8 * i + 6) (get_or r.values 5 0)) (8 * i + 7) (get_or r.values 6 0)
-    ≡ put_reply a i r
+-- its number stored, and its values behind it
+pub stored_reply : (a : List ℕ) (i n : ℕ) (values : List ℕ) (r : Reply) → n ≡ r.number → values ≡ r.values → length r.values ≡ 7 → 8 * i + 8 ≤ length a
+    → take (8 * i + 1) (set a (8 * i) n) ++ (values ++ drop (8 * i + 8 - (8 * i + 1)) (drop (8 * i + 1) (set a (8 * i) n))) ≡ put_reply a i r
 unfolding put_reply reply_numbers
-stored_reply a i r h =
-    let e : sets a (8 * i) (r.number ∷ seven_of r.values) ≡ put_reply a i r = ap (λ l. sets a (8 * i) (r.number ∷ l)) (sym (seven_are r.values h)) in
-    simp towards_suc e
+stored_reply a i n values r e f h g =
+    let b = set a (8 * i) r.number in
+    let l : suc (8 * i) + length r.values ≤ length b = rw (length-set, h) (omega arith) in
+    let k : 8 * i + 8 - (8 * i + 1) ≡ length r.values = rw h (omega arith) in
+    rw (e, f, k, add-one (8 * i), drop-drop) (sym (sets-eq r.values b (suc (8 * i)) l ∙ append_assoc (take (suc (8 * i)) b) r.values (drop (suc (8 * i) + length r.values) b)))
 
 -- a stored reply keeps the length
 pub length_reply : (l : List ℕ) (i : ℕ) (r : Reply) → length (put_reply l i r) ≡ length l

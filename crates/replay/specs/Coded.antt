@@ -4,7 +4,17 @@ use Rattle.geometry.specs.Cells.{cell_of, rect_of}
 use Rattle.tree.specs.Calls.{insert_call, remove_call, clear_call, point_call, window_call, nearest_call, empty_call}
 use Rattle.plane.specs.Lines.{entry_of}
 use Rattle.history.specs.Calls.{IndexCall}
-use Rattle.replay.specs.declared.coded.CodedCall.{CodedCall}
+use Rattle.layout.specs.Entries.{tree_entry}
+use Rattle.replay.specs.declared.coded.Call.{Call}
+use Rattle.replay.specs.declared.coded.Call.TheVariants as C
+
+-- the kind of a call and its four arguments, as numbers
+pub record CodedCall : Type 0 where
+  pub kind : ℕ
+  pub a : ℕ
+  pub b : ℕ
+  pub c : ℕ
+  pub d : ℕ
 
 -- the kind and the arguments of the i-th call
 unfoldable pub coded_at : List ℕ → ℕ → CodedCall
@@ -33,6 +43,16 @@ call_of k =
     (cond (eqb k.kind 3) (point_call (cell_of k.a k.b))
     (cond (eqb k.kind 4) (window_call (rect_of k.a k.b k.c k.d))
     (cond (eqb k.kind 5) (nearest_call (cell_of k.a k.b)) (empty_call (rect_of k.a k.b k.c k.d)))))))
+
+-- the call as the code has it
+abbrev pub index_call : Call → IndexCall
+index_call (C.Insert e) = insert_call (tree_entry e)
+index_call (C.Remove c) = remove_call c
+index_call C.Clear = clear_call
+index_call (C.Point c) = point_call c
+index_call (C.Window w) = window_call w
+index_call (C.Nearest c) = nearest_call c
+index_call (C.IsEmpty w) = empty_call w
 
 -- the last known kind
 abbrev pub last_kind : ℕ

@@ -28,6 +28,7 @@ pub fn replay(calls: &[u32], m: &mut [u32], lent: &mut [u32], answers: &mut [u64
         m.new lent.new answers.new }
 {
     let mut i: usize = 0;
+    // a while: whether one more call can be made is known by its test alone
     while fits(calls, i, lent.len(), answers.len()) {
         make_one(calls, i, m, lent, answers);
         i += 1;

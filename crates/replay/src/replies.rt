@@ -10,13 +10,6 @@ pub fn put_reply(answers: &mut [u64], i: usize, reply: Reply)
     ensures { answers.new ≡ put_reply answers.old i reply }
 {
     let k = 8 * i;
-    let values = reply.values;
-    answers[k] = reply.number as u64;
-    answers[k + 1] = values[0];
-    answers[k + 2] = values[1];
-    answers[k + 3] = values[2];
-    answers[k + 4] = values[3];
-    answers[k + 5] = values[4];
-    answers[k + 6] = values[5];
-    answers[k + 7] = values[6];
+    answers[k] = u64::from(reply.number);
+    answers[k + 1..k + 8].copy_from_slice(&reply.values);
 }

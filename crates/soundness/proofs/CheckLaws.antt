@@ -6,6 +6,8 @@ use mathlib.Core.Option.{Option, none, some, bind}
 use Prim.Native.Nat.{ℕ, suc, ◌+◌, ◌<◌, ◌≤◌}
 use native.Mathlib.Omega.{arith}
 use borrow.Author.Tests.{le-leb, lt-leb, lt-ltb, le-ltb}
+use Rattle.std.specs.Prelude.{Some, None}
+use Rattle.std.specs.Prelude as S
 use lib.ListN.{length}
 use Rattle.polygons.proofs.Booleans.{both}
 use Rattle.geometry.specs.declared.rect.Rect.{Rect}
@@ -22,13 +24,26 @@ use Rattle.memory.proofs.ReadingLaws.{row_none, row_parts, row_length, FitsAs, f
 use Rattle.layout.proofs.ReadNodes.{node_polygon}
 use Rattle.soundness.specs.Check.{node_test, checked, checked_at, parts_apart}
 
-both_or_none : (a b : Bool) (x : ℕ) → cond (a && b) x 0 ≡ cond a (cond b x 0) 0
+both_or_none : (a b : Bool) (x : S.Option ℕ) → cond (a && b) x None ≡ cond a (cond b x None) None
 both_or_none true b x = refl
 both_or_none false b x = refl
 
-pub none_or_none : (a : Bool) → ◌≡◌ {A = ℕ} (cond a 0 0) 0
+pub none_or_none : (a : Bool) → ◌≡◌ {A = S.Option ℕ} (cond a None None) None
 none_or_none true = refl
 none_or_none false = refl
+
+-- a number that was counted
+counted_or : ℕ → S.Option ℕ → ℕ
+counted_or d None = d
+counted_or d (Some c) = c
+
+pub same_count : (c d : ℕ) → Some c ≡ Some d → c ≡ d
+unfolding counted_or
+same_count c d e = ap (counted_or 0) e
+
+pub counted_none : (c : ℕ) → Some c ≡ None → ⊥
+unfolding counted_or
+counted_none c e = let h : c ≡ c + 1 = ap (counted_or (c + 1)) e in absurd (omega arith)
 
 first_of_five : (a b c d e : Bool) → a && b && c && d && e ≡ a && (b && c && d && e)
 first_of_five true b c d e = refl
@@ -40,13 +55,13 @@ unfolding item_test node_test
 item_node n p b =
     first_of_five (inside_of p b.poly) (polygon_fits b.poly) (count_test fanout b.child) (all_pass (item_test fanout n b.poly) b.child) (pairs_pass (apart_test fanout n) b.child)
 
--- the nodes of a row of branches below the polygon p, a more than they have; 0 where it does not read or one of them does not pass
-unfoldable pub row_sum : (n : ℕ) → List Rect → ℕ → Option (List (Item index_space (suc n))) → ℕ
-row_sum n p a none = 0
-row_sum n p a (some bs) = cond (all_pass (item_test fanout (suc n) p) bs) (a + total (nodes index_space (suc n)) bs) 0
+-- the nodes of a row of branches below the polygon p, a more than they have; none where it does not read or one of them does not pass
+unfoldable pub row_sum : (n : ℕ) → List Rect → ℕ → Option (List (Item index_space (suc n))) → S.Option ℕ
+row_sum n p a none = None
+row_sum n p a (some bs) = cond (all_pass (item_test fanout (suc n) p) bs) (Some (a + total (nodes index_space (suc n)) bs)) None
 
 -- the same of the row of parts ks of a memory
-unfoldable pub row_checked : ℕ → List ℕ → List Rect → ℕ → ℕ → ℕ → List ℕ → ℕ
+unfoldable pub row_checked : ℕ → List ℕ → List Rect → ℕ → ℕ → ℕ → List ℕ → S.Option ℕ
 row_checked n m p a lo hi ks = row_sum n p a (read_row (read_node fanout n m) lo hi ks)
 
 -- a subtree that was read and is sound in itself, with c nodes
@@ -57,75 +72,75 @@ pub record Found (n : ℕ) (o : Option (Item index_space (suc n))) (c : ℕ) : T
   pub count : c ≡ nodes index_space (suc n) node
 
 found_by : (n : ℕ) (o : Option (Item index_space (suc n))) (b : Item index_space (suc n)) (t : Bool) (c : ℕ)
-    → node_test n b ≡ t → o ≡ some b → c ≡ cond t (nodes index_space (suc n) b) 0 → (c ≡ 0 → ⊥) → Found n o c
-found_by n o b true c s e q h = record { node = b; read = e; sound = s; count = q }
-found_by n o b false c s e q h = absurd (h q)
+    → node_test n b ≡ t → o ≡ some b → Some c ≡ cond t (Some (nodes index_space (suc n) b)) None → Found n o c
+found_by n o b true c s e q = record { node = b; read = e; sound = s; count = same_count _ _ q }
+found_by n o b false c s e q = absurd (counted_none _ q)
 
--- a number that is not 0 was counted
-pub found : (n : ℕ) (o : Option (Item index_space (suc n))) (c : ℕ) → c ≡ checked n o → (c ≡ 0 → ⊥) → Found n o c
+-- a number was counted
+pub found : (n : ℕ) (o : Option (Item index_space (suc n))) (c : ℕ) → Some c ≡ checked n o → Found n o c
 unfolding checked
-found n none c q h = absurd (h q)
-found n (some b) c q h = found_by n (some b) b (node_test n b) c refl refl q h
+found n none c q = absurd (counted_none c q)
+found n (some b) c q = found_by n (some b) b (node_test n b) c refl refl q
 
--- 0 was not
-lost : (n : ℕ) (b : Item index_space (suc n)) → checked n (some b) ≡ 0 → node_test n b ≡ false
-unfolding checked nodes
+-- where none was, the node is not sound
+lost : (n : ℕ) (b : Item index_space (suc n)) → checked n (some b) ≡ None → node_test n b ≡ false
+unfolding checked
 lost n b e = go (node_test n b) e
   where
-    go : (t : Bool) → cond t (1 + total (nodes index_space n) b.child) 0 ≡ 0 → t ≡ false
-    go true q = absurd (omega arith)
+    go : (t : Bool) → cond t (Some (nodes index_space (suc n) b)) None ≡ None → t ≡ false
+    go true q = absurd (counted_none _ q)
     go false q = refl
 
 sum_cons : (n : ℕ) (p : List Rect) (a : ℕ) (b : Item index_space (suc n)) (o : Option (List (Item index_space (suc n))))
-    → row_sum n p a (bind o λ bs. some (b ∷ bs)) ≡ cond (item_test fanout (suc n) p b) (row_sum n p (a + nodes index_space (suc n) b) o) 0
+    → row_sum n p a (bind o λ bs. some (b ∷ bs)) ≡ cond (item_test fanout (suc n) p b) (row_sum n p (a + nodes index_space (suc n) b) o) None
 unfolding row_sum bind all_pass total
 sum_cons n p a b none = sym (none_or_none (item_test fanout (suc n) p b))
 sum_cons n p a b (some bs) =
     let x = nodes index_space (suc n) b in
     let y = total (nodes index_space (suc n)) bs in
     let e : a + (x + y) ≡ a + x + y = omega arith in
-    both_or_none (item_test fanout (suc n) p b) (all_pass (item_test fanout (suc n) p) bs) (a + (x + y))
-    ∙ ap (λ k. cond (item_test fanout (suc n) p b) (cond (all_pass (item_test fanout (suc n) p) bs) k 0) 0) e
+    both_or_none (item_test fanout (suc n) p b) (all_pass (item_test fanout (suc n) p) bs) (Some (a + (x + y)))
+    ∙ ap (λ k. cond (item_test fanout (suc n) p b) (cond (all_pass (item_test fanout (suc n) p) bs) (Some k) None) None) e
 
 module _ (n : ℕ) (m : List ℕ) (p : List Rect) (a lo hi j : ℕ) (ks : List ℕ) where
   -- a branch that lies too low, or too high, is not read
-  pub low_row : j < lo → row_checked n m p a lo hi (j ∷ ks) ≡ 0
+  pub low_row : j < lo → row_checked n m p a lo hi (j ∷ ks) ≡ None
   unfolding row_checked row_sum read_row
   low_row h = rw (lt-leb lo j h)
 
-  pub high_row : lo ≤ j → hi ≤ j → row_checked n m p a lo hi (j ∷ ks) ≡ 0
+  pub high_row : lo ≤ j → hi ≤ j → row_checked n m p a lo hi (j ∷ ks) ≡ None
   unfolding row_checked row_sum read_row
   high_row l h = rw (le-leb lo j l, le-ltb j hi h)
 
   module _ (l : lo ≤ j) (h : j < hi) where
     -- a branch that reads as none
-    none_row : read_node fanout n m lo j ≡ none → row_checked n m p a lo hi (j ∷ ks) ≡ 0
+    none_row : read_node fanout n m lo j ≡ none → row_checked n m p a lo hi (j ∷ ks) ≡ None
     unfolding row_checked row_sum read_row bind
     none_row e = rw (le-leb lo j l, lt-ltb j hi h, e)
 
     -- a branch that reads: it is tested, and the others after it
     some_row : (b : Item index_space (suc n)) → read_node fanout n m lo j ≡ some b
         → row_checked n m p a lo hi (j ∷ ks)
-        ≡ cond (item_test fanout (suc n) p b) (row_checked n m p (a + nodes index_space (suc n) b) (j + 1) hi ks) 0
+        ≡ cond (item_test fanout (suc n) p b) (row_checked n m p (a + nodes index_space (suc n) b) (j + 1) hi ks) None
     unfolding row_checked read_row bind
     some_row b e = rw (le-leb lo j l, lt-ltb j hi h, e) (sum_cons n p a b (read_row (read_node fanout n m) (j + 1) hi ks))
 
     -- a branch that is not sound in itself
-    pub lost_row : checked_at n m lo j ≡ 0 → row_checked n m p a lo hi (j ∷ ks) ≡ 0
+    pub lost_row : checked_at n m lo j ≡ None → row_checked n m p a lo hi (j ∷ ks) ≡ None
     unfolding checked_at
     lost_row e = go (read_node fanout n m lo j) refl e
       where
-        go : (o : Option (Item index_space (suc n))) → read_node fanout n m lo j ≡ o → checked n o ≡ 0 → row_checked n m p a lo hi (j ∷ ks) ≡ 0
+        go : (o : Option (Item index_space (suc n))) → read_node fanout n m lo j ≡ o → checked n o ≡ None → row_checked n m p a lo hi (j ∷ ks) ≡ None
         go none r q = none_row r
         go (some b) r q =
             let f : item_test fanout (suc n) p b ≡ false = item_node n p b ∙ ap (λ t. inside_of p b.poly && t) (lost n b q) ∙ and-false (inside_of p b.poly) in
             some_row b r ∙ rw f
 
-    module _ (c : ℕ) (q : c ≡ checked_at n m lo j) (s : c ≡ 0 → ⊥) (x : Bool) (e : x ≡ inside_of p (polygon_in (part m j))) where
-      pub found_row : row_checked n m p a lo hi (j ∷ ks) ≡ cond x (row_checked n m p (a + c) (j + 1) hi ks) 0
+    module _ (c : ℕ) (q : Some c ≡ checked_at n m lo j) (x : Bool) (e : x ≡ inside_of p (polygon_in (part m j))) where
+      pub found_row : row_checked n m p a lo hi (j ∷ ks) ≡ cond x (row_checked n m p (a + c) (j + 1) hi ks) None
       unfolding checked_at
       found_row =
-          let f = found n (read_node fanout n m lo j) c q s in
+          let f = found n (read_node fanout n m lo j) c q in
           let y : x ≡ inside_of p f.node.poly = e ∙ ap (inside_of p) (sym (node_polygon n m lo j f.node f.read)) in
           let t : item_test fanout (suc n) p f.node ≡ x = item_node n p f.node ∙ ap (λ t. inside_of p f.node.poly && t) f.sound ∙ and-true _ ∙ sym y in
           some_row f.node f.read ∙ rw (t, ← f.count)
@@ -163,7 +178,7 @@ pub count_fits : {A : Type 0} (l : List A) → 1 ≤ length l → length l ≤ 8
 unfolding count_test
 count_fits l a b = both _ _ (le-leb _ _ a) (le-leb _ _ b)
 
-pub later_first : (a b c d : Bool) (x : ℕ) → a ≡ true → b ≡ true → cond (a && b && c && d) x 0 ≡ cond d (cond c x 0) 0
+pub later_first : (a b c d : Bool) (x : S.Option ℕ) → a ≡ true → b ≡ true → cond (a && b && c && d) x None ≡ cond d (cond c x None) None
 later_first true true true d x e f = refl
 later_first true true false true x e f = refl
 later_first true true false false x e f = refl
@@ -173,7 +188,7 @@ later_first true false c d x e f = absurd (false≢true f)
 of_row : (n : ℕ) (m : List ℕ) (lo k : ℕ) (o : Option (List (Item index_space (suc n)))) → FitsAs fanout 1 m k → all_valid (polygon_in (part m k)) ≡ true
     → read_row (read_node fanout n m) lo k (children_in (part m k)) ≡ o
     → checked (suc n) (bind o λ bs. some (branch_of fanout (part m k) bs))
-    ≡ cond (pairs_pass (parts_apart m) (children_in (part m k))) (row_sum n (polygon_in (part m k)) 1 o) 0
+    ≡ cond (pairs_pass (parts_apart m) (children_in (part m k))) (row_sum n (polygon_in (part m k)) 1 o) None
 unfolding bind checked row_sum node_test nodes
 of_row n m lo k none f v e = sym (none_or_none (pairs_pass (parts_apart m) (children_in (part m k))))
 of_row n m lo k (some bs) f v e =
@@ -183,15 +198,15 @@ of_row n m lo k (some bs) f v e =
     let c = children_length fanout m k f.below (omega arith) in
     rw (← (pairs_row n m lo k (children_in (part m k)) bs e))
     (later_first (polygon_fits (polygon_in (part m k))) (count_test fanout bs) (all_pass (item_test fanout (suc n) (polygon_in (part m k))) bs) (pairs_pass (apart_test fanout (suc n)) bs)
-    (1 + total (nodes index_space (suc n)) bs) (fits_polygon 1 m k f v) (count_fits bs (omega arith) (omega arith)))
+    (Some (1 + total (nodes index_space (suc n)) bs)) (fits_polygon 1 m k f v) (count_fits bs (omega arith) (omega arith)))
 
 -- a routing node: its row of branches, and that they are apart
 pub checked_node : (n : ℕ) (m : List ℕ) (lo k : ℕ) → node_fits fanout 1 m k ≡ true → all_valid (polygon_in (part m k)) ≡ true
-    → checked_at (suc n) m lo k ≡ cond (pairs_pass (parts_apart m) (children_in (part m k))) (row_checked n m (polygon_in (part m k)) 1 lo k (children_in (part m k))) 0
+    → checked_at (suc n) m lo k ≡ cond (pairs_pass (parts_apart m) (children_in (part m k))) (row_checked n m (polygon_in (part m k)) 1 lo k (children_in (part m k))) None
 unfolding checked_at read_node row_checked
 checked_node n m lo k f v = rw f (go (read_row (read_node fanout n m) lo k (children_in (part m k))) refl)
   where
     go : (o : Option (List (Item index_space (suc n)))) → read_row (read_node fanout n m) lo k (children_in (part m k)) ≡ o
         → checked (suc n) (bind o λ bs. some (branch_of fanout (part m k) bs))
-        ≡ cond (pairs_pass (parts_apart m) (children_in (part m k))) (row_sum n (polygon_in (part m k)) 1 o) 0
+        ≡ cond (pairs_pass (parts_apart m) (children_in (part m k))) (row_sum n (polygon_in (part m k)) 1 o) None
     go o e = of_row n m lo k o (fits_as fanout 1 m k f) v e

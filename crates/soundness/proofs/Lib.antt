@@ -3,3 +3,4 @@ pub mod CheckLaws
 pub mod CheckLoops
 pub mod OpenLaws
 pub mod ReadsLaws
+pub mod Opened

@@ -22,11 +22,12 @@ use Rattle.memory.specs.TreeIn.{TreeIn}
 use Rattle.memory.proofs.ReadingLaws.{index_length, ReadAs, read_as, read_empty, make_reading, zeros_read, zero_at, level_range}
 use Rattle.layout.specs.Nodes.{PartIn}
 use Rattle.layout.proofs.ReadNodes.{node_polygon, node_part_lem}
+use Rattle.std.specs.Prelude.{Some, None}
+use Rattle.std.specs.Prelude as S
 use Rattle.soundness.specs.Check.{node_test, checked, checked_at}
-use Rattle.soundness.specs.Open.{OpenedAs}
-use Rattle.soundness.specs.declared.opening.Opened.{Opened}
-use Rattle.soundness.specs.declared.opening.Opened.TheVariants as O
-use Rattle.soundness.proofs.CheckLaws.{found}
+use Rattle.answers.specs.declared.answer.Refusal.TheVariants as R
+use Rattle.soundness.specs.Open.{NoTree}
+use Rattle.soundness.proofs.CheckLaws.{found, counted_none, same_count}
 
 -- a length that was tested is right
 pub right_is : (m : List ℕ) (b : Bool) → b ≡ is_index_length m → b ≡ true → is_index_length m ≡ true
@@ -70,31 +71,27 @@ module _ (m : List ℕ) (r : is_index_length m ≡ true) (g : ℕ) (g_is : g ≡
   pub open_empty : a ≡ true → reading fanout m ≡ some none
   open_empty f = zeros_read fanout m r (sym e ∙ f)
 
-  pub open_zero : a ≡ false → reading fanout m ≡ none
+  pub open_zero : a ≡ false → NoTree m R.NoSoundTree
   unfolding reading
-  open_zero f = rw (r, ← g_is, z, ← e, f)
+  open_zero f = record { reason = refl; reads = rw (r, ← g_is, z, ← e, f) }
 
 -- a memory that reads as no tree and is not empty
-no_tree_lem : (m : List ℕ) → (height_in m ≡ 0 → ⊥) → ((t : Tree index_space) → ReadAs fanout m t → ⊥) → reading fanout m ≡ none
+no_tree_lem : (m : List ℕ) → (height_in m ≡ 0 → ⊥) → ((t : Tree index_space) → ReadAs fanout m t → ⊥) → NoTree m R.NoSoundTree
 no_tree_lem m n f = go (reading fanout m) refl
   where
-    go : (o : Option (Option (Tree index_space))) → reading fanout m ≡ o → reading fanout m ≡ none
-    go none e = e
+    go : (o : Option (Option (Tree index_space))) → reading fanout m ≡ o → NoTree m R.NoSoundTree
+    go none e = record { reason = refl; reads = e }
     go (some none) e = absurd (n (zero_at m 8 (read_empty fanout m e).1))
     go (some (some t)) e = absurd (f t (read_as fanout m t e))
 
 -- a tree that was read is counted
 tree_counted : (m : List ℕ) (t : Tree index_space) → ReadAs fanout m t
-    → checked_at (height_in m - 1) m 0 (root_in m) ≡ nodes index_space (suc t.level) (top index_space t)
+    → checked_at (height_in m - 1) m 0 (root_in m) ≡ Some (nodes index_space (suc t.level) (top index_space t))
 unfolding checked_at checked
 tree_counted m t x =
     let h = x.height_is in
     let q : height_in m - 1 ≡ t.level = omega arith in
     ap (λ n. checked_at n m 0 (root_in m)) q ∙ rw (x.root_node, (root_sound t x.tested).sound)
-
-node_some : (n : ℕ) (b : Item index_space (suc n)) → nodes index_space (suc n) b ≡ 0 → ⊥
-unfolding nodes
-node_some n b e = omega arith
 
 -- the root of a tree that was read has one rectangle
 tree_one : (m : List ℕ) (t : Tree index_space) → ReadAs fanout m t → rect_count (part m (root_in m)) ≡ 1
@@ -107,36 +104,39 @@ module _ (m : List ℕ) (g : ℕ) (g_is : g ≡ height_in m) (z : g ≡ 0 → �
   not_empty_lem : height_in m ≡ 0 → ⊥
   not_empty_lem e = z (g_is ∙ e)
 
-  pub open_deep : k < g - 1 → reading fanout m ≡ none
+  pub open_deep : k < g - 1 → NoTree m R.NoSoundTree
   open_deep h = no_tree_lem m not_empty_lem λ t x.
       let a = level_range fanout m t.level 0 (root_in m) (top index_space t) (omega arith) x.root_node in
       let b = x.height_is in
       omega arith
 
-  pub open_head : (a : Bool) → a ≡ all_zero (drop 10 (take 64 m)) → a ≡ false → reading fanout m ≡ none
+  pub open_head : (a : Bool) → a ≡ all_zero (drop 10 (take 64 m)) → a ≡ false → NoTree m R.NoSoundTree
   open_head a e f = no_tree_lem m not_empty_lem λ t x. not_both a (e ∙ x.head_zero) f
 
-  pub open_wide : (p : List ℕ) (r : ℕ) → p ≡ part m k → r ≡ rect_count p → (r ≡ 1 → ⊥) → reading fanout m ≡ none
+  pub open_wide : (p : List ℕ) (r : ℕ) → p ≡ part m k → r ≡ rect_count p → (r ≡ 1 → ⊥) → NoTree m R.NoSoundTree
   open_wide p r p_is r_is f = no_tree_lem m not_empty_lem λ t x. f (r_is ∙ ap rect_count (p_is ∙ ap (part m) k_is) ∙ tree_one m t x)
 
-  pub open_unused : (d : Bool) → d ≡ others_zero m (parts_of m) → d ≡ false → reading fanout m ≡ none
+  pub open_unused : (d : Bool) → d ≡ others_zero m (parts_of m) → d ≡ false → NoTree m R.NoSoundTree
   open_unused d q f = no_tree_lem m not_empty_lem λ t x. not_both d (q ∙ x.others_zero) f
 
-  module _ (c : ℕ) (e : c ≡ checked_at (g - 1) m 0 k) where
-    count_is : c ≡ checked_at (height_in m - 1) m 0 (root_in m)
-    count_is = rw (g_is, k_is) at e
+  module _ (r : S.Option ℕ) (e : r ≡ checked_at (g - 1) m 0 k) where
+    checked_is : r ≡ checked_at (height_in m - 1) m 0 (root_in m)
+    checked_is = rw (g_is, k_is) at e
 
-    pub open_unsound : c ≡ 0 → reading fanout m ≡ none
-    open_unsound f = no_tree_lem m not_empty_lem λ t x. node_some t.level (top index_space t) (sym (tree_counted m t x) ∙ sym count_is ∙ f)
+    pub open_unsound : r ≡ None → NoTree m R.NoSoundTree
+    open_unsound f = no_tree_lem m not_empty_lem λ t x. counted_none _ (sym (tree_counted m t x) ∙ sym checked_is ∙ f)
 
-    pub open_bits : (b : ℕ) → b ≡ bits_set m → (c ≡ b → ⊥) → reading fanout m ≡ none
-    open_bits b q f = no_tree_lem m not_empty_lem λ t x. f (count_is ∙ tree_counted m t x ∙ x.bits ∙ sym q)
+    module _ (c : ℕ) (s : r ≡ Some c) where
+      count_is : Some c ≡ checked_at (height_in m - 1) m 0 (root_in m)
+      count_is = sym s ∙ checked_is
 
-    module _ (s : c ≡ 0 → ⊥) where
+      pub open_bits : (b : ℕ) → b ≡ bits_set m → (c ≡ b → ⊥) → NoTree m R.NoSoundTree
+      open_bits b q f = no_tree_lem m not_empty_lem λ t x. f (same_count _ _ (count_is ∙ tree_counted m t x) ∙ x.bits ∙ sym q)
+
       pub open_in : PartIn m k
       unfolding checked_at
       open_in =
-          let x = found (g - 1) (read_node fanout (g - 1) m 0 k) c e s in
+          let x = found (g - 1) (read_node fanout (g - 1) m 0 k) c (sym s ∙ e) in
           let b = (node_part_lem (g - 1) m 0 k x.node x.read).below in
           omega arith
 
@@ -144,7 +144,7 @@ module _ (m : List ℕ) (g : ℕ) (g_is : g ≡ height_in m) (z : g ≡ 0 → �
           → p ≡ part m k → r ≡ rect_count p → r ≡ 1 → d ≡ others_zero m (parts_of m) → d ≡ true → TreeIn m (height_in m - 1) (root_in m)
       unfolding checked_at
       open_root a b p r d l ea fa eb fb p_is r_is one ed fd =
-          let x = found (height_in m - 1) (read_node fanout (height_in m - 1) m 0 (root_in m)) c count_is s in
+          let x = found (height_in m - 1) (read_node fanout (height_in m - 1) m 0 (root_in m)) c count_is in
           let q = node_polygon (height_in m - 1) m 0 (root_in m) x.node x.read in
           let o : rect_count (part m (root_in m)) ≡ 1 = sym (r_is ∙ ap rect_count (p_is ∙ ap (part m) k_is)) ∙ one in
           let w : length x.node.poly ≡ 1 = ap length q ∙ length_rects (rect_numbers (part m (root_in m))) (rect_count (part m (root_in m))) ∙ o in
@@ -170,7 +170,3 @@ module _ (m : List ℕ) (g : ℕ) (g_is : g ≡ height_in m) (z : g ≡ 0 → �
 -- the length was tested
 pub length_tested : (m : List ℕ) (b : Bool) → b ≡ is_index_length m → not b ≡ false → is_index_length m ≡ true
 length_tested m b e f = sym e ∙ not-false b f
-
--- the memory was opened as a tree
-pub opened_tree : (m : List ℕ) (o : Opened) (level root : ℕ) → OpenedAs m o → o ≡ O.Tree level root → TreeIn m level root
-opened_tree m o level root p q = rw q at p

@@ -11,9 +11,6 @@ use Rattle.memory.specs.Layout.{is_index_length, height_in, root_in}
 use Rattle.memory.specs.Reading.{reading}
 use Rattle.memory.specs.TreeIn.{TreeIn, Reads, Known}
 use Rattle.memory.proofs.ReadingLaws.{index_length, zero_at, read_empty, read_as}
-use Rattle.soundness.specs.declared.opening.Opened.{Opened}
-use Rattle.soundness.specs.declared.opening.Opened.TheVariants as O
-use Rattle.soundness.specs.Open.{OpenedAs}
 
 -- a memory of which nothing is known, and one that is known to read as an index
 pub unknown : (m : List ℕ) → Known m false
@@ -32,15 +29,6 @@ reads_right m v = go v.index v.reads
 -- its head can be read
 pub reads_long : (m : List ℕ) → Reads m → 64 ≤ length m
 reads_long m v = let r = index_length m (reads_right m v) in omega arith
-
--- a memory that was opened as an index is one
-pub empty_known : (m : List ℕ) (o : Opened) → OpenedAs m o → o ≡ O.Empty → Known m true
-empty_known m o p q = let r : OpenedAs m O.Empty = rw q at p in record { sound = λ e. record { index = none; reads = r } }
-
-pub tree_known : (m : List ℕ) (o : Opened) (level root : ℕ) → OpenedAs m o → o ≡ O.Tree level root → Known m true
-tree_known m o level root p q =
-    let r : OpenedAs m (O.Tree level root) = rw q at p in
-    record { sound = λ e. record { index = some r.tree; reads = r.reads } }
 
 -- its height tells the empty index from a tree
 pub reopen_empty : (m : List ℕ) (g : ℕ) → Reads m → g ≡ height_in m → g ≡ 0 → reading fanout m ≡ some none

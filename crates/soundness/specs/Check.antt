@@ -1,5 +1,6 @@
 -- The soundness test as the code takes it: a node with all below it.
-use Rattle.std.specs.Prelude.{ℕ, suc, ◌<◌, Bool, ◌&&◌, cond, List, length, get_or}
+use Rattle.std.specs.Prelude.{ℕ, suc, ◌<◌, Bool, ◌&&◌, cond, List, length, get_or, Some, None}
+use Rattle.std.specs.Prelude as S
 use Rattle.std.proofs.Math.Option.{Option, none, some}
 use Rattle.cover.specs.Tests.{all_pass, pairs_pass, apart}
 use Rattle.tree.specs.Nodes.{Item, nodes}
@@ -15,13 +16,13 @@ node_test n b =
     polygon_fits b.poly && count_test fanout b.child && all_pass (item_test fanout n b.poly) b.child
     && pairs_pass (apart_test fanout n) b.child
 
--- the number of nodes of a subtree that was read and is sound in itself; 0 otherwise
-unfoldable pub checked : (n : ℕ) → Option (Item index_space (suc n)) → ℕ
-checked n none = 0
-checked n (some b) = cond (node_test n b) (nodes index_space (suc n) b) 0
+-- the number of nodes of a subtree that was read and is sound in itself
+unfoldable pub checked : (n : ℕ) → Option (Item index_space (suc n)) → S.Option ℕ
+checked n none = None
+checked n (some b) = cond (node_test n b) (Some (nodes index_space (suc n) b)) None
 
 -- the same of the subtree at part k of a memory, whose parts are those from lo on
-unfoldable pub checked_at : ℕ → List ℕ → ℕ → ℕ → ℕ
+unfoldable pub checked_at : ℕ → List ℕ → ℕ → ℕ → S.Option ℕ
 checked_at n m lo k = checked n (read_node fanout n m lo k)
 
 -- the polygons at two parts share no cell

@@ -1,5 +1,5 @@
 // The soundness test of a node with all below it.
-ghost use Rattle.std.specs.Prelude.{◌≡◌, ◌&&◌, ◌+◌, ◌≤◌, ◌<◌, length, drop, get_or};
+ghost use Rattle.std.specs.Prelude.{◌≡◌, ◌&&◌, ◌+◌, ◌≤◌, ◌<◌};
 ghost use Rattle.geometry.specs.Cells.{all_valid};
 ghost use Rattle.cover.specs.Tests.{all_pass, pairs_pass, inside_of};
 ghost use Rattle.plane.specs.Fanout.{fanout};
@@ -11,7 +11,7 @@ ghost use Rattle.soundness.specs.Check.{PolygonParts, parts_apart, checked_at};
 use crate::leaf::{entries_apart, entries_inside};
 use cover::{are_apart, inside};
 use geometry::all_valid;
-use layout::{CHILD, ENTRY, children, node_fits, part_at, rect_count, rects};
+use layout::{CHILD, ENTRY, children, node_fits, part_at, polygon_rects};
 
 // Whether the polygon at part j is inside the one at part k.
 fn child_inside(m: &[u32], k: u32, j: u32) -> bool
@@ -19,48 +19,26 @@ fn child_inside(m: &[u32], k: u32, j: u32) -> bool
     requires polygon_part_2 { PolygonPart m.now j }
     ensures { result ≡ inside_of (polygon_in (part m.now k)) (polygon_in (part m.now j)) }
 {
-    let p = part_at(m, k);
-    let q = part_at(m, j);
-    inside(
-        rects(p),
-        rect_count(p) as usize,
-        rects(q),
-        rect_count(q) as usize,
-    )
+    inside(polygon_rects(m, k), polygon_rects(m, j))
 }
 
 // Whether the polygons at parts i and j share no cell.
+#[tactic(auto, unfolding(crate::specs::Check::parts_apart))]
 fn parts_apart(m: &[u32], i: u32, j: u32) -> bool
     requires polygon_part { PolygonPart m.now i }
     requires polygon_part_2 { PolygonPart m.now j }
     ensures { result ≡ parts_apart m.now i j }
 {
-    let p = part_at(m, i);
-    let q = part_at(m, j);
-    are_apart(
-        rects(p),
-        rect_count(p) as usize,
-        rects(q),
-        rect_count(q) as usize,
-    )
+    are_apart(polygon_rects(m, i), polygon_rects(m, j))
 }
 
-// Whether the polygon of the i-th of some parts shares no cell with the later ones'.
-fn none_meets(m: &[u32], ks: &[u32], i: usize) -> bool
-    requires polygon_parts { PolygonParts m.now ks.now }
-    requires i_in_bounds { i < length ks.now }
-    ensures { result ≡ all_pass (parts_apart m.now (get_or ks.now i 0))
-        (drop (i + 1) ks.now) }
+// Whether the polygon at part k shares no cell with those at other parts.
+fn none_meets(m: &[u32], k: u32, others: &[u32]) -> bool
+    requires polygon_part { PolygonPart m.now k }
+    requires polygon_parts { PolygonParts m.now others.now }
+    ensures { result ≡ all_pass (parts_apart m.now k) others.now }
 {
-    let k = ks[i];
-    let mut j = i + 1;
-    while j < ks.len() {
-        if !parts_apart(m, k, ks[j]) {
-            return false;
-        }
-        j += 1;
-    }
-    true
+    others.iter().all(|&j| parts_apart(m, k, j))
 }
 
 // Whether no two of the polygons at some parts share a cell.
@@ -68,12 +46,10 @@ fn siblings_apart(m: &[u32], ks: &[u32]) -> bool
     requires { PolygonParts m.now ks.now }
     ensures { result ≡ pairs_pass (parts_apart m.now) ks.now }
 {
-    let mut i = 0;
-    while i < ks.len() {
-        if !none_meets(m, ks, i) {
+    for (i, &k) in ks.iter().enumerate() {
+        if !none_meets(m, k, &ks[i + 1..]) {
             return false;
         }
-        i += 1;
     }
     true
 }
@@ -84,34 +60,30 @@ fn head_fits(m: &[u32], k: u32, w: usize) -> bool
     requires w_bound { w ≤ 3 }
     ensures { result ≡ node_fits fanout w m.now k && all_valid (polygon_in (part m.now k)) }
 {
-    if !node_fits(m, k, w) {
-        return false;
-    }
-    let p = part_at(m, k);
-    all_valid(rects(p), rect_count(p) as usize)
+    node_fits(m, k, w) && all_valid(polygon_rects(m, k))
 }
 
-// 1 where part k is a sound leaf, 0 otherwise.
-fn check_leaf(m: &[u32], k: u32) -> u32
+// The one node of the leaf at part k, where it is a sound leaf.
+fn check_leaf(m: &[u32], k: u32) -> Option<u32>
     requires { IndexLength m.now }
     ensures { result ≡ checked_at 0 m.now 0 k }
 {
     if !head_fits(m, k, ENTRY) {
-        return 0;
+        return None;
     }
     let p = part_at(m, k);
     if !entries_inside(p) {
-        return 0;
+        return None;
     }
     if !entries_apart(p) {
-        return 0;
+        return None;
     }
-    1
+    Some(1)
 }
 
 // The number of nodes of the subtree at part k, whose leaves lie `level` steps below it and whose parts are those
-// from lo on, where it reads and is sound in itself; 0 otherwise.
-pub fn check_node(m: &[u32], level: u32, lo: u32, k: u32) -> u32
+// from lo on, where it reads and is sound in itself.
+pub fn check_node(m: &[u32], level: u32, lo: u32, k: u32) -> Option<u32>
     requires index_length { IndexLength m.now }
     requires lo_le_k { lo ≤ k }
     ensures { result ≡ checked_at level m.now lo k }
@@ -120,33 +92,27 @@ pub fn check_node(m: &[u32], level: u32, lo: u32, k: u32) -> u32
         return check_leaf(m, k);
     }
     if !head_fits(m, k, CHILD) {
-        return 0;
+        return None;
     }
     let ks = children(part_at(m, k));
     let mut low = lo;
     let mut sum: u32 = 1;
-    let mut i = 0;
-    while i < ks.len() {
-        let j = ks[i];
+    for &j in ks {
         if j < low {
-            return 0;
+            return None;
         }
         if k <= j {
-            return 0;
+            return None;
         }
-        let c = check_node(m, level - 1, low, j);
-        if c == 0 {
-            return 0;
-        }
+        let nodes = check_node(m, level - 1, low, j)?;
         if !child_inside(m, k, j) {
-            return 0;
+            return None;
         }
-        sum += c;
+        sum += nodes;
         low = j + 1;
-        i += 1;
     }
     if siblings_apart(m, ks) {
-        return sum;
+        return Some(sum);
     }
-    0
+    None
 }

@@ -7,7 +7,7 @@ ghost use Rattle.memory.specs.SoundTest.{apart_test, item_test};
 ghost use Rattle.layout.specs.Nodes.{IsPart, NodePart};
 
 use geometry::contains;
-use layout::{entry_cell, item_count, rect_count, rects};
+use layout::{entries, entry_cell, item_count, polygon_in};
 
 // Whether the polygon of a leaf's part contains its entries.
 pub fn entries_inside(p: &[u32]) -> bool
@@ -15,17 +15,8 @@ pub fn entries_inside(p: &[u32]) -> bool
     ensures { result ≡ all_pass (item_test fanout 0 (polygon_in p.now))
         (entries_in p.now (item_count p.now)) }
 {
-    let n = rect_count(p) as usize;
-    let count = item_count(p) as usize;
-    let list = rects(p);
-    let mut i = 0;
-    while i < count {
-        if !contains(list, n, entry_cell(p, i)).has {
-            return false;
-        }
-        i += 1;
-    }
-    true
+    let polygon = polygon_in(p);
+    entries(p).all(|e| contains(polygon, e.cell).has)
 }
 
 // Whether none of the entries behind the i-th of n has its cell. All eight places are compared, so that the lengths of
@@ -38,17 +29,10 @@ fn none_like(p: &[u32], n: usize, i: usize) -> bool
         (drop (i + 1) (entries_in p.now n)) }
 {
     let c = entry_cell(p, i);
-    let mut j = i + 1;
-    while j < 8 {
-        let other = entry_cell(p, j);
-        if other.x == c.x {
-            if other.y == c.y {
-                if j < n {
-                    return false;
-                }
-            }
+    for j in i + 1..8 {
+        if c == entry_cell(p, j) && j < n {
+            return false;
         }
-        j += 1;
     }
     true
 }
@@ -59,15 +43,13 @@ pub fn entries_apart(p: &[u32]) -> bool
     ensures { result ≡ pairs_pass (apart_test fanout 0) (entries_in p.now (item_count p.now)) }
 {
     let count = item_count(p) as usize;
-    let mut i = 0;
-    while i < 8 {
+    for i in 0..8 {
         if count <= i {
             return true;
         }
         if !none_like(p, count, i) {
             return false;
         }
-        i += 1;
     }
     true
 }

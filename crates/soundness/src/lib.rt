@@ -5,4 +5,4 @@ mod check;
 mod leaf;
 mod opening;
 
-pub use opening::{Opened, open, open_known};
+pub use opening::{Root, open, open_known};

@@ -2,8 +2,11 @@
 use Prim.Native.Nat.{ℕ, zero, suc, ◌+◌, ◌-◌, ◌≤◌, ◌<◌}
 use mathlib.Core.Path.{◌≡◌, refl, sym, ap, ◌∙◌, subst}
 use mathlib.Core.Bool.{Bool, true, false}
+use Rattle.std.specs.Prelude.{Option, Some, None}
 use mathlib.Core.List.{List, [], ◌∷◌, ◌++◌, flat_map}
 use Rattle.geometry.specs.declared.rect.Cell.{Cell}
+use Rattle.geometry.specs.declared.rect.Rect.{Rect}
+use Rattle.geometry.specs.declared.rect.Side.{Side}
 use Rattle.geometry.specs.Cells.{on_grid}
 use Rattle.tree.specs.Lists.{keep}
 use Rattle.tree.specs.Nodes.{Item, held}
@@ -19,9 +22,8 @@ use Rattle.walks.proofs.WalkRows.{leaf_entries_lem, node_part_lem}
 use Rattle.walks.proofs.WalkLeaf.{AtEntry, entry_start, entry_miss, entry_hit, entry_end}
 use Rattle.walks.proofs.WalkLoop.{AtChild, child_start, child_walkable, child_hit, end_entries}
 use Rattle.split_line.specs.Sides.{on_every, on_test}
-use Rattle.split_line.specs.declared.extent.GroupExtent.{GroupExtent}
 use Rattle.split_line.specs.GroupExtent.{group_extent, extent_add, extent_join, kept_under, LeafExtent, NodeExtent}
-use Rattle.split_line.proofs.GroupExtentLaws.{group_more, group_append}
+use Rattle.split_line.proofs.GroupExtentLaws.{empty_is, group_more, group_append}
 
 -- the walk finds all entries that pass
 walk_all : (u : CellEntry → Bool) (n : ℕ) (items : List (Item index_space n)) → keep u (flat_map (held index_space n) items) ≡ node_walk_entries index_space any_polygon u n items
@@ -29,22 +31,22 @@ unfolding node_walk_entries held any_polygon
 walk_all u zero es = ap (keep u) (flat_map_single (held index_space zero) es (all_any _ es (λ e. refl)))
 walk_all u (suc n) bs = keep_flat_map u (held index_space (suc n)) bs ∙ flat_map_same _ _ bs (λ b. walk_all u n b.child)
 
-kept_walk : (ss : List ℕ) (n : ℕ) (m : List ℕ) (lo k : ℕ) → Walkable n m lo k → kept_under ss n m lo k ≡ entries_below any_polygon (on_test ss) n m lo k
+kept_walk : (ss : List Side) (n : ℕ) (m : List ℕ) (lo k : ℕ) → Walkable n m lo k → kept_under ss n m lo k ≡ entries_below any_polygon (on_test ss) n m lo k
 unfolding kept_under entries_at entries_of entries_below entries_from held
 kept_walk ss n m lo k v = rw v.reads (walk_all (on_test ss) n v.node.child)
 
 -- Before the i-th of the n entries of a leaf: what those before it extent.
-pub record ExtentLeaf (ss p : List ℕ) (n i : ℕ) (r : GroupExtent) : Type 0 where
+pub record ExtentLeaf (ss : List Side) (p : List ℕ) (n i : ℕ) (r : Option Rect) : Type 0 where
   pub es : List CellEntry
   pub at : AtEntry (on_test ss) p n i es
   pub grid : OnGrid (leaf_entries (on_test ss) p)
   pub so_far : r ≡ group_extent es
 
-module _ (ss p : List ℕ) (n : ℕ) where
-  pub leaf_start : (r : GroupExtent) → n ≡ item_count p → LeafExtent p ss → r ≡ group_extent [] → ExtentLeaf ss p n 0 r
-  leaf_start r k h e = record { es = []; at = entry_start (on_test ss) p n h.leaf k; grid = h.grid; so_far = e }
+module _ (ss : List Side) (p : List ℕ) (n : ℕ) where
+  pub leaf_start : n ≡ item_count p → LeafExtent p ss → ExtentLeaf ss p n 0 None
+  leaf_start k h = record { es = []; at = entry_start (on_test ss) p n h.leaf k; grid = h.grid; so_far = empty_is }
 
-  module _ (i : ℕ) (r : GroupExtent) (a : ExtentLeaf ss p n i r) where
+  module _ (i : ℕ) (r : Option Rect) (a : ExtentLeaf ss p n i r) where
     pub leaf_end : n ≤ i → r ≡ group_extent (leaf_entries (on_test ss) p)
     leaf_end h = a.so_far ∙ ap group_extent (entry_end (on_test ss) p n i a.es a.at h)
 
@@ -53,7 +55,7 @@ module _ (ss p : List ℕ) (n : ℕ) where
       unfolding on_test
       tested = e ∙ ap (on_every ss) c_is
 
-      pub leaf_miss : (r' : GroupExtent) → b ≡ false → r' ≡ r → ExtentLeaf ss p n (i + 1) r'
+      pub leaf_miss : (r' : Option Rect) → b ≡ false → r' ≡ r → ExtentLeaf ss p n (i + 1) r'
       leaf_miss r' f g = record {
         es = a.es;
         at = entry_miss (on_test ss) p n i a.es a.at h b tested f;
@@ -67,15 +69,15 @@ module _ (ss p : List ℕ) (n : ℕ) where
           let g = all_first _ (a.es ++ (entry_in p i ∷ [])) _ (subst OnGrid (sym y.entries) a.grid) in
           rw c_is (all_head _ (entry_in p i) [] (all_second _ a.es (entry_in p i ∷ []) g))
 
-      pub leaf_hit : (d r' : GroupExtent) → b ≡ true → d ≡ extent_add r c → r' ≡ d → ExtentLeaf ss p n (i + 1) r'
+      pub leaf_hit : (d : Rect) (r' : Option Rect) → b ≡ true → d ≡ extent_add r c → r' ≡ Some d → ExtentLeaf ss p n (i + 1) r'
       leaf_hit d r' f g j = record {
         es = a.es ++ (entry_in p i ∷ []);
         at = entry_hit (on_test ss) p n i a.es a.at h b tested f;
         grid = a.grid;
-        so_far = j ∙ g ∙ ap (extent_add r) c_is ∙ ap (λ q. extent_add q (entry_in p i).cell) a.so_far ∙ group_more a.es (entry_in p i);
+        so_far = j ∙ ap Some (g ∙ ap (extent_add r) c_is ∙ ap (λ q. extent_add q (entry_in p i).cell) a.so_far) ∙ group_more a.es (entry_in p i);
       }
 
-module _ (ss : List ℕ) (level : ℕ) (m : List ℕ) (lo k : ℕ) (v : NodeExtent level m lo k ss) (z : level ≡ 0) (p : List ℕ) (p_is : p ≡ part m k) where
+module _ (ss : List Side) (level : ℕ) (m : List ℕ) (lo k : ℕ) (v : NodeExtent level m lo k ss) (z : level ≡ 0) (p : List ℕ) (p_is : p ≡ part m k) where
   leaf_kept : kept_under ss level m lo k ≡ leaf_entries (on_test ss) p
   leaf_kept =
       let w : Walkable 0 m lo k = rw z at v.walk in
@@ -85,22 +87,22 @@ module _ (ss : List ℕ) (level : ℕ) (m : List ℕ) (lo k : ℕ) (v : NodeExte
   pub group_leaf : LeafExtent p ss
   group_leaf = record { leaf = node_part_lem level m lo k v.walk p p_is; grid = subst OnGrid leaf_kept v.grid }
 
-  pub group_of_leaf : (r : GroupExtent) → r ≡ group_extent (leaf_entries (on_test ss) p) → r ≡ group_extent (kept_under ss level m lo k)
+  pub group_of_leaf : (r : Option Rect) → r ≡ group_extent (leaf_entries (on_test ss) p) → r ≡ group_extent (kept_under ss level m lo k)
   group_of_leaf r e = e ∙ ap group_extent (sym leaf_kept)
 
 -- Before the i-th of the n children: what the entries below those before it extent.
-pub record ExtentLoop (ss : List ℕ) (level : ℕ) (m : List ℕ) (lo k n i low : ℕ) (r : GroupExtent) : Type 0 where
+pub record ExtentLoop (ss : List Side) (level : ℕ) (m : List ℕ) (lo k n i low : ℕ) (r : Option Rect) : Type 0 where
   pub vs : ℕ
   pub es : List CellEntry
   pub at : AtChild any_polygon (on_test ss) level m lo k n i low vs es
   pub grid : OnGrid (kept_under ss level m lo k)
   pub so_far : r ≡ group_extent es
 
-module _ (ss : List ℕ) (level : ℕ) (m : List ℕ) (lo k n : ℕ) where
-  pub group_start : (r : GroupExtent) → (level ≡ 0 → ⊥) → NodeExtent level m lo k ss → n ≡ count_at m k → r ≡ group_extent [] → ExtentLoop ss level m lo k n 0 lo r
-  group_start r ne v c e = record { vs = 1; es = []; at = child_start any_polygon (on_test ss) level m lo k n ne v.walk c; grid = v.grid; so_far = e }
+module _ (ss : List Side) (level : ℕ) (m : List ℕ) (lo k n : ℕ) where
+  pub group_start : (level ≡ 0 → ⊥) → NodeExtent level m lo k ss → n ≡ count_at m k → ExtentLoop ss level m lo k n 0 lo None
+  group_start ne v c = record { vs = 1; es = []; at = child_start any_polygon (on_test ss) level m lo k n ne v.walk c; grid = v.grid; so_far = empty_is }
 
-  module _ (i low : ℕ) (r : GroupExtent) (a : ExtentLoop ss level m lo k n i low r) where
+  module _ (i low : ℕ) (r : Option Rect) (a : ExtentLoop ss level m lo k n i low r) where
     pub group_end : n ≤ i → r ≡ group_extent (kept_under ss level m lo k)
     group_end h = a.so_far ∙ ap group_extent (end_entries any_polygon (on_test ss) level m lo k n i low a.vs a.es a.at h ∙ sym (kept_walk ss level m lo k a.at.walkable))
 
@@ -120,7 +122,7 @@ module _ (ss : List ℕ) (level : ℕ) (m : List ℕ) (lo k n : ℕ) where
             subst OnGrid (sym (kept_walk ss (level - 1) m low j walks)) (all_second _ a.es _ (all_first _ (a.es ++ entries_below any_polygon (on_test ss) (level - 1) m low j) _ w));
       }
 
-      pub group_again : (d r' : GroupExtent) → d ≡ group_extent (kept_under ss (level - 1) m low j) → r' ≡ extent_join r d → ExtentLoop ss level m lo k n (i + 1) (j + 1) r'
+      pub group_again : (d r' : Option Rect) → d ≡ group_extent (kept_under ss (level - 1) m low j) → r' ≡ extent_join r d → ExtentLoop ss level m lo k n (i + 1) (j + 1) r'
       group_again d r' e f = record {
         vs = _;
         es = a.es ++ entries_below any_polygon (on_test ss) (level - 1) m low j;

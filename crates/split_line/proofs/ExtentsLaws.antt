@@ -2,11 +2,14 @@
 use Prim.Native.Nat.{ℕ, ◌+◌, ◌-◌, ◌≤◌}
 use mathlib.Core.Path.{◌≡◌, refl, sym, ap, ◌∙◌, fun_ext}
 use mathlib.Core.Bool.{Bool, true, false, cond, and-true}
+use Rattle.std.specs.Prelude.{Option, Some}
 use mathlib.Core.List.{List, [], ◌∷◌, ◌++◌, map, append-nil}
 use native.Mathlib.Omega.{arith}
 use Rattle.polygons.specs.Lists.{least}
 use Rattle.geometry.specs.declared.rect.Cell.{Cell}
 use Rattle.geometry.specs.declared.rect.Line.{Line}
+use Rattle.geometry.specs.declared.rect.Rect.{Rect}
+use Rattle.geometry.specs.declared.rect.Side.{Side as RectSide}
 use Rattle.geometry.specs.Cells.{on_grid, valid}
 use Rattle.geometry.proofs.CellLaws.{grid_of, of_valid}
 use Rattle.tree.specs.Lists.{All, keep}
@@ -21,12 +24,11 @@ use Rattle.plane.specs.Fanout.{index_space}
 use Rattle.plane.proofs.Kept.{keep_all}
 use Rattle.walks.specs.Count.{entries_at}
 use Rattle.split_line.specs.Sides.{side_of, sides_of, on_side, on_every, on_test}
-use Rattle.split_line.specs.declared.extent.GroupExtent.{GroupExtent}
-use Rattle.split_line.specs.GroupExtent.{extent_rect, extent_rect_of, group_extent, extent_add, kept_under, NodeExtent}
+use Rattle.split_line.specs.GroupExtent.{extent_rect, extent_rect_of, group_extent, extent_add, rect_or_first, kept_under, NodeExtent}
 use Rattle.split_line.specs.Extents.{rect_extent}
 use Rattle.split_line.specs.GroupExtents.{GridNode, side_extent}
 use Rattle.split_line.proofs.SideLaws.{keep_every}
-use Rattle.split_line.proofs.GroupExtentLaws.{group_more}
+use Rattle.split_line.proofs.GroupExtentLaws.{group_more, rect_of_group}
 
 -- the extents of entries on the grid are valid
 least_greatest : (f : CellEntry → ℕ) (es : List CellEntry) → least f es ≤ greatest f es
@@ -63,11 +65,11 @@ extent_rects [] = refl
 extent_rects (g ∷ gs) = λ i. extent_rect_lem g i ∷ extent_rects gs i
 
 -- the entries on one side, and all entries
-on_one : (side : ℕ) (e : CellEntry) → on_test (side ∷ []) e ≡ entry_on index_space (side_of side) e
+on_one : (side : RectSide) (e : CellEntry) → on_test (side ∷ []) e ≡ entry_on index_space (side_of side) e
 unfolding on_test on_every on_all sides_of
 on_one side e = and-true (on index_space (side_of side) e.cell)
 
-kept_one : (side n : ℕ) (m : List ℕ) (lo k : ℕ) → kept_under (side ∷ []) n m lo k ≡ keep (entry_on index_space (side_of side)) (entries_at n m lo k)
+kept_one : (side : RectSide) (n : ℕ) (m : List ℕ) (lo k : ℕ) → kept_under (side ∷ []) n m lo k ≡ keep (entry_on index_space (side_of side)) (entries_at n m lo k)
 unfolding kept_under
 kept_one side n m lo k = ap (λ t. keep t (entries_at n m lo k)) (fun_ext (on_one side))
 
@@ -83,27 +85,28 @@ keep_one : (s : Side Line) (es : List CellEntry) (e : CellEntry) → keep (entry
 unfolding keep
 keep_one s es e = keep_append (entry_on index_space s) es (e ∷ [])
 
+rect_is : (es fs : List CellEntry) → group_extent es ≡ group_extent fs → extent_rect_of es ≡ extent_rect_of fs
+rect_is es fs e = sym (rect_of_group es) ∙ ap rect_or_first e ∙ rect_of_group fs
+
 module _ (s : Side Line) (es : List CellEntry) (c : Cell) where
   pub side_tag : (t : Payload) → extent_rect_of (keep (entry_on index_space s) (es ++ (entry_of c t ∷ []))) ≡ extent_rect_of (keep (entry_on index_space s) (es ++ (entry_of c some_payload ∷ [])))
-  unfolding group_extent
   side_tag t = rw (keep_one s es (entry_of c t), keep_one s es (entry_of c some_payload)) (go (on index_space s c))
     where
       go : (b : Bool) → extent_rect_of (keep (entry_on index_space s) es ++ cond b (entry_of c t ∷ []) []) ≡ extent_rect_of (keep (entry_on index_space s) es ++ cond b (entry_of c some_payload ∷ []) [])
       go true =
           let g = keep (entry_on index_space s) es in
-          ap (λ r. r.rect) (sym (group_more g (entry_of c t)) ∙ group_more g (entry_of c some_payload))
+          rect_is (g ++ (entry_of c t ∷ [])) (g ++ (entry_of c some_payload ∷ [])) (sym (group_more g (entry_of c t)) ∙ group_more g (entry_of c some_payload))
       go false = refl
 
 module _ (n : ℕ) (m : List ℕ) (lo k : ℕ) where
-  pub node_extent : (ss : List ℕ) → GridNode n m lo k → NodeExtent n m lo k ss
+  pub node_extent : (ss : List RectSide) → GridNode n m lo k → NodeExtent n m lo k ss
   unfolding kept_under
   node_extent ss v = record { walk = v.walk; grid = grid_kept (on_test ss) (entries_at n m lo k) v.grid }
 
-  pub whole_is : (r : GroupExtent) → r ≡ group_extent (kept_under [] n m lo k) → r.rect ≡ extent_rect_of (entries_at n m lo k)
-  unfolding group_extent
-  whole_is r e = ap (λ q. q.rect) e ∙ ap extent_rect_of (kept_none n m lo k)
+  pub whole_is : (r : Option Rect) (q : Rect) → r ≡ group_extent (kept_under [] n m lo k) → q ≡ rect_or_first r → q ≡ extent_rect_of (entries_at n m lo k)
+  whole_is r q e f = f ∙ ap rect_or_first e ∙ rect_of_group (kept_under [] n m lo k) ∙ ap extent_rect_of (kept_none n m lo k)
 
-  module _ (side : ℕ) (c : Cell) (r : GroupExtent) (e : r ≡ group_extent (kept_under (side ∷ []) n m lo k)) (b : Bool) (f : b ≡ on_side side c) where
+  module _ (side : RectSide) (c : Cell) (r : Option Rect) (e : r ≡ group_extent (kept_under (side ∷ []) n m lo k)) (b : Bool) (f : b ≡ on_side side c) where
     kept : r ≡ group_extent (keep (entry_on index_space (side_of side)) (entries_at n m lo k))
     kept = e ∙ ap group_extent (kept_one side n m lo k)
 
@@ -111,14 +114,15 @@ module _ (n : ℕ) (m : List ℕ) (lo k : ℕ) where
     unfolding on_side
     tested = f
 
-    pub side_hit : (d r' : GroupExtent) → b ≡ true → d ≡ extent_add r c → r' ≡ d → r'.rect ≡ side_extent n m lo k (side_of side) c
-    unfolding side_extent group_extent
-    side_hit d r' h g j =
-        let q = j ∙ g ∙ ap (λ x. extent_add x c) kept ∙ group_more (keep (entry_on index_space (side_of side)) (entries_at n m lo k)) (entry_of c some_payload) in
-        ap (λ x. x.rect) q ∙ ap extent_rect_of (sym (keep_one (side_of side) (entries_at n m lo k) (entry_of c some_payload) ∙ rw (← tested, h)))
+    pub side_hit : (r' : Rect) → b ≡ true → r' ≡ extent_add r c → r' ≡ side_extent n m lo k (side_of side) c
+    unfolding side_extent rect_or_first
+    side_hit r' h g =
+        let es = keep (entry_on index_space (side_of side)) (entries_at n m lo k) ++ (entry_of c some_payload ∷ []) in
+        let q = ap Some (g ∙ ap (λ x. extent_add x c) kept) ∙ group_more (keep (entry_on index_space (side_of side)) (entries_at n m lo k)) (entry_of c some_payload) in
+        ap rect_or_first q ∙ rect_of_group es ∙ ap extent_rect_of (sym (keep_one (side_of side) (entries_at n m lo k) (entry_of c some_payload) ∙ rw (← tested, h)))
 
-    pub side_miss : (r' : GroupExtent) → b ≡ false → r' ≡ r → r'.rect ≡ side_extent n m lo k (side_of side) c
-    unfolding side_extent group_extent
+    pub side_miss : (r' : Rect) → b ≡ false → r' ≡ rect_or_first r → r' ≡ side_extent n m lo k (side_of side) c
+    unfolding side_extent
     side_miss r' h j =
-        let q = j ∙ kept in
-        ap (λ x. x.rect) q ∙ ap extent_rect_of (sym (keep_one (side_of side) (entries_at n m lo k) (entry_of c some_payload) ∙ rw (← tested, h, append-nil)))
+        j ∙ ap rect_or_first kept ∙ rect_of_group (keep (entry_on index_space (side_of side)) (entries_at n m lo k))
+        ∙ ap extent_rect_of (sym (keep_one (side_of side) (entries_at n m lo k) (entry_of c some_payload) ∙ rw (← tested, h, append-nil)))

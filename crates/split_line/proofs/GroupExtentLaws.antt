@@ -1,14 +1,14 @@
 -- What entries extent, collected cell by cell and group by group.
 use Prim.Native.Nat.{◌+◌, min, max}
 use mathlib.Core.Path.{◌≡◌, refl, sym, ap, ◌∙◌}
-use mathlib.Core.Bool.{true, false}
+use mathlib.Core.Bool.{true}
+use Rattle.std.specs.Prelude.{Some, None}
 use mathlib.Core.List.{List, [], ◌∷◌, ◌++◌, append-nil}
 use native.Mathlib.Omega.{arith}
 use mir.Syntax.{w32}
 use mir.Val.{Fits}
 use Rattle.polygons.specs.Lists.{least}
 use Rattle.geometry.specs.declared.rect.Cell.{Cell}
-use Rattle.geometry.specs.declared.rect.Rect.{Rect}
 use Rattle.geometry.specs.Cells.{on_grid}
 use Rattle.geometry.specs.Grow.{grown}
 use Rattle.geometry.specs.Refine.{union}
@@ -18,12 +18,11 @@ use Rattle.plane.specs.Lines.{CellEntry}
 use Rattle.plane.specs.Plane.{cell_rect}
 use Rattle.plane.specs.Candidates.{Extent, extent_of, cell_extent, join_extents}
 use Rattle.plane.proofs.ExtentJoins.{extent_one, extent_append, extent_more}
-use Rattle.split_line.specs.declared.extent.GroupExtent.{GroupExtent}
-use Rattle.split_line.specs.GroupExtent.{extent_rect, extent_rect_of, group_extent, extent_add, extent_join}
+use Rattle.split_line.specs.GroupExtent.{extent_rect, extent_rect_of, group_extent, extent_add, extent_join, rect_or_first}
 
--- the answers of the code
-pub empty_is : record { any = false; rect = record { llx = 0; lly = 0; urx = 1; ury = 1 } } ≡ group_extent []
-unfolding group_extent extent_rect_of extent_rect extent_of least greatest
+-- no entries have no extent
+pub empty_is : None ≡ group_extent []
+unfolding group_extent
 empty_is = refl
 
 -- a cell on the grid
@@ -33,28 +32,6 @@ module _ (c : Cell) (g : on_grid c ≡ true) where
 
   pub next_y_fits : Fits w32 (c.y + 1)
   next_y_fits = let h = grid_y c g in omega arith
-
-module _ (r : GroupExtent) (c : Cell) where
-  pub add_grown : (b : Rect) → r.any ≡ true → b ≡ grown r.rect c → record { any = true; rect = b } ≡ extent_add r c
-  unfolding extent_add
-  add_grown b e f = rw (e, f)
-
-  pub add_first : r.any ≡ false → record { any = true; rect = record { llx = c.x; lly = c.y; urx = c.x + 1; ury = c.y + 1 } } ≡ extent_add r c
-  unfolding extent_add cell_rect
-  add_first e = rw e
-
-module _ (r s : GroupExtent) where
-  pub join_second : r.any ≡ false → s ≡ extent_join r s
-  unfolding extent_join
-  join_second e = rw e
-
-  pub join_first_lem : r.any ≡ true → s.any ≡ false → r ≡ extent_join r s
-  unfolding extent_join
-  join_first_lem e f = rw (e, f)
-
-  pub join_union : (b : Rect) → r.any ≡ true → s.any ≡ true → b ≡ union r.rect s.rect → record { any = true; rect = b } ≡ extent_join r s
-  unfolding extent_join
-  join_union b e f g = rw (e, f, g)
 
 -- a rectangle grown to a cell, and the union of two rectangles, by their extents
 grow_extent : (a : Extent) (c : Cell) → grown (extent_rect a) c ≡ extent_rect (join_extents a (cell_extent c))
@@ -76,14 +53,20 @@ unfolding cell_rect extent_rect cell_extent
 cell_extent_lem c = refl
 
 -- the extent of entries with one more
-pub group_more : (es : List CellEntry) (e : CellEntry) → extent_add (group_extent es) e.cell ≡ group_extent (es ++ (e ∷ []))
+pub group_more : (es : List CellEntry) (e : CellEntry) → Some (extent_add (group_extent es) e.cell) ≡ group_extent (es ++ (e ∷ []))
 unfolding group_extent extent_add extent_rect_of
-group_more [] e = ap (λ b. record { any = true; rect = b }) (cell_extent_lem e.cell ∙ ap extent_rect (sym (extent_one e)))
-group_more (a ∷ es) e = ap (λ b. record { any = true; rect = b }) (grow_extent (extent_of (a ∷ es)) e.cell ∙ ap extent_rect (sym (extent_more (a ∷ es) e (omega arith))))
+group_more [] e = ap Some (cell_extent_lem e.cell ∙ ap extent_rect (sym (extent_one e)))
+group_more (a ∷ es) e = ap Some (grow_extent (extent_of (a ∷ es)) e.cell ∙ ap extent_rect (sym (extent_more (a ∷ es) e (omega arith))))
 
 -- the extent of two groups of entries
 pub group_append : (g h : List CellEntry) → extent_join (group_extent g) (group_extent h) ≡ group_extent (g ++ h)
 unfolding group_extent extent_join extent_rect_of
 group_append [] h = refl
-group_append (a ∷ g) [] = ap (λ (l : List CellEntry). record { any = true; rect = extent_rect (extent_of l) }) (sym (append-nil (a ∷ g)))
-group_append (a ∷ g) (b ∷ h) = ap (λ b. record { any = true; rect = b }) (union_extent (extent_of (a ∷ g)) (extent_of (b ∷ h)) ∙ ap extent_rect (sym (extent_append (a ∷ g) (b ∷ h) (omega arith) (omega arith))))
+group_append (a ∷ g) [] = ap (λ (l : List CellEntry). Some (extent_rect (extent_of l))) (sym (append-nil (a ∷ g)))
+group_append (a ∷ g) (b ∷ h) = ap Some (union_extent (extent_of (a ∷ g)) (extent_of (b ∷ h)) ∙ ap extent_rect (sym (extent_append (a ∷ g) (b ∷ h) (omega arith) (omega arith))))
+
+-- the rectangle of the extent of some entries
+pub rect_of_group : (es : List CellEntry) → rect_or_first (group_extent es) ≡ extent_rect_of es
+unfolding rect_or_first group_extent extent_rect_of extent_rect extent_of least greatest
+rect_of_group [] = refl
+rect_of_group (e ∷ es) = refl

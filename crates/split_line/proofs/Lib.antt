@@ -4,6 +4,7 @@ pub mod ExtentWalk
 pub mod SumLaws
 pub mod LineTests
 pub mod CandidateLoops
+pub mod TriedLoop
 pub mod ExtentsLaws
 pub mod BranchPuts
 pub mod GroupLoop

@@ -1,25 +1,21 @@
--- The number found from the extents of a node's groups is that of the node's line.
-use Prim.Native.Nat.{ℕ, zero, suc, ◌+◌, ◌%◌, ◌≤◌}
-use mathlib.Core.Path.{◌≡◌, refl, sym, ap, ◌∙◌, subst}
+-- The line found from the extents of a node's groups is the node's line.
+use Prim.Native.Nat.{ℕ, zero, suc, ◌+◌}
+use mathlib.Core.Path.{◌≡◌, refl, sym, ap, ◌∙◌}
 use mathlib.Core.List.{List, [], ◌∷◌, ◌++◌, map, flat_map, map-append}
 use mathlib.Core.Option.{Option, none, some}
-use native.Mathlib.Omega.{arith}
-use lib.ListN.{length, take, drop, length-map}
+use lib.ListN.{take, drop}
 use Rattle.geometry.specs.declared.rect.Cell.{Cell}
 use Rattle.geometry.specs.declared.rect.Line.{Line}
-use Rattle.geometry.specs.Numbers.{rects_in}
-use Rattle.geometry.proofs.NumberLaws.{length_rects}
+use Rattle.geometry.specs.declared.rect.Rect.{Rect}
 use Rattle.tree.specs.Nodes.{Item, held}
 use Rattle.tree.specs.Space.{left, right}
-use Rattle.plane.specs.Lines.{CellEntry, node_line, Payload, some_payload, entry_of}
-use Rattle.plane.specs.Candidates.{extents, candidates, least_key, numbered_line, key_line}
+use Rattle.plane.specs.Lines.{CellEntry, Payload, some_payload, entry_of}
+use Rattle.plane.specs.Candidates.{extents, best_candidate}
 use Rattle.plane.specs.Fanout.{fanout, index_space}
-use Rattle.plane.proofs.LeastKey.{least_key_line}
-use Rattle.plane.proofs.NodeLine.{node_range}
-use Rattle.plane.proofs.Range.{InRange}
+use Rattle.plane.proofs.Candidates.{candidate_line}
 use Rattle.memory.specs.Reading.{read_node}
 use Rattle.split_line.specs.GroupExtent.{extent_rect_of}
-use Rattle.split_line.specs.Extents.{rect_extent, extents_in, no_key, best_number}
+use Rattle.split_line.specs.Extents.{rect_extent, extents_in}
 use Rattle.split_line.specs.Groups.{halves_of, groups_in, groups_of, groups_at, NodeLineIs}
 use Rattle.split_line.specs.GroupExtents.{GroupExtents}
 use Rattle.split_line.proofs.ExtentsLaws.{extent_rects, side_tag}
@@ -42,34 +38,16 @@ of_tag n none place l c t = refl
 of_tag zero (some b) place l c t = refl
 of_tag (suc n) (some b) place l c t = in_tag n b.child place l c t
 
--- a line from 1 to 65535 has not the number 0
-some_number : (r : ℕ) → InRange (numbered_line r) → 1 ≤ r
-unfolding numbered_line
-some_number zero h = h.0
-some_number (suc r) h = omega arith
-
-module _ (m : List ℕ) (level lo k place below : ℕ) (c : Cell) (l : List ℕ) (n : ℕ) (v : GroupExtents m level lo k place below c l n) where
-  extent_tag : (t : Payload) → rects_in l n ≡ map extent_rect_of (groups_at level m lo k place below (entry_of c t))
+module _ (m : List ℕ) (level lo k place : ℕ) (below : Line) (c : Cell) (l : List Rect) (v : GroupExtents m level lo k place below c l) where
+  extent_tag : (t : Payload) → l ≡ map extent_rect_of (groups_at level m lo k place below (entry_of c t))
   unfolding groups_at
-  extent_tag t = v.is ∙ sym (of_tag level (read_node fanout level m lo k) place (numbered_line below) c t)
+  extent_tag t = v.is ∙ sym (of_tag level (read_node fanout level m lo k) place below c t)
 
-  extents_tag : (t : Payload) → extents_in l n ≡ extents (groups_at level m lo k place below (entry_of c t))
+  extents_tag : (t : Payload) → extents_in l ≡ extents (groups_at level m lo k place below (entry_of c t))
   unfolding extents_in
   extents_tag t = ap (map rect_extent) (extent_tag t) ∙ sym (extent_rects (groups_at level m lo k place below (entry_of c t)))
 
-  few : (t : Payload) → length (groups_at level m lo k place below (entry_of c t)) ≤ 9
-  few t =
-      let a = length-map (groups_at level m lo k place below (entry_of c t)) extent_rect_of in
-      let b = ap length (extent_tag t) in
-      let d = length_rects l n in
-      let e = v.list.few in
-      omega arith
-
-  pub node_line_is : (r : ℕ) → r ≡ best_number (extents_in l n) → NodeLineIs m level lo k place below c r
-  unfolding best_number key_line
-  node_line_is r e t f =
-      let gs = groups_at level m lo k place below (entry_of c t) in
-      let g : r ≡ least_key fanout (extents gs) no_key (candidates (extents gs)) % 131072 = e ∙ ap best_number (extents_tag t) in
-      let b = few t in
-      let q : numbered_line r ≡ node_line fanout gs = ap numbered_line g ∙ least_key_line fanout gs f.some_each f.grid no_key (omega arith) (f.line, f.fits) in
-      record { is = q; some = some_number r (subst InRange (sym q) (node_range fanout gs f.grid (f.line, f.fits))); small = omega arith }
+  pub node_line_is : (s : List Rect) (r : Line) → s ≡ l → r ≡ best_candidate fanout (extents_in s) → NodeLineIs m level lo k place below c r
+  node_line_is s r q e t f =
+      e ∙ ap (λ z. best_candidate fanout (extents_in z)) q ∙ ap (best_candidate fanout) (extents_tag t)
+      ∙ candidate_line fanout (groups_at level m lo k place below (entry_of c t)) f.some_each f.grid (f.line, f.fits)

@@ -1,6 +1,6 @@
 -- The sums of a leaf's coordinates, and the line they give.
 use Prim.Native.Nat.{ℕ, zero, suc, ◌+◌, ◌*◌, ◌-◌, ◌/◌, ◌≤◌, ◌<◌}
-use mathlib.Core.Path.{◌≡◌, refl, sym, ap, ◌∙◌, subst}
+use mathlib.Core.Path.{◌≡◌, refl, sym, ap, ◌∙◌}
 use mathlib.Core.Bool.{true}
 use mathlib.Core.List.{List, [], ◌∷◌, ◌++◌}
 use native.Mathlib.Omega.{arith}
@@ -17,21 +17,12 @@ use Rattle.geometry.proofs.CellLaws.{grid_of}
 use Rattle.tree.specs.Lists.{All, total}
 use Rattle.tree.proofs.Lists.{all_append, all_first, all_second, all_head}
 use Rattle.tree.proofs.Counts.{total_append}
-use Rattle.plane.specs.Lines.{CellEntry, x_of, y_of, spread, mean_line, leaf_line, Payload, some_payload, entry_of, OnGrid}
-use Rattle.plane.specs.Fanout.{fanout}
+use Rattle.plane.specs.Lines.{CellEntry, x_of, y_of, spread, leaf_line, Payload, some_payload, entry_of, OnGrid}
 use Rattle.plane.proofs.Bounds.{x_bounds, y_bounds}
-use Rattle.plane.proofs.LeafLine.{leaf_range}
-use Rattle.plane.proofs.Range.{InRange}
 use Rattle.memory.specs.Layout.{item_count, entry_in, entries_in}
 use Rattle.memory.proofs.ReadingLaws.{entries_length}
 use Rattle.split_line.specs.declared.leaf.Sums.{Sums}
-use Rattle.split_line.specs.LineNumber.{LineIs}
-use Rattle.split_line.specs.FullLeaf.{entries_of, LeafHere, FullLeaf, LeafLineIs, SmallSums, sums_of, added_sums}
-use Rattle.split_line.proofs.SideLaws.{line_x, line_y}
-
-pub sums_with : (s : Sums) (c : Cell) → record { x = s.x + c.x; xx = s.xx + c.x * c.x; y = s.y + c.y; yy = s.yy + c.y * c.y } ≡ added_sums s c
-unfolding added_sums
-sums_with s c = refl
+use Rattle.split_line.specs.FullLeaf.{entries_of, LeafHere, LeafLineIs, SmallSums, sums_of, added_sums}
 
 total_more : (v : CellEntry → ℕ) (es : List CellEntry) (e : CellEntry) → total v (es ++ (e ∷ [])) ≡ total v es + v e
 unfolding total
@@ -154,27 +145,14 @@ numbers_of_lem es n g =
     }
 
 -- the line of a leaf that is split, by the sums of its entries
-module _ (es : List CellEntry) (f : FullLeaf es) where
-  in_range : InRange (leaf_line es)
-  in_range = leaf_range fanout es (let n = f.count in omega arith) f.apart f.grid
-
-  at_x : length es * (sums_of es).yy - (sums_of es).y * (sums_of es).y ≤ length es * (sums_of es).xx - (sums_of es).x * (sums_of es).x → LineIs ((sums_of es).x / length es + 1) (leaf_line es)
+module _ (es : List CellEntry) where
+  at_x : length es * (sums_of es).yy - (sums_of es).y * (sums_of es).y ≤ length es * (sums_of es).xx - (sums_of es).x * (sums_of es).x → AtX ((sums_of es).x / length es + 1) ≡ leaf_line es
   unfolding sums_of leaf_line
-  at_x g =
-      let e : leaf_line es ≡ AtX (mean_line x_of es) = rw (le-leb (spread y_of es) (spread x_of es) g) in
-      let r : InRange (AtX (mean_line x_of es)) = subst InRange e in_range in
-      let a = r.0 in
-      let b = r.1 in
-      record { is = sym (line_x (mean_line x_of es) (omega arith)) ∙ sym e; some = a; small = omega arith }
+  at_x g = rw (le-leb (spread y_of es) (spread x_of es) g)
 
-  at_y : length es * (sums_of es).xx - (sums_of es).x * (sums_of es).x < length es * (sums_of es).yy - (sums_of es).y * (sums_of es).y → LineIs (65536 + (sums_of es).y / length es + 1) (leaf_line es)
+  at_y : length es * (sums_of es).xx - (sums_of es).x * (sums_of es).x < length es * (sums_of es).yy - (sums_of es).y * (sums_of es).y → AtY ((sums_of es).y / length es + 1) ≡ leaf_line es
   unfolding sums_of leaf_line
-  at_y g =
-      let e : leaf_line es ≡ AtY (mean_line y_of es) = rw (lt-leb (spread y_of es) (spread x_of es) g) in
-      let r : InRange (AtY (mean_line y_of es)) = subst InRange e in_range in
-      let b = r.1 in
-      let d : 65536 + total y_of es / length es + 1 - 65536 ≡ mean_line y_of es = omega arith in
-      record { is = sym (line_y (65536 + total y_of es / length es + 1) (omega arith)) ∙ ap AtY d ∙ sym e; some = omega arith; small = omega arith }
+  at_y g = rw (lt-leb (spread y_of es) (spread x_of es) g)
 
 -- the entries of a leaf with the new one
 abbrev with_new : List ℕ → Cell → Payload → List CellEntry
@@ -227,14 +205,11 @@ module _ (p : List ℕ) (c : Cell) (n : ℕ) (s : Sums) (h : LeafHere p c) (k : 
   pub line_x_fits : Fits w32 (s.x / (n + 1) + 1)
   line_x_fits = let a = mean_x in omega arith
 
-  pub line_y_fits : Fits w32 (65536 + s.y / (n + 1))
+  pub line_y_fits : Fits w32 (s.y / (n + 1) + 1)
   line_y_fits = let a = mean_y in omega arith
 
-  pub line_y_fits' : Fits w32 (65536 + s.y / (n + 1) + 1)
-  line_y_fits' = let a = mean_y in omega arith
+  pub leaf_at_x : (n + 1) * s.yy - s.y * s.y ≤ (n + 1) * s.xx - s.x * s.x → LeafLineIs p c (AtX (s.x / (n + 1) + 1))
+  leaf_at_x g t f = rw (count_is t, sums_are t) (at_x (with_new p c t) (rw (← (count_is t), ← (sums_are t)) g))
 
-  pub leaf_at_x : (n + 1) * s.yy - s.y * s.y ≤ (n + 1) * s.xx - s.x * s.x → LeafLineIs p c (s.x / (n + 1) + 1)
-  leaf_at_x g t f = rw (count_is t, sums_are t) (at_x (with_new p c t) f (rw (← (count_is t), ← (sums_are t)) g))
-
-  pub leaf_at_y : (n + 1) * s.xx - s.x * s.x < (n + 1) * s.yy - s.y * s.y → LeafLineIs p c (65536 + s.y / (n + 1) + 1)
-  leaf_at_y g t f = rw (count_is t, sums_are t) (at_y (with_new p c t) f (rw (← (count_is t), ← (sums_are t)) g))
+  pub leaf_at_y : (n + 1) * s.xx - s.x * s.x < (n + 1) * s.yy - s.y * s.y → LeafLineIs p c (AtY (s.y / (n + 1) + 1))
+  leaf_at_y g t f = rw (count_is t, sums_are t) (at_y (with_new p c t) (rw (← (count_is t), ← (sums_are t)) g))

@@ -1,14 +1,13 @@
--- The extents of a node's branches as rectangles in a list of numbers, four each, and the line found from them.
-use Rattle.std.specs.Prelude.{ℕ, ◌+◌, ◌*◌, ◌-◌, ◌%◌, ◌≤◌, Bool, true, ◌&&◌, cond, List, [], ◌∷◌, map, ◌≡◌, length}
+-- The extents of a node's branches as rectangles, and the line found from them.
+use Rattle.std.specs.Prelude.{◌+◌, ◌-◌, ◌≤◌, Bool, true, ◌&&◌, cond, List, [], ◌∷◌, map, ◌≡◌, length}
 use Rattle.geometry.specs.declared.rect.Line.{Line}
 use Rattle.geometry.specs.declared.rect.Line.TheVariants.{AtX, AtY}
 use Rattle.geometry.specs.declared.rect.Rect.{Rect}
 use Rattle.geometry.specs.Cells.{valid}
-use Rattle.geometry.specs.Numbers.{rect_at, rects_in}
 use Rattle.tree.specs.Lists.{All, keep}
 use Rattle.tree.specs.Space.{left, right}
 use Rattle.plane.specs.Lines.{fits_in, on_both}
-use Rattle.plane.specs.Candidates.{Extent, extent_on, line_number, candidates, least_key}
+use Rattle.plane.specs.Candidates.{Extent, extent_on, line_number}
 use Rattle.plane.specs.Fanout.{fanout}
 use Rattle.split_line.specs.declared.candidates.Counts.{Counts}
 
@@ -16,15 +15,14 @@ use Rattle.split_line.specs.declared.candidates.Counts.{Counts}
 unfoldable pub rect_extent : Rect → Extent
 rect_extent r = record { min_x = r.llx; max_x = r.urx - 1; min_y = r.lly; max_y = r.ury - 1 }
 
--- the extents of the first n rectangles of a list
-unfoldable pub extents_in : List ℕ → ℕ → List Extent
-extents_in l n = map rect_extent (rects_in l n)
+-- the extents of some rectangles
+unfoldable pub extents_in : List Rect → List Extent
+extents_in l = map rect_extent l
 
--- at most nine rectangles in a list, each valid
-pub record ExtentList (l : List ℕ) (n : ℕ) : Type 0 where
-  pub few : n ≤ 9
-  pub room : 4 * n ≤ length l
-  pub each : All (λ r. valid r ≡ true) (rects_in l n)
+-- at most nine rectangles, each valid
+pub record ExtentList (l : List Rect) : Type 0 where
+  pub few : length l ≤ 9
+  pub each : All (λ r. valid r ≡ true) l
 
 -- how many branches hold entries left of a line, right of it, and on both sides
 unfoldable pub counts_of : List Extent → Line → Counts
@@ -46,22 +44,10 @@ unfoldable pub counts_fit : Counts → Bool
 counts_fit k = fits_in fanout k.lefts && fits_in fanout k.rights
 
 -- A line that is tried: it is at most 65536, one behind the grid.
-pub record TriedLine (l : List ℕ) (n : ℕ) (line : Line) : Type 0 where
-  pub list : ExtentList l n
+pub record TriedLine (l : List Rect) (line : Line) : Type 0 where
+  pub list : ExtentList l
   pub small : line_number line ≤ 131072
 
 -- the lines just behind the extremes of a branch
 unfoldable pub lines_behind : Rect → List Line
 lines_behind r = AtX (r.llx + 1) ∷ AtX r.urx ∷ AtY (r.lly + 1) ∷ AtY r.ury ∷ []
-
--- the least key after those of the i-th branch were tried
-unfoldable pub tried_at : List ℕ → ℕ → ℕ → ℕ → ℕ
-tried_at l n i k = least_key fanout (extents_in l n) k (lines_behind (rect_at l i))
-
--- above every key of a fitting line
-abbrev pub no_key : ℕ
-no_key = 4294967295
-
--- the number of the fitting candidate with the least key
-unfoldable pub best_number : List Extent → ℕ
-best_number es = least_key fanout es no_key (candidates es) % 131072

@@ -1,6 +1,7 @@
 -- Document 01, 'The line', 'Leaf': the entries of a leaf that is split, and the sums of their coordinates.
 use Rattle.std.specs.Prelude.{ℕ, suc, ◌+◌, ◌*◌, ◌≤◌, true, List, [], ◌∷◌, ◌++◌, ◌≡◌, length}
 use Rattle.geometry.specs.declared.rect.Cell.{Cell}
+use Rattle.geometry.specs.declared.rect.Line.{Line}
 use Rattle.geometry.specs.Cells.{on_grid}
 use Rattle.tree.specs.Lists.{Pairs, total}
 use Rattle.tree.specs.Sound.{Apart}
@@ -8,7 +9,6 @@ use Rattle.plane.specs.Lines.{CellEntry, x_of, y_of, leaf_line, Payload, entry_o
 use Rattle.plane.specs.Fanout.{fanout, index_space}
 use Rattle.memory.specs.Layout.{item_count, entries_in}
 use Rattle.layout.specs.Nodes.{NodePart}
-use Rattle.split_line.specs.LineNumber.{LineIs}
 use Rattle.split_line.specs.declared.leaf.Sums.{Sums}
 
 -- the entries of a leaf's part
@@ -27,10 +27,10 @@ pub record FullLeaf (es : List CellEntry) : Type 0 where
   pub grid : OnGrid es
   pub apart : Pairs (Apart index_space 0) es
 
--- r is the number of the leaf's line, whatever the tag of the new entry
-abbrev pub LeafLineIs : List ℕ → Cell → ℕ → Type 0
+-- r is the leaf's line, whatever the tag of the new entry
+abbrev pub LeafLineIs : List ℕ → Cell → Line → Type 0
 LeafLineIs p c r = (t : Payload) → FullLeaf (entries_of p ++ (entry_of c t ∷ []))
-    → LineIs r (leaf_line (entries_of p ++ (entry_of c t ∷ [])))
+    → r ≡ leaf_line (entries_of p ++ (entry_of c t ∷ []))
 
 -- The sums s with one more cell c fit 64 bits.
 pub record SmallSums (s : Sums) (c : Cell) : Type 0 where

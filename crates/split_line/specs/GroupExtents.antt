@@ -1,14 +1,12 @@
 -- The extents of the groups of a node whose branch at a place was split, as the code collects them.
-use Rattle.std.specs.Prelude.{ℕ, ◌+◌, ◌*◌, ◌≤◌, ◌<◌, Bool, true, cond, List, [], ◌∷◌, ◌++◌, map, ◌≡◌, length}
+use Rattle.std.specs.Prelude.{ℕ, ◌+◌, ◌≤◌, Bool, true, cond, List, [], ◌∷◌, ◌++◌, map, ◌≡◌, length}
 use Rattle.geometry.specs.declared.rect.Cell.{Cell}
 use Rattle.geometry.specs.declared.rect.Line.{Line}
 use Rattle.geometry.specs.declared.rect.Rect.{Rect}
 use Rattle.geometry.specs.Cells.{on_grid}
-use Rattle.geometry.specs.Numbers.{rects_in}
 use Rattle.tree.specs.Lists.{keep}
 use Rattle.tree.specs.Space.{Side, left, right}
 use Rattle.tree.specs.Nodes.{entry_on}
-use Rattle.plane.specs.Candidates.{numbered_line}
 use Rattle.plane.specs.Lines.{some_payload, entry_of, OnGrid}
 use Rattle.plane.specs.Fanout.{index_space}
 use Rattle.walks.specs.Walks.{Walkable}
@@ -29,22 +27,18 @@ side_extent n m lo k s c = extent_rect_of
     (keep (entry_on index_space s) (entries_at n m lo k ++ (entry_of c some_payload ∷ [])))
 
 -- the extents of the groups of the branch at part k: of two where it was split, else of one
-unfoldable pub branch_extents : ℕ → List ℕ → ℕ → ℕ → Bool → ℕ → Cell → List Rect
+unfoldable pub branch_extents : ℕ → List ℕ → ℕ → ℕ → Bool → Line → Cell → List Rect
 branch_extents n m lo k halved below c =
-    cond halved (side_extent n m lo k (left (numbered_line below)) c ∷ side_extent n m lo k
-    (right (numbered_line below)) c ∷ [])
+    cond halved (side_extent n m lo k (left below) c ∷ side_extent n m lo k (right below) c ∷ [])
     (extent_rect_of (entries_at n m lo k) ∷ [])
 
--- A branch whose extents fit into the list l from the at-th place on.
-pub record BranchHere (n : ℕ) (m : List ℕ) (lo k : ℕ) (halved : Bool) (below : ℕ) (c : Cell) (l : List ℕ)
-    (at : ℕ) : Type 0 where
+-- A branch whose extents fit behind those in the list l.
+pub record BranchHere (n : ℕ) (m : List ℕ) (lo k : ℕ) (halved : Bool) (below : Line) (c : Cell) (l : List Rect) : Type 0 where
   pub branch : GridNode n m lo k
-  pub line : below < 131072
   pub cell : on_grid c ≡ true
-  pub room : 4 * (at + cond halved 2 1) ≤ length l
-  pub few : at ≤ 8
+  pub room : length l + cond halved 2 1 ≤ 9
 
--- The first r rectangles of the list l are the extents of the node's groups.
-pub record GroupExtents (m : List ℕ) (level lo k place below : ℕ) (c : Cell) (l : List ℕ) (r : ℕ) : Type 0 where
-  pub list : ExtentList l r
-  pub is : rects_in l r ≡ map extent_rect_of (groups_at level m lo k place below (entry_of c some_payload))
+-- The rectangles are the extents of the node's groups.
+pub record GroupExtents (m : List ℕ) (level lo k place : ℕ) (below : Line) (c : Cell) (l : List Rect) : Type 0 where
+  pub list : ExtentList l
+  pub is : l ≡ map extent_rect_of (groups_at level m lo k place below (entry_of c some_payload))

@@ -10,7 +10,6 @@ use Rattle.tree.specs.Lists.{keep}
 use Rattle.tree.specs.Space.{left, right}
 use Rattle.tree.specs.Nodes.{Item, held, entry_on}
 use Rattle.plane.specs.Lines.{CellEntry, holds_on, node_line, Payload, entry_of, OnGrid}
-use Rattle.plane.specs.Candidates.{numbered_line}
 use Rattle.plane.specs.Fanout.{fanout, index_space}
 use Rattle.plane.proofs.NodeLine.{Fits, GridGroups}
 use Rattle.plane.proofs.Extents.{SomeEach}
@@ -18,7 +17,6 @@ use Rattle.memory.specs.Reading.{read_node}
 use Rattle.layout.specs.Nodes.{count_at}
 use Rattle.walks.specs.Walks.{Walkable}
 use Rattle.walks.specs.Count.{entries_at}
-use Rattle.split_line.specs.LineNumber.{LineIs}
 
 -- the entries left and right of a line, each side a group
 abbrev pub halves_of : Line → List CellEntry → List (List CellEntry)
@@ -37,16 +35,15 @@ groups_of n none place l e = []
 groups_of zero (some b) place l e = []
 groups_of (suc n) (some b) place l e = groups_in n b.child place l e
 
--- the groups of the node at part k; `below` is the number of the line
-unfoldable pub groups_at : ℕ → List ℕ → ℕ → ℕ → ℕ → ℕ → CellEntry → List (List CellEntry)
-groups_at n m lo k place below e = groups_of n (read_node fanout n m lo k) place (numbered_line below) e
+-- the groups of the node at part k; `below` is the line
+unfoldable pub groups_at : ℕ → List ℕ → ℕ → ℕ → ℕ → Line → CellEntry → List (List CellEntry)
+groups_at n m lo k place below e = groups_of n (read_node fanout n m lo k) place below e
 
--- A routing node at part k, the place of the branch that was split, the number of its line, and the new entry's cell.
-pub record NodeHere (m : List ℕ) (level lo k place below : ℕ) (c : Cell) : Type 0 where
+-- A routing node at part k, the place of the branch that was split, and the new entry's cell.
+pub record NodeHere (m : List ℕ) (level lo k place : ℕ) (c : Cell) : Type 0 where
   pub walk : Walkable level m lo k
   pub routing : 1 ≤ level
   pub place_in : place < count_at m k
-  pub line : below < 131072
   pub grid : OnGrid (entries_at level m lo k)
   pub cell : on_grid c ≡ true
 
@@ -57,8 +54,8 @@ pub record LineFits (gs : List (List CellEntry)) : Type 0 where
   pub line : Line
   pub fits : Fits holds_on fanout gs line
 
--- r is the number of the node's line, whatever the tag of the new entry
-abbrev pub NodeLineIs : List ℕ → ℕ → ℕ → ℕ → ℕ → ℕ → Cell → ℕ → Type 0
+-- r is the node's line, whatever the tag of the new entry
+abbrev pub NodeLineIs : List ℕ → ℕ → ℕ → ℕ → ℕ → Line → Cell → Line → Type 0
 NodeLineIs m level lo k place below c r =
     (t : Payload) → LineFits (groups_at level m lo k place below (entry_of c t))
-    → LineIs r (node_line fanout (groups_at level m lo k place below (entry_of c t)))
+    → r ≡ node_line fanout (groups_at level m lo k place below (entry_of c t))

@@ -1,18 +1,18 @@
 // The line of a routing node, from the extents of its branches: only lines just behind an extreme coordinate of a
-// branch are tried. The extents are rectangles in a list, four numbers each.
-ghost use Rattle.std.specs.Prelude.{◌≡◌, true, ◌<◌, ◌≤◌};
+// branch are tried.
+ghost use Rattle.std.specs.Prelude.{◌≡◌, true, ◌≤◌, IfSome};
 ghost use Rattle.geometry.specs.Cells.{valid};
 ghost use Rattle.tree.specs.Space.{left, right};
-ghost use Rattle.plane.specs.Candidates.{extent_on, line_number, tried};
+ghost use Rattle.plane.specs.Candidates.{extent_on, line_number, best_candidate};
 ghost use Rattle.plane.specs.Fanout.{fanout};
-ghost use Rattle.split_line.specs.Extents.{rect_extent, extents_in, ExtentList, TriedLine, counts_of, added_counts, counts_fit, tried_at, best_number};
+ghost use Rattle.split_line.specs.Extents.{rect_extent, extents_in, ExtentList, TriedLine, counts_of, added_counts, counts_fit};
+ghost use Rattle.split_line.specs.Tried.{precedes, tried, tried_behind};
 
-use crate::sides::Y_LINES;
-use geometry::{Line, Rect, rect_at};
+use geometry::{Line, Rect};
 use layout::FANOUT;
 
-// The numbers of lines are below this.
-const LINES: u32 = 131072;
+// What is added to l for the place of a line in y: those in x come before.
+const Y_LINES: u32 = 65536;
 
 // How many branches hold entries left of a line, right of it, and on both sides.
 #[derive(Clone, Copy)]
@@ -24,50 +24,26 @@ struct Counts {
 
 impl Counts {
     // With one more branch.
+    #[tactic(auto, unfolding(crate::specs::Extents::added_counts))]
     fn add(self, before: bool, behind: bool) -> Counts
         requires lefts_bound { self.lefts ≤ 8 }
         requires rights_bound { self.rights ≤ 8 }
         requires both_bound { self.both ≤ 8 }
         ensures { result ≡ added_counts self before behind }
     {
-        if before {
-            if behind {
-                return Counts {
-                    lefts: self.lefts + 1,
-                    rights: self.rights + 1,
-                    both: self.both + 1,
-                };
-            }
-            return Counts {
-                lefts: self.lefts + 1,
-                rights: self.rights,
-                both: self.both,
-            };
+        Counts {
+            lefts: self.lefts + before as u32,
+            rights: self.rights + behind as u32,
+            both: self.both + (before && behind) as u32,
         }
-        if behind {
-            return Counts {
-                lefts: self.lefts,
-                rights: self.rights + 1,
-                both: self.both,
-            };
-        }
-        self
     }
 
     // Whether each side receives 1 to 8 branches.
+    #[tactic(auto, unfolding(crate::specs::Extents::counts_fit))]
     fn fit(self) -> bool
         ensures { result ≡ counts_fit self }
     {
-        if self.lefts == 0 {
-            return false;
-        }
-        if FANOUT < self.lefts {
-            return false;
-        }
-        if self.rights == 0 {
-            return false;
-        }
-        self.rights <= FANOUT
+        1 <= self.lefts && self.lefts <= FANOUT && 1 <= self.rights && self.rights <= FANOUT
     }
 }
 
@@ -103,65 +79,88 @@ fn number_of(line: Line) -> u32
     }
 }
 
+// A line, and how many branches hold entries on both its sides.
+#[derive(Clone, Copy)]
+struct Candidate {
+    both: u32,
+    line: Line,
+}
+
+impl Candidate {
+    // Whether it is taken rather than the other: fewest branches on both sides, ties to x, then to the smaller line.
+    #[tactic(auto, unfolding(crate::specs::Tried::precedes))]
+    fn precedes(self, other: Candidate) -> bool
+        requires own { line_number self.line ≤ 131072 }
+        requires other { line_number other.line ≤ 131072 }
+        ensures { result ≡ precedes self other }
+    {
+        (self.both, number_of(self.line)) < (other.both, number_of(other.line))
+    }
+}
+
 // Counts the branches on the sides of the line.
-fn count_sides(extents: &[u32], n: usize, line: Line) -> Counts
-    requires { ExtentList extents.now n }
-    ensures { result ≡ counts_of (extents_in extents.now n) line }
+fn count_sides(extents: &[Rect], line: Line) -> Counts
+    requires { ExtentList extents.now }
+    ensures { result ≡ counts_of (extents_in extents.now) line }
 {
     let mut counts = Counts {
         lefts: 0,
         rights: 0,
         both: 0,
     };
-    let mut i = 0;
-    while i < n {
-        let r = rect_at(extents, i);
+    for &r in extents {
         counts = counts.add(is_left(r, line), is_right(r, line));
-        i += 1;
     }
     counts
 }
 
-// The least key so far after the line was tried: the key counts the branches on both sides first, then the place of
-// the line.
-fn try_line(extents: &[u32], n: usize, line: Line, key: u32) -> u32
-    requires { TriedLine extents.now n line }
-    ensures { result ≡ tried fanout (extents_in extents.now n) key line }
+// The best candidate so far after the line was tried.
+fn try_line(extents: &[Rect], line: Line, best: Option<Candidate>) -> Option<Candidate>
+    requires tried_line { TriedLine extents.now line }
+    requires numbers_fit { IfSome best (λ b. line_number b.line ≤ 131072) }
+    ensures value { result ≡ tried (extents_in extents.now) best line }
+    ensures numbers_fit { IfSome result (λ b. line_number b.line ≤ 131072) }
 {
-    let counts = count_sides(extents, n, line);
+    let counts = count_sides(extents, line);
     if !counts.fit() {
-        return key;
+        return best;
     }
-    let next = counts.both * LINES + number_of(line);
-    if next < key {
-        return next;
+    let next = Candidate {
+        both: counts.both,
+        line,
+    };
+    match best {
+        Some(first) if !next.precedes(first) => best,
+        _ => Some(next),
     }
-    key
 }
 
-// The least key so far after the four lines behind the extremes of the i-th branch were tried.
-fn try_branch(extents: &[u32], n: usize, i: usize, key: u32) -> u32
-    requires extent_list { ExtentList extents.now n }
-    requires i_lt_n { i < n }
-    ensures { result ≡ tried_at extents.now n i key }
+// The best candidate so far after the four lines behind the extremes of a branch with the extent r were tried.
+fn try_branch(extents: &[Rect], r: Rect, best: Option<Candidate>) -> Option<Candidate>
+    requires extent_list { ExtentList extents.now }
+    requires r_value { valid r ≡ true }
+    requires numbers_fit { IfSome best (λ b. line_number b.line ≤ 131072) }
+    ensures value { result ≡ tried_behind extents.now r best }
+    ensures numbers_fit { IfSome result (λ b. line_number b.line ≤ 131072) }
 {
-    let r = rect_at(extents, i);
-    let first = try_line(extents, n, Line::AtX(r.llx + 1), key);
-    let second = try_line(extents, n, Line::AtX(r.urx), first);
-    let third = try_line(extents, n, Line::AtY(r.lly + 1), second);
-    try_line(extents, n, Line::AtY(r.ury), third)
+    let first = try_line(extents, Line::AtX(r.llx + 1), best);
+    let second = try_line(extents, Line::AtX(r.urx), first);
+    let third = try_line(extents, Line::AtY(r.lly + 1), second);
+    try_line(extents, Line::AtY(r.ury), third)
 }
 
-// The number of the fitting line with fewest branches on both sides, ties to x, then to the smaller line.
-pub fn best_line(extents: &[u32], n: usize) -> u32
-    requires { ExtentList extents.now n }
-    ensures { result ≡ best_number (extents_in extents.now n) }
+// The fitting line with fewest branches on both sides, ties to x, then to the smaller line.
+pub fn best_line(extents: &[Rect]) -> Line
+    requires { ExtentList extents.now }
+    ensures { result ≡ best_candidate fanout (extents_in extents.now) }
 {
-    let mut key: u32 = 4294967295;
-    let mut i = 0;
-    while i < n {
-        key = try_branch(extents, n, i, key);
-        i += 1;
+    let mut best = None;
+    for &r in extents {
+        best = try_branch(extents, r, best);
     }
-    key % LINES
+    match best {
+        Some(first) => first.line,
+        // as the definition says: no caller asks where no line fits
+        None => Line::AtX(0),
+    }
 }

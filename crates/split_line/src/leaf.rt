@@ -2,9 +2,8 @@
 ghost use Rattle.std.specs.Prelude.{◌≡◌};
 ghost use Rattle.split_line.specs.FullLeaf.{entries_of, LeafHere, LeafLineIs, sums_of, added_sums, SmallSums};
 
-use crate::sides::Y_LINES;
-use geometry::Cell;
-use layout::{Node, cell, item_count};
+use geometry::{Cell, Line};
+use layout::{entries, item_count};
 
 // The sums of coordinates and of their squares.
 #[derive(Clone, Copy)]
@@ -17,6 +16,7 @@ struct Sums {
 
 impl Sums {
     // With one more cell.
+    #[tactic(auto, unfolding(crate::specs::FullLeaf::added_sums))]
     fn add(self, c: Cell) -> Sums
         requires { SmallSums self c }
         ensures { result ≡ added_sums self c }
@@ -37,25 +37,21 @@ fn leaf_sums(p: &[u32], c: Cell) -> Sums
     requires { LeafHere p.now c }
     ensures { result ≡ added_sums (sums_of (entries_of p.now)) c }
 {
-    let leaf = Node::load(p);
-    let n = leaf.count as usize;
     let mut sums = Sums {
         x: 0,
         xx: 0,
         y: 0,
         yy: 0,
     };
-    let mut i = 0;
-    while i < n {
-        sums = sums.add(cell(&leaf.items, i));
-        i += 1;
+    for e in entries(p) {
+        sums = sums.add(e.cell);
     }
     sums.add(c)
 }
 
-// The number of the line that splits the leaf with one more entry, at the cell c: just behind the mean of the
-// coordinates in the dimension where they spread more, x on a tie.
-pub fn leaf_line(p: &[u32], c: Cell) -> u32
+// The line that splits the leaf with one more entry, at the cell c: just behind the mean of the coordinates in the
+// dimension where they spread more, x on a tie.
+pub fn leaf_line(p: &[u32], c: Cell) -> Line
     requires { LeafHere p.now c }
     ensures { LeafLineIs p.now c result }
 {
@@ -64,7 +60,8 @@ pub fn leaf_line(p: &[u32], c: Cell) -> u32
     let spread_x = n * sums.xx - sums.x * sums.x;
     let spread_y = n * sums.yy - sums.y * sums.y;
     if spread_x < spread_y {
-        return Y_LINES + (sums.y / n) as u32 + 1;
+        Line::AtY((sums.y / n) as u32 + 1)
+    } else {
+        Line::AtX((sums.x / n) as u32 + 1)
     }
-    (sums.x / n) as u32 + 1
 }

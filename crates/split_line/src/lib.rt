@@ -1,12 +1,13 @@
-// The line at which a node is split: document 01, 'Insertion', step 4, 'The line'. A line is given by its number.
+// The line at which a node is split: document 01, 'Insertion', step 4, 'The line'.
 #![tactic(auto)]
 
 mod candidates;
 mod extent;
+mod extents;
 mod leaf;
 mod node;
 mod sides;
 
 pub use leaf::leaf_line;
 pub use node::node_line;
-pub use sides::{Y_LINES, is_on, left_side, line_of, on_all, right_side, side_of};
+pub use sides::{is_on, on_all};

@@ -1,109 +1,108 @@
 // The line of a routing node whose branch at a place was split.
-ghost use Rattle.std.specs.Prelude.{◌≡◌, true, length};
+ghost use Rattle.std.specs.Prelude.{◌≡◌, true, ◌++◌};
 ghost use Rattle.geometry.specs.Cells.{on_grid};
-ghost use Rattle.geometry.specs.Numbers.{Appended};
 ghost use Rattle.walks.specs.Count.{entries_at};
 ghost use Rattle.split_line.specs.Sides.{side_of};
-ghost use Rattle.split_line.specs.GroupExtent.{extent_rect_of};
+ghost use Rattle.split_line.specs.GroupExtent.{extent_rect_of, rect_or_first};
+ghost use Rattle.split_line.specs.ExtentRow.{extents_of};
 ghost use Rattle.split_line.specs.Groups.{NodeHere, NodeLineIs};
 ghost use Rattle.split_line.specs.GroupExtents.{GridNode, side_extent, branch_extents, BranchHere, GroupExtents};
 
 use crate::candidates::best_line;
-use crate::extent::extent_under;
-use crate::sides::{is_on, left_side, right_side};
-use geometry::{Cell, Rect, put_rect};
-use layout::{child, node_at};
+use crate::extent::{extent_under, grow};
+use crate::extents::Extents;
+use crate::sides::is_on;
+use geometry::{Cell, Line, Rect, Side};
+use layout::children_at;
+
+// The rectangle of an extent; of no entries that of the cell (0, 0), at which no rule looks.
+#[tactic(auto, unfolding(crate::specs::GroupExtent::rect_or_first))]
+fn rect_or_first(extent: Option<Rect>) -> Rect
+    ensures { result ≡ rect_or_first extent }
+{
+    extent.unwrap_or(Rect {
+        llx: 0,
+        lly: 0,
+        urx: 1,
+        ury: 1,
+    })
+}
 
 // The extents of the entries below the node at part k.
 fn whole_extent(m: &[u32], level: u32, lo: u32, k: u32) -> Rect
     requires { GridNode level m.now lo k }
     ensures { result ≡ extent_rect_of (entries_at level m.now lo k) }
 {
-    let no_sides: [u32; 0] = [];
-    let extent = extent_under(m, level, lo, k, &no_sides);
-    extent.rect
+    let no_sides: [Side; 0] = [];
+    rect_or_first(extent_under(m, level, lo, k, &no_sides))
 }
 
 // The extents of those of them, with one at the cell c, that are on the side.
-fn side_extent(m: &[u32], level: u32, lo: u32, k: u32, side: u32, c: Cell) -> Rect
+fn side_extent(m: &[u32], level: u32, lo: u32, k: u32, side: Side, c: Cell) -> Rect
     requires grid_node { GridNode level m.now lo k }
     requires c_value { on_grid c ≡ true }
     ensures { result ≡ side_extent level m.now lo k (side_of side) c }
 {
-    let sides = [side];
-    let mut extent = extent_under(m, level, lo, k, &sides);
+    let extent = extent_under(m, level, lo, k, &[side]);
     if is_on(side, c) {
-        extent = extent.add(c);
+        grow(extent, c)
+    } else {
+        rect_or_first(extent)
     }
-    extent.rect
 }
 
-// Writes the extents of the branch at part k from the at-th place of the list on: of both its halves where it was
-// split at the line `below`; answers the next place.
+// Writes the extents of the branch at part k behind those in the list: of both its halves where it was split at the
+// line `below`. That line is the same for all branches of a node, so it is no value of `halved`.
 fn put_branch(
     m: &[u32],
     level: u32,
     lo: u32,
     k: u32,
     halved: bool,
-    below: u32,
+    below: Line,
     c: Cell,
-    list: &mut [u32],
-    at: usize,
-) -> usize
-    requires { BranchHere level m.now lo k halved below c list.old at }
-    ensures { Appended list.old at (branch_extents level m.now lo k halved below c) 2
-        list.new result }
+    list: &mut Extents,
+)
+    requires { BranchHere level m.now lo k halved below c (extents_of list.old) }
+    ensures { extents_of list.new
+        ≡ extents_of list.old ++ branch_extents level m.now lo k halved below c }
 {
     if halved {
-        let left = side_extent(m, level, lo, k, left_side(below), c);
-        let right = side_extent(m, level, lo, k, right_side(below), c);
-        put_rect(list, at, left);
-        put_rect(list, at + 1, right);
-        return at + 2;
+        list.push(side_extent(m, level, lo, k, Side::Left(below), c));
+        list.push(side_extent(m, level, lo, k, Side::Right(below), c));
+    } else {
+        list.push(whole_extent(m, level, lo, k));
     }
-    let whole = whole_extent(m, level, lo, k);
-    put_rect(list, at, whole);
-    at + 1
 }
 
-// Writes the extents of the groups of the node at part k to the list; answers how many there are.
-fn put_extents(
+// The extents of the groups of the node at part k.
+fn group_extents(
     m: &[u32],
     level: u32,
     lo: u32,
     k: u32,
     place: u32,
-    below: u32,
+    below: Line,
     c: Cell,
-    list: &mut [u32],
-) -> usize
-    requires node_here { NodeHere m.now level lo k place below c }
-    requires list_len { length list.old ≡ 36 }
-    ensures { GroupExtents m.now level lo k place below c list.new result }
+) -> Extents
+    requires { NodeHere m.now level lo k place c }
+    ensures { GroupExtents m.now level lo k place below c (extents_of result) }
 {
-    let node = node_at(m, k);
-    let n = node.count;
-    let mut next = 0;
+    let mut list = Extents::new();
     let mut low = lo;
-    let mut i: u32 = 0;
-    while i < n {
-        let j = child(&node.items, i as usize);
-        next = put_branch(m, level - 1, low, j, i == place, below, c, list, next);
-        low = j + 1;
-        i += 1;
+    for (i, &part) in children_at(m, k).iter().enumerate() {
+        let halved = i == place as usize;
+        put_branch(m, level - 1, low, part, halved, below, c, &mut list);
+        low = part + 1;
     }
-    next
+    list
 }
 
-// The number of the line that splits the node at part k: its branch at the place was split at the line `below`, and
-// holds the new cell.
-pub fn node_line(m: &[u32], level: u32, lo: u32, k: u32, place: u32, below: u32, c: Cell) -> u32
-    requires { NodeHere m.now level lo k place below c }
+// The line that splits the node at part k: its branch at the place was split at the line `below`, and holds the new
+// cell.
+pub fn node_line(m: &[u32], level: u32, lo: u32, k: u32, place: u32, below: Line, c: Cell) -> Line
+    requires { NodeHere m.now level lo k place c }
     ensures { NodeLineIs m.now level lo k place below c result }
 {
-    // of nine groups, four numbers each
-    let mut extents = [0u32; 36];
-    let n = put_extents(m, level, lo, k, place, below, c, &mut extents);
-    best_line(&extents, n)
+    best_line(group_extents(m, level, lo, k, place, below, c).as_slice())
 }

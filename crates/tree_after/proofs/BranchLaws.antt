@@ -1,12 +1,13 @@
 -- A node on top of its items under sides: when it is kept, its part, and what is written with it.
 use Prim.Native.Nat.{ℕ, suc, ◌+◌, ◌*◌}
 use mathlib.Core.Path.{◌≡◌, refl, sym, ap, ◌∙◌}
-use mathlib.Core.Bool.{Bool, true, false}
+use mathlib.Core.Bool.{Bool, true, false, not}
 use mathlib.Core.List.{List, [], ◌∷◌, ◌++◌, append-nil, flat_map}
 use native.Mathlib.Omega.{arith}
 use borrow.Author.Tests.{eq-eqb, ne_eqb}
 use lib.Dec.{eqb}
 use lib.ListN.{length, take}
+use Rattle.geometry.specs.declared.rect.Side.{Side}
 use Rattle.geometry.specs.declared.rect.Rect.{Rect}
 use Rattle.geometry.specs.declared.polygon.Polygon.{Polygon}
 use Rattle.geometry.specs.Numbers.{rects_of, PolygonOf}
@@ -29,18 +30,18 @@ use Rattle.tree_after.proofs.WriteLaws.{Row, row_part, writes_leaf, writes_node}
 use Rattle.tree_after.proofs.RowLaws.{grows_more}
 
 -- the code's test
-pub kept_some : (ss : List ℕ) (count : ℕ) → (count ≡ 0 → ⊥) → true ≡ kept ss count
+pub kept_some : (ss : List Side) (count : ℕ) → (count ≡ 0 → ⊥) → not (eqb count 0) ≡ kept ss count
 unfolding kept
-kept_some [] count ne = refl
+kept_some [] count ne = rw (ne_eqb count 0 ne)
 kept_some (s ∷ ss) count ne = rw (ne_eqb count 0 ne)
 
-pub kept_empty : (ss : List ℕ) (count : ℕ) → count ≡ 0 → eqb (length ss) 0 ≡ kept ss count
+pub kept_empty : (ss : List Side) (count : ℕ) → count ≡ 0 → eqb (length ss) 0 ≡ kept ss count
 unfolding kept
 kept_empty [] count e = refl
 kept_empty (s ∷ ss) count e = rw (eq-eqb count 0 e, ne_eqb (length (s ∷ ss)) 0 (λ q. omega arith))
 
 -- the code's writing of the node
-module _ (p : List Rect) (n : Node) (ss w : List ℕ) (next : ℕ) (b : Bool) (o : b ≡ kept ss n.count) where
+module _ (p : List Rect) (n : Node) (ss : List Side) (w : List ℕ) (next : ℕ) (b : Bool) (o : b ≡ kept ss n.count) where
   pub top_dropped : b ≡ false → NodeWritten p n ss w next w next
   unfolding node_parts branch_numbers
   top_dropped f =
@@ -66,7 +67,7 @@ module _ (p : List Rect) (n : Node) (ss w : List ℕ) (next : ℕ) (b : Bool) (o
       }
 
 -- a node under sides is one branch if it is kept
-under_kept : {A : Type 0} (ss : List ℕ) (p : List Rect) (items : List A) → kept ss (length items) ≡ true
+under_kept : {A : Type 0} (ss : List Side) (p : List Rect) (items : List A) → kept ss (length items) ≡ true
     → branch_under index_space (sides_of ss) p items ≡ record { poly = clips index_space (sides_of ss) p; child = items } ∷ []
 unfolding kept sides_of clips
 under_kept [] p items k = refl
@@ -74,7 +75,7 @@ under_kept (s ∷ ss) p (x ∷ items) k = refl
 under_kept (s ∷ ss) p [] k = let z : ◌≡◌ {A = ℕ} 0 1 = cc in absurd (omega arith)
 
 -- and none if not, for want of items
-under_dropped : {A : Type 0} (ss : List ℕ) (p : List Rect) (items : List A) → kept ss (length items) ≡ false
+under_dropped : {A : Type 0} (ss : List Side) (p : List Rect) (items : List A) → kept ss (length items) ≡ false
     → branch_under index_space (sides_of ss) p items ≡ []
 unfolding kept sides_of
 under_dropped [] p items k = let z : ◌≡◌ {A = ℕ} 0 1 = cc in absurd (omega arith)
@@ -84,7 +85,7 @@ under_dropped (s ∷ ss) p (x ∷ items) k =
     absurd (omega arith)
 under_dropped (s ∷ ss) p [] k = refl
 
-dropped_none : {A : Type 0} (ss : List ℕ) (items : List A) → kept ss (length items) ≡ false → items ≡ []
+dropped_none : {A : Type 0} (ss : List Side) (items : List A) → kept ss (length items) ≡ false → items ≡ []
 unfolding kept
 dropped_none [] items k = let z : ◌≡◌ {A = ℕ} 0 1 = cc in absurd (omega arith)
 dropped_none (s ∷ ss) (x ∷ items) k =
@@ -94,7 +95,7 @@ dropped_none (s ∷ ss) (x ∷ items) k =
 dropped_none (s ∷ ss) [] k = refl
 
 -- the nodes of a leaf under sides: itself if it is kept
-pub leaf_nodes_under : (ss : List ℕ) (p : List Rect) (es : List CellEntry)
+pub leaf_nodes_under : (ss : List Side) (p : List Rect) (es : List CellEntry)
     → total (nodes index_space 1) (branch_under index_space (sides_of ss) p es) ≡ node_parts ss (length es)
 unfolding total node_parts
 leaf_nodes_under ss p es = go (kept ss (length es)) refl
@@ -106,7 +107,7 @@ leaf_nodes_under ss p es = go (kept ss (length es)) refl
     go false k = rw (under_dropped ss p es k, k)
 
 -- the nodes of a node under sides: those of its branches, and itself if it is kept
-pub under_nodes : (n : ℕ) (ss : List ℕ) (p : List Rect) (bs : List (Item index_space (suc n)))
+pub under_nodes : (n : ℕ) (ss : List Side) (p : List Rect) (bs : List (Item index_space (suc n)))
     → total (nodes index_space (suc (suc n))) (branch_under index_space (sides_of ss) p bs) ≡ total (nodes index_space (suc n)) bs + node_parts ss (length bs)
 unfolding total nodes node_parts
 under_nodes n ss p bs = go (kept ss (length bs)) refl
@@ -116,7 +117,7 @@ under_nodes n ss p bs = go (kept ss (length bs)) refl
     go true k = rw (under_kept ss p bs k, k) (omega arith)
     go false k = rw (under_dropped ss p bs k, k, dropped_none ss bs k)
 
-module _ (p : List Rect) (n : Node) (ss w : List ℕ) (next : ℕ) (w₁ : List ℕ) (r : ℕ) (x : NodeWritten p n ss w next w₁ r) where
+module _ (p : List Rect) (n : Node) (ss : List Side) (w : List ℕ) (next : ℕ) (w₁ : List ℕ) (r : ℕ) (x : NodeWritten p n ss w next w₁ r) where
   -- the part of a node that is kept
   put_of : kept ss n.count ≡ true → PartPut w next (node_part (clips index_space (sides_of ss) p) n.count n.items) w₁ × (r ≡ next + 1)
   unfolding node_parts branch_numbers
@@ -131,7 +132,7 @@ module _ (p : List Rect) (n : Node) (ss w : List ℕ) (next : ℕ) (w₁ : List 
   same_of k = let a = x.next_is in let b = x.written in (rw k at b, rw k at a)
 
 -- a leaf with the entries that were gathered
-pub top_leaf : (p : List Rect) (ss : List ℕ) (es : List CellEntry) (n : Node) (w : List ℕ) (next : ℕ) (w₁ : List ℕ) (r : ℕ)
+pub top_leaf : (p : List Rect) (ss : List Side) (es : List CellEntry) (n : Node) (w : List ℕ) (next : ℕ) (w₁ : List ℕ) (r : ℕ)
     → n ≡ leaf_of es → NodeWritten p n ss w next w₁ r → Writes 0 w next (branch_under index_space (sides_of ss) p es) w₁ r
 unfolding write_row flat_map total
 top_leaf p ss es n w next w₁ r g x = go (kept ss (length es)) refl
@@ -153,7 +154,7 @@ top_leaf p ss es n w next w₁ r g x = go (kept ss (length es)) refl
         rw (under_dropped ss p es k) (record { written = q.0; next_is = omega arith; same_length = x'.same_length })
 
 -- a routing node with the branches that were written
-pub top_node : (n : ℕ) (p : List Rect) (ss : List ℕ) (bs : List (Item index_space (suc n))) (node : Node) (w : List ℕ) (next : ℕ) (w₁ : List ℕ) (next₁ : ℕ) (w₂ : List ℕ) (r : ℕ)
+pub top_node : (n : ℕ) (p : List Rect) (ss : List Side) (bs : List (Item index_space (suc n))) (node : Node) (w : List ℕ) (next : ℕ) (w₁ : List ℕ) (next₁ : ℕ) (w₂ : List ℕ) (r : ℕ)
     → Row n w next bs w₁ next₁ node → NodeWritten p node ss w₁ next₁ w₂ r
     → Writes (suc n) w next (branch_under index_space (sides_of ss) p bs) w₂ r
 unfolding write_row flat_map total
@@ -186,7 +187,7 @@ unfolding node_of
 grown_row n w next bs w₁ t g = record { written = g.writes; count_is = (let c = g.count_is in omega arith); node_is = g.children [] no_children }
 
 -- a routing node whose branches were written in two goes
-pub rest_node : (n : ℕ) (p : List Rect) (ss : List ℕ) (w : List ℕ) (next : ℕ) (bs cs : List (Item index_space (suc n))) (w₁ : List ℕ) (t : Branches) (w₂ : List ℕ) (r : ℕ)
+pub rest_node : (n : ℕ) (p : List Rect) (ss : List Side) (w : List ℕ) (next : ℕ) (bs cs : List (Item index_space (suc n))) (w₁ : List ℕ) (t : Branches) (w₂ : List ℕ) (r : ℕ)
     → Grows n w (no_branches next) bs w₁ t → RestWritten n p ss cs w₁ t w₂ r → Writes (suc n) w next (branch_under index_space (sides_of ss) p (bs ++ cs)) w₂ r
 rest_node n p ss w next bs cs w₁ t w₂ r g x =
     let h = grows_more n w (no_branches next) bs w₁ t cs x.mid x.all g x.branches in

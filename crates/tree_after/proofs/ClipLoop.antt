@@ -8,6 +8,7 @@ use lib.ListN.{length, drop, get_or, drop_of_length-le}
 use lib.Seq.{drop-cons}
 use Rattle.geometry.specs.declared.rect.Rect.{Rect}
 use Rattle.geometry.specs.declared.rect.Side.{Side}
+use Rattle.geometry.specs.declared.rect.Side.TheVariants.{Left, Right}
 use Rattle.geometry.specs.declared.polygon.Polygon.{Polygon}
 use Rattle.geometry.specs.Clip.{clip}
 use Rattle.geometry.specs.Numbers.{rects_of, PolygonOf}
@@ -18,29 +19,33 @@ use Rattle.plane.specs.Fanout.{index_space}
 use Rattle.split_line.specs.Sides.{side_of, sides_of}
 
 -- Before the i-th side: q, clipped to the sides that remain, gives the whole.
-pub record AtClip (ss : List ℕ) (p : List Rect) (q : Polygon) (i : ℕ) : Type 0 where
+pub record AtClip (ss : List Side) (p : List Rect) (q : Polygon) (i : ℕ) : Type 0 where
   pub i_le : i ≤ length ss
-  pub few : q.count ≤ 16
   pub rest : clips index_space (sides_of (drop i ss)) (rects_of q) ≡ clips index_space (sides_of ss) p
 
-pub clip_start : (ss : List ℕ) (p : Polygon) → p.count ≤ 16 → AtClip ss (rects_of p) p 0
-clip_start ss p h = record { i_le = omega arith; few = h; rest = refl }
+pub clip_start : (ss : List Side) (p : Polygon) → AtClip ss (rects_of p) p 0
+clip_start ss p = record { i_le = omega arith; rest = refl }
 
-module _ (ss : List ℕ) (p : List Rect) (q : Polygon) (i : ℕ) (a : AtClip ss p q i) where
-  pub clip_again : (s : Side) (q₁ q₂ : Polygon) → i < length ss → s ≡ rect_side (side_of (get_or ss i 0))
-      → PolygonOf (clip s (rects_of q)) q₁ → PolygonOf (refine (rects_of q₁)) q₂ → AtClip ss p q₂ (i + 1)
+-- the geometry's side again
+side_again : (s : Side) → rect_side (side_of s) ≡ s
+unfolding side_of
+side_again (Left l) = refl
+side_again (Right l) = refl
+
+module _ (ss : List Side) (p : List Rect) (q : Polygon) (i : ℕ) (a : AtClip ss p q i) where
+  pub clip_again : (d : Side) (q₁ q₂ : Polygon) → i < length ss
+      → PolygonOf (clip (get_or ss i d) (rects_of q)) q₁ → PolygonOf (refine (rects_of q₁)) q₂ → AtClip ss p q₂ (i + 1)
   unfolding clips sides_of clip
-  clip_again s q₁ q₂ h e x y =
-      let d : drop i ss ≡ get_or ss i 0 ∷ drop (i + 1) ss = drop-cons ss i 0 h ∙ rw add-one in
+  clip_again d q₁ q₂ h x y =
+      let r : drop i ss ≡ get_or ss i d ∷ drop (i + 1) ss = drop-cons ss i d h ∙ rw add-one in
       record {
         i_le = omega arith;
-        few = y.fits;
         rest =
             ap (clips index_space (sides_of (drop (i + 1) ss)))
-            (y.list ∙ ap refine (x.list ∙ ap (λ (t : Side). clip t (rects_of q)) e))
-            ∙ sym (ap (λ (l : List ℕ). clips index_space (sides_of l) (rects_of q)) d) ∙ a.rest;
+            (y.list ∙ ap refine (x.list ∙ ap (λ (t : Side). clip t (rects_of q)) (sym (side_again (get_or ss i d)))))
+            ∙ sym (ap (λ (l : List Side). clips index_space (sides_of l) (rects_of q)) r) ∙ a.rest;
       }
 
   pub clip_end : length ss ≤ i → PolygonOf (clips index_space (sides_of ss) p) q
   unfolding clips sides_of
-  clip_end h = record { list = rw (drop_of_length-le ss h) at a.rest; fits = a.few }
+  clip_end h = record { list = rw (drop_of_length-le ss h) at a.rest; fits = q.few }

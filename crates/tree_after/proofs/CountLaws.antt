@@ -5,10 +5,11 @@ use mathlib.Core.Bool.{Bool, true, false}
 use mathlib.Core.List.{List, [], ◌∷◌, ◌++◌}
 use native.Mathlib.Omega.{arith}
 use lib.ListN.{length}
+use Rattle.geometry.specs.declared.rect.Side.{Side}
 use Rattle.geometry.specs.declared.rect.Rect.{Rect}
 use Rattle.tree.specs.Lists.{total, not_empty}
 use Rattle.tree.specs.Nodes.{Item, nodes}
-use Rattle.tree.specs.Plan.{branch_under, clips}
+use Rattle.tree.specs.Plan.{clips}
 use Rattle.tree.proofs.Counts.{total_append}
 use Rattle.tree.proofs.Lists.{not_empty_length}
 use Rattle.plane.specs.Lines.{CellEntry}
@@ -34,13 +35,13 @@ pub none_counted : (n : ℕ) → 0 ≡ counted n []
 unfolding counted total
 none_counted n = omega arith
 
-no_sides : (ss : List ℕ) → length ss ≡ 0 → sides_of ss ≡ []
+no_sides : (ss : List Side) → length ss ≡ 0 → sides_of ss ≡ []
 unfolding sides_of
 no_sides [] h = refl
 no_sides (s ∷ ss) h = absurd (omega arith)
 
 -- a leaf under sides
-module _ (ss p : List ℕ) where
+module _ (ss : List Side) (p : List ℕ) where
   pub leaf_whole : length ss ≡ 0 → 1 ≡ counted 0 (leaf_under ss p)
   unfolding leaf_under
   leaf_whole h = rw (no_sides ss h) (one_leaf (record { poly = polygon_in p; child = leaf_remaining ss p }))
@@ -80,19 +81,3 @@ counted_none n (b ∷ bs) h = absurd (omega arith)
 pub counted_node : (n : ℕ) (p : List Rect) (bs : List (Item index_space (suc n))) → min 257 (counted n bs + 1) ≡ counted (suc n) (record { poly = p; child = bs } ∷ [])
 unfolding counted total nodes
 counted_node n p bs = omega arith
-
-module _ (ss : List ℕ) (n : ℕ) (p : List Rect) (bs : List (Item index_space (suc n))) where
-  pub under_dropped : counted n bs ≡ 0 → (length ss ≡ 0 → ⊥) → 0 ≡ counted (suc n) (branch_under index_space (sides_of ss) p bs)
-  under_dropped h ne =
-      let s = length_sides ss in
-      rw (under_none p bs (sides_of ss) (omega arith) (counted_none n bs h)) (none_counted (suc n))
-
-  pub under_counted : (counted n bs ≡ 0 → ⊥) → min 257 (counted n bs + 1) ≡ counted (suc n) (branch_under index_space (sides_of ss) p bs)
-  under_counted ne = rw (under_some p bs (sides_of ss) (go bs ne)) (counted_node n (clips index_space (sides_of ss) p) bs)
-    where
-      go : (l : List (Item index_space (suc n))) → (counted n l ≡ 0 → ⊥) → 1 ≤ length l
-      go [] f = absurd (f (sym (none_counted n)))
-      go (x ∷ l) f = omega arith
-
-  pub under_whole : length ss ≡ 0 → min 257 (counted n bs + 1) ≡ counted (suc n) (branch_under index_space (sides_of ss) p bs)
-  under_whole h = rw (no_sides ss h) (counted_node n p bs)

@@ -8,6 +8,7 @@ use native.Mathlib.Omega.{arith}
 use mir.Syntax.{w32}
 use mir.Val.{Fits}
 use lib.ListN.{length, drop, length-append, drop_of_length-le}
+use Rattle.geometry.specs.declared.rect.Side.{Side as RectSide}
 use Rattle.geometry.specs.declared.rect.Line.{Line}
 use Rattle.geometry.specs.declared.rect.Rect.{Rect}
 use Rattle.tree.specs.Lists.{keep}
@@ -53,23 +54,23 @@ module _ {A : Type 0} (p : List Rect) (items : List A) where
       go [] = omega arith
       go (x ∷ l) = omega arith
 
-pub length_sides : (ss : List ℕ) → length (sides_of ss) ≡ length ss
+pub length_sides : (ss : List RectSide) → length (sides_of ss) ≡ length ss
 unfolding sides_of
 length_sides [] = refl
 length_sides (s ∷ ss) = ap suc (length_sides ss)
 
 -- at most one branch remains of a node
-deep_of_one : (n : ℕ) (ss : List ℕ) (o : Option (Item index_space (suc n))) → length (deep_of n ss o) ≤ 1
+deep_of_one : (n : ℕ) (ss : List RectSide) (o : Option (Item index_space (suc n))) → length (deep_of n ss o) ≤ 1
 unfolding deep_of deep
 deep_of_one n ss none = omega arith
 deep_of_one n ss (some b) = under_one b.poly (flat_map (deep index_space n (sides_of ss)) b.child) (sides_of ss)
 
-pub deep_one : (n : ℕ) (m : List ℕ) (lo k : ℕ) (ss : List ℕ) → length (deep_at n m lo k ss) ≤ 1
+pub deep_one : (n : ℕ) (m : List ℕ) (lo k : ℕ) (ss : List RectSide) → length (deep_at n m lo k ss) ≤ 1
 unfolding deep_at
 deep_one n m lo k ss = deep_of_one n ss (read_node fanout n m lo k)
 
 -- the entries that remain
-pub entries_remaining : (ss : List ℕ) (es : List CellEntry) → flat_map (deep index_space zero (sides_of ss)) es ≡ keep (on_test ss) es
+pub entries_remaining : (ss : List RectSide) (es : List CellEntry) → flat_map (deep index_space zero (sides_of ss)) es ≡ keep (on_test ss) es
 unfolding flat_map keep deep on_test
 entries_remaining ss [] = refl
 entries_remaining ss (e ∷ es) = rw (entries_remaining ss es, entry_on_lem ss e) (go (on_every ss e.cell))
@@ -78,43 +79,43 @@ entries_remaining ss (e ∷ es) = rw (entries_remaining ss es, entry_on_lem ss e
     go true = refl
     go false = refl
 
-pub deep_leaf : (m : List ℕ) (lo k : ℕ) (ss : List ℕ) → Walkable 0 m lo k → deep_at 0 m lo k ss ≡ leaf_under ss (part m k)
+pub deep_leaf : (m : List ℕ) (lo k : ℕ) (ss : List RectSide) → Walkable 0 m lo k → deep_at 0 m lo k ss ≡ leaf_under ss (part m k)
 unfolding deep_at deep_of deep leaf_under leaf_remaining leaf_entries
 deep_leaf m lo k ss v =
     let p = leaf_parts fanout m lo k v.node v.reads in
     rw (v.reads, p.polygon, p.entries, entries_remaining ss (entries_in (part m k) (item_count (part m k))))
 
 -- what remains of a row of children
-row_deep : (n : ℕ) → List ℕ → Option (List (Item index_space (suc n))) → List (Item index_space (suc n))
+row_deep : (n : ℕ) → List RectSide → Option (List (Item index_space (suc n))) → List (Item index_space (suc n))
 row_deep n ss none = []
 row_deep n ss (some bs) = flat_map (deep index_space (suc n) (sides_of ss)) bs
 
-pub deep_row : (n : ℕ) (m : List ℕ) (lo hi : ℕ) (ks ss : List ℕ) → List (Item index_space (suc n))
+pub deep_row : (n : ℕ) (m : List ℕ) (lo hi : ℕ) (ks : List ℕ) (ss : List RectSide) → List (Item index_space (suc n))
 deep_row n m lo hi ks ss = row_deep n ss (read_row (read_node fanout n m) lo hi ks)
 
 -- what remains of the children of the node at part k
-abbrev pub children_remaining : (n : ℕ) (m : List ℕ) (lo k : ℕ) (ss : List ℕ) → List (Item index_space (suc n))
+abbrev pub children_remaining : (n : ℕ) (m : List ℕ) (lo k : ℕ) (ss : List RectSide) → List (Item index_space (suc n))
 children_remaining n m lo k ss = deep_row n m lo k (children_in (part m k)) ss
 
-pub deep_node : (n : ℕ) (m : List ℕ) (lo k : ℕ) (ss : List ℕ) → Walkable (suc n) m lo k
+pub deep_node : (n : ℕ) (m : List ℕ) (lo k : ℕ) (ss : List RectSide) → Walkable (suc n) m lo k
     → deep_at (suc n) m lo k ss ≡ branch_under index_space (sides_of ss) (polygon_in (part m k)) (children_remaining n m lo k ss)
 unfolding deep_at deep_of deep deep_row row_deep
 deep_node n m lo k ss v =
     let p = node_parts_lem fanout n m lo k v.node v.reads in
     rw (v.reads, p.polygon, p.row)
 
-no_row : (n : ℕ) (m : List ℕ) (lo hi : ℕ) (ss : List ℕ) → deep_row n m lo hi [] ss ≡ []
+no_row : (n : ℕ) (m : List ℕ) (lo hi : ℕ) (ss : List RectSide) → deep_row n m lo hi [] ss ≡ []
 unfolding deep_row row_deep read_row flat_map
 no_row n m lo hi ss = refl
 
 -- a row taken apart: its first child at part j and the others
-record DeepStep (n : ℕ) (m : List ℕ) (lo hi j : ℕ) (ks ss : List ℕ) : Type 0 where
+record DeepStep (n : ℕ) (m : List ℕ) (lo hi j : ℕ) (ks : List ℕ) (ss : List RectSide) : Type 0 where
   below : j < hi
   child : Walkable n m lo j
   others : RowWalkable n m (j + 1) hi ks
   whole : deep_row n m lo hi (j ∷ ks) ss ≡ deep_at n m lo j ss ++ deep_row n m (j + 1) hi ks ss
 
-deep_step : (n : ℕ) (m : List ℕ) (lo hi j : ℕ) (ks ss : List ℕ) → RowWalkable n m lo hi (j ∷ ks) → DeepStep n m lo hi j ks ss
+deep_step : (n : ℕ) (m : List ℕ) (lo hi j : ℕ) (ks : List ℕ) (ss : List RectSide) → RowWalkable n m lo hi (j ∷ ks) → DeepStep n m lo hi j ks ss
 unfolding deep_at deep_of deep_row row_deep flat_map
 deep_step n m lo hi j ks ss v =
     let r = row_parts (read_node fanout n m) lo hi j ks v.row v.reads in
@@ -127,7 +128,7 @@ deep_step n m lo hi j ks ss v =
     }
 
 -- Before the i-th of the size children of the node at part k: bs remain of those that were passed, and low is the child's lower end.
-pub record AtDeep (n : ℕ) (m : List ℕ) (lo k : ℕ) (ss : List ℕ) (size i low : ℕ) (bs : List (Item index_space (suc n))) : Type 0 where
+pub record AtDeep (n : ℕ) (m : List ℕ) (lo k : ℕ) (ss : List RectSide) (size i low : ℕ) (bs : List (Item index_space (suc n))) : Type 0 where
   pub size_is : size ≡ count_at m k
   pub i_le : i ≤ size
   pub few : length bs ≤ i
@@ -135,7 +136,7 @@ pub record AtDeep (n : ℕ) (m : List ℕ) (lo k : ℕ) (ss : List ℕ) (size i 
   pub row : RowWalkable n m low k (drop i (children_in (part m k)))
   pub whole : bs ++ deep_row n m low k (drop i (children_in (part m k))) ss ≡ children_remaining n m lo k ss
 
-pub deep_start : (n : ℕ) (m : List ℕ) (lo k : ℕ) (ss : List ℕ) (size : ℕ) → size ≡ count_at m k → Walkable (suc n) m lo k → AtDeep n m lo k ss size 0 lo []
+pub deep_start : (n : ℕ) (m : List ℕ) (lo k : ℕ) (ss : List RectSide) (size : ℕ) → size ≡ count_at m k → Walkable (suc n) m lo k → AtDeep n m lo k ss size 0 lo []
 deep_start n m lo k ss size q v = record {
   size_is = q;
   i_le = omega arith;
@@ -145,7 +146,7 @@ deep_start n m lo k ss size q v = record {
   whole = refl;
 }
 
-module _ (n : ℕ) (m : List ℕ) (lo k : ℕ) (ss : List ℕ) (size i low : ℕ) (bs : List (Item index_space (suc n))) (a : AtDeep n m lo k ss size i low bs) where
+module _ (n : ℕ) (m : List ℕ) (lo k : ℕ) (ss : List RectSide) (size i low : ℕ) (bs : List (Item index_space (suc n))) (a : AtDeep n m lo k ss size i low bs) where
   pub deep_end : size ≤ i → bs ≡ children_remaining n m lo k ss
   deep_end h =
       let q = a.size_is in

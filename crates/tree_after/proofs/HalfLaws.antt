@@ -5,14 +5,18 @@ use mathlib.Core.List.{List, [], ◌∷◌, ◌++◌, append_assoc, flat_map}
 use native.Mathlib.Omega.{arith}
 use lib.ListN.{length, take, drop, length-append, length-take, length-drop}
 use lib.Seq.{take_all}
+use Rattle.path.specs.declared.level.Level.{Level}
+use Rattle.std.specs.Prelude.{Some, None}
+use Rattle.geometry.specs.declared.rect.Line.{Line}
+use Rattle.geometry.specs.declared.rect.Side.{Side}
+use Rattle.geometry.specs.declared.rect.Side.TheVariants.{Left, Right}
 use Rattle.tree.specs.Lists.{total}
-use Rattle.tree.specs.Space.{left, right}
+use Rattle.tree.specs.Space.{right}
 use Rattle.tree.specs.Nodes.{Item, nodes}
 use Rattle.tree.specs.Plan.{branch_under}
 use Rattle.tree.specs.Pass.{deep}
 use Rattle.tree.proofs.Counts.{total_append}
 use Rattle.plane.specs.Lines.{CellEntry}
-use Rattle.plane.specs.Candidates.{numbered_line}
 use Rattle.plane.specs.Fanout.{index_space}
 use Rattle.layout.specs.Loaded.{node_of}
 use Rattle.layout.specs.Nodes.{count_at}
@@ -30,7 +34,7 @@ use Rattle.tree_after.proofs.RowLaws.{row_count, grows_one, grows_more}
 use Rattle.tree_after.proofs.BranchLaws.{under_nodes, rest_node}
 
 -- the items of a routing node
-module _ (n : ℕ) (path m : List ℕ) (e : CellEntry) (ss : List ℕ) where
+module _ (n : ℕ) (path : List Level) (m : List ℕ) (e : CellEntry) (ss : List Side) where
   before_is : range_under n m (part_on path (suc n)) 0 (place_on path (suc n)) ss ≡ flat_map (deep index_space (suc n) (sides_of ss)) (take (place_on path (suc n)) (row_at n m (part_on path (suc n))))
   unfolding range_under
   before_is = let z : place_on path (suc n) - 0 ≡ place_on path (suc n) = omega arith in rw z
@@ -49,7 +53,7 @@ module _ (n : ℕ) (path m : List ℕ) (e : CellEntry) (ss : List ℕ) where
   node_row v = rw (before_is, behind_is v)
 
 -- room for the last branches of a node and the node itself, taken apart
-module _ (n : ℕ) (ss : List ℕ) (bs cs : List (Item index_space (suc n))) (w : List ℕ) (t : Branches) (r : RestRoom n ss (bs ++ cs) w t) where
+module _ (n : ℕ) (ss : List Side) (bs cs : List (Item index_space (suc n))) (w : List ℕ) (t : Branches) (r : RestRoom n ss (bs ++ cs) w t) where
   pub rest_first : Room n w t.next bs
   rest_first =
       let a = total_append (nodes index_space (suc n)) bs cs in
@@ -68,15 +72,15 @@ module _ (n : ℕ) (ss : List ℕ) (bs cs : List (Item index_space (suc n))) (w 
       record { fits = rw d (omega arith); small = omega arith }
 
 -- the branches that take the place of the node on the path one level lower
-abbrev pub middle_on : (level : ℕ) → List ℕ → List ℕ → CellEntry → List ℕ → List (Item index_space (suc (level - 1)))
+abbrev pub middle_on : (level : ℕ) → List Level → List ℕ → CellEntry → List Side → List (Item index_space (suc (level - 1)))
 middle_on level path m e ss = cut_under (level - 1) path m e (sides_of ss)
 
 -- all branches of the node on the path
-abbrev pub branches_on : (level : ℕ) → List ℕ → List ℕ → CellEntry → List ℕ → List (Item index_space (suc (level - 1)))
+abbrev pub branches_on : (level : ℕ) → List Level → List ℕ → CellEntry → List Side → List (Item index_space (suc (level - 1)))
 branches_on level path m e ss = before_on level path m ss ++ (middle_on level path m e ss ++ behind_on level path m ss)
 
 -- what holds of the node with these branches holds of the node
-pub to_half : (P : (n : ℕ) → List (Item index_space (suc n)) → Type 0) (level : ℕ) (path m : List ℕ) (e : CellEntry) (ss : List ℕ)
+pub to_half : (P : (n : ℕ) → List (Item index_space (suc n)) → Type 0) (level : ℕ) (path : List Level) (m : List ℕ) (e : CellEntry) (ss : List Side)
     → 1 ≤ level → PathFrom level path m
     → P (suc (level - 1)) (branch_under index_space (sides_of ss) (polygon_on path level) (branches_on level path m e ss))
     → P level (half_under level path m e (sides_of ss))
@@ -86,7 +90,7 @@ to_half P (suc n) path m e ss h x y =
     let z : suc n - 1 ≡ n = omega arith in
     rw (node_row n path m e ss x.0.walk) (rw z at y)
 
-from_half : (P : (n : ℕ) → List (Item index_space (suc n)) → Type 0) (level : ℕ) (path m : List ℕ) (e : CellEntry) (ss : List ℕ)
+from_half : (P : (n : ℕ) → List (Item index_space (suc n)) → Type 0) (level : ℕ) (path : List Level) (m : List ℕ) (e : CellEntry) (ss : List Side)
     → 1 ≤ level → PathFrom level path m → P level (half_under level path m e (sides_of ss))
     → P (suc (level - 1)) (branch_under index_space (sides_of ss) (polygon_on path level) (branches_on level path m e ss))
 from_half P level path m e ss h x =
@@ -95,7 +99,7 @@ from_half P level path m e ss h x =
     level path m e ss h x (λ y. y)
 
 -- a range of branches has no more of them under sides
-pub range_few : (n : ℕ) (m : List ℕ) (k a b : ℕ) (ss : List ℕ) → length (range_under n m k a b ss) ≤ b - a
+pub range_few : (n : ℕ) (m : List ℕ) (k a b : ℕ) (ss : List Side) → length (range_under n m k a b ss) ≤ b - a
 unfolding range_under deep flat_map
 range_few n m k a b ss =
     let f = fewer (take (b - a) (drop a (row_at n m k))) in
@@ -110,7 +114,7 @@ range_few n m k a b ss =
         rw length-append (omega arith)
 
 -- A part of the branches of the node on the path at a level is written, at most `more` of them behind the first; the rest is to come.
-pub record HalfAt (level : ℕ) (path m : List ℕ) (e : CellEntry) (ss w : List ℕ) (next more : ℕ) (rest : List (Item index_space (suc (level - 1)))) (w₁ : List ℕ) (t : Branches) : Type 0 where
+pub record HalfAt (level : ℕ) (path : List Level) (m : List ℕ) (e : CellEntry) (ss : List Side) (w : List ℕ) (next more : ℕ) (rest : List (Item index_space (suc (level - 1)))) (w₁ : List ℕ) (t : Branches) : Type 0 where
   pub some : 1 ≤ level
   pub path_from : PathFrom level path m
   pub bs : List (Item index_space (suc (level - 1)))
@@ -119,7 +123,7 @@ pub record HalfAt (level : ℕ) (path m : List ℕ) (e : CellEntry) (ss w : List
   pub room : RestRoom (level - 1) ss rest w₁ t
   pub few : t.node.count ≤ place_on path level + more
 
-module _ (level : ℕ) (path m : List ℕ) (e : CellEntry) (ss w : List ℕ) (next : ℕ) where
+module _ (level : ℕ) (path : List Level) (m : List ℕ) (e : CellEntry) (ss : List Side) (w : List ℕ) (next : ℕ) where
   -- the leaf
   pub leaf_room : level ≡ 0 → Room level w next (half_under level path m e (sides_of ss)) → Room 0 w next (half_under 0 path m e (sides_of ss))
   leaf_room z r = rw z at r
@@ -201,8 +205,8 @@ module _ (level : ℕ) (path m : List ℕ) (e : CellEntry) (ss w : List ℕ) (ne
         to_half (λ n bs. Writes n w next bs w₂ r) level path m e ss x.some x.path_from (rw x.whole at z)
 
 -- the branch at the place, where its node is not split
-module _ (level : ℕ) (path m : List ℕ) (e : CellEntry) (ss w : List ℕ) (next : ℕ) (w₁ : List ℕ) (t : Branches)
-    (x : HalfAt level path m e ss w next 0 (middle_on level path m e ss ++ behind_on level path m ss) w₁ t) (z : line_on path (level - 1) ≡ 0) where
+module _ (level : ℕ) (path : List Level) (m : List ℕ) (e : CellEntry) (ss : List Side) (w : List ℕ) (next : ℕ) (w₁ : List ℕ) (t : Branches)
+    (x : HalfAt level path m e ss w next 0 (middle_on level path m e ss ++ behind_on level path m ss) w₁ t) (z : line_on path (level - 1) ≡ None) where
   whole_at : HalfAt level path m e ss w next 0 (half_under (level - 1) path m e (sides_of ss) ++ behind_on level path m ss) w₁ t
   whole_at = rw (← (cut_whole (level - 1) path m e ss z)) x
 
@@ -218,30 +222,31 @@ module _ (level : ℕ) (path m : List ℕ) (e : CellEntry) (ss w : List ℕ) (ne
       record { some = r.some; path_from = r.path_from; bs = r.bs; whole = r.whole; grows = r.grows; room = r.room; few = (let f = r.few in omega arith) }
 
 -- the branches at the place, where its node is split: left of the line, then right of it
-abbrev pub right_on : (level : ℕ) → List ℕ → List ℕ → CellEntry → List ℕ → List (Item index_space (suc (level - 1)))
-right_on level path m e ss = half_under (level - 1) path m e (right (numbered_line (line_on path (level - 1))) ∷ sides_of ss)
+abbrev pub right_on : (level : ℕ) → List Level → List ℕ → CellEntry → List Side → Line → List (Item index_space (suc (level - 1)))
+right_on level path m e ss l = half_under (level - 1) path m e (right l ∷ sides_of ss)
 
-module _ (level : ℕ) (path m : List ℕ) (e : CellEntry) (ss w : List ℕ) (next : ℕ) (w₁ : List ℕ) (t : Branches)
-    (x : HalfAt level path m e ss w next 0 (middle_on level path m e ss ++ behind_on level path m ss) w₁ t) (ne : line_on path (level - 1) ≡ 0 → ⊥)
-    (s : ℕ) (us : List ℕ) (h : side_of s ≡ left (numbered_line (line_on path (level - 1)))) (u : us ≡ s ∷ ss) where
-  left_at : HalfAt level path m e ss w next 0 (half_under (level - 1) path m e (sides_of us) ++ (right_on level path m e ss ++ behind_on level path m ss)) w₁ t
-  left_at = rw (← (append_assoc (half_under (level - 1) path m e (sides_of us)) (right_on level path m e ss) (behind_on level path m ss)), ← (cut_split (level - 1) path m e ss ne s us h u)) x
+module _ (level : ℕ) (path : List Level) (m : List ℕ) (e : CellEntry) (ss : List Side) (w : List ℕ) (next : ℕ) (w₁ : List ℕ) (t : Branches)
+    (x : HalfAt level path m e ss w next 0 (middle_on level path m e ss ++ behind_on level path m ss) w₁ t)
+    (l : Line) (us : List Side) (h : line_on path (level - 1) ≡ Some l) (u : us ≡ Left l ∷ ss) where
+  left_at : HalfAt level path m e ss w next 0 (half_under (level - 1) path m e (sides_of us) ++ (right_on level path m e ss l ++ behind_on level path m ss)) w₁ t
+  left_at = rw (← (append_assoc (half_under (level - 1) path m e (sides_of us)) (right_on level path m e ss l) (behind_on level path m ss)), ← (cut_split (level - 1) path m e ss l us h u)) x
 
   pub left_room : Room (level - 1) w₁ t.next (half_under (level - 1) path m e (sides_of us))
   left_room = next_room level path m e ss w next 0 _ _ w₁ t left_at
 
   pub left_done : (w₂ : List ℕ) (after : ℕ) (t₂ : Branches) → Writes (level - 1) w₁ t.next (half_under (level - 1) path m e (sides_of us)) w₂ after
-      → t₂ ≡ with_branch t after → HalfAt level path m e ss w next 1 (right_on level path m e ss ++ behind_on level path m ss) w₂ t₂
+      → t₂ ≡ with_branch t after → HalfAt level path m e ss w next 1 (right_on level path m e ss l ++ behind_on level path m ss) w₂ t₂
   unfolding half_under
   left_done w₂ after t₂ y q =
       let o = under_one (polygon_on path (level - 1)) (row_under (level - 1) path m e (sides_of us)) (sides_of us) in
       next_one level path m e ss w next 0 _ _ w₁ t left_at w₂ after t₂ (omega arith) o y q
 
-module _ (level : ℕ) (path m : List ℕ) (e : CellEntry) (ss w : List ℕ) (next : ℕ) (w₁ : List ℕ) (t : Branches)
-    (x : HalfAt level path m e ss w next 1 (right_on level path m e ss ++ behind_on level path m ss) w₁ t)
-    (s : ℕ) (us : List ℕ) (h : side_of s ≡ right (numbered_line (line_on path (level - 1)))) (u : us ≡ s ∷ ss) where
+module _ (level : ℕ) (path : List Level) (m : List ℕ) (e : CellEntry) (ss : List Side) (w : List ℕ) (next : ℕ) (w₁ : List ℕ) (t : Branches) (l : Line)
+    (x : HalfAt level path m e ss w next 1 (right_on level path m e ss l ++ behind_on level path m ss) w₁ t)
+    (us : List Side) (u : us ≡ Right l ∷ ss) where
   right_at : HalfAt level path m e ss w next 1 (half_under (level - 1) path m e (sides_of us) ++ behind_on level path m ss) w₁ t
-  right_at = rw (front_is us ss s _ u h) x
+  unfolding side_of
+  right_at = rw (front_is us ss (Right l) u) x
 
   pub right_room : Room (level - 1) w₁ t.next (half_under (level - 1) path m e (sides_of us))
   right_room = next_room level path m e ss w next 1 _ _ w₁ t right_at

@@ -7,7 +7,7 @@ pub mod DeepRows
 pub mod WriteBelow
 pub mod WriteLaws
 pub mod WriteLoop
-pub mod PrependLaws
+pub mod FrontLaws
 pub mod HalfLaws
 pub mod LeafLoop
 pub mod RemainingNode

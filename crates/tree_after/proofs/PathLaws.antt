@@ -1,23 +1,39 @@
 -- What the code knows of a path: its levels, one by one.
 use Prim.Native.Nat.{ℕ, zero, suc, ◌-◌, ◌≤◌, ◌<◌}
-use mathlib.Core.Path.{◌≡◌, sym, ◌∙◌}
+use mathlib.Core.Path.{◌≡◌}
 use mathlib.Core.List.{List}
 use native.Mathlib.Omega.{arith}
-use Rattle.tree.specs.Space.{left, right}
-use Rattle.plane.specs.Candidates.{numbered_line}
+use lib.ListN.{get_or}
+use Rattle.std.proofs.lemmas.List.{get_or_default}
+use Rattle.std.specs.Prelude.{Some, None}
+use Rattle.path.specs.declared.level.Level.{Level}
 use Rattle.layout.specs.Nodes.{count_at}
 use Rattle.walks.specs.Walks.{Walkable}
-use Rattle.split_line.specs.Sides.{side_of}
-use Rattle.path.specs.Path.{part_on, place_on, line_on, HasLevel}
+use Rattle.geometry.specs.declared.rect.Line.{Line}
+use Rattle.path.specs.Path.{no_level, level_on, part_on, place_on, line_on, HasLevel}
 use Rattle.tree_after.specs.Path.{PathNode, PathFrom}
 use Rattle.tree_after.specs.Rows.{PathStep}
 
+-- a level as the code reads it, whatever stands where the path has none
+module _ (path : List Level) (n : ℕ) (d : Level) (h : HasLevel n path) where
+  pub read_is : get_or path n d ≡ level_on path n
+  read_is = get_or_default path n d no_level h
+
+  pub read_unsplit : (get_or path n d).line ≡ None → line_on path n ≡ None
+  read_unsplit e = rw read_is at e
+
+  pub read_line : (l : Line) → (get_or path n d).line ≡ Some l → line_on path n ≡ Some l
+  read_line l e = rw read_is at e
+
 -- a path taken apart
-module _ (path m : List ℕ) where
+module _ (path : List Level) (m : List ℕ) where
   pub path_node : (n : ℕ) → PathFrom n path m → PathNode n path m
   unfolding PathFrom
   path_node zero x = x
   path_node (suc n) x = x.0
+
+  pub path_has : (n : ℕ) → PathFrom n path m → HasLevel n path
+  path_has n x = (path_node n x).room
 
   -- the leaf
   pub path_leaf : (level : ℕ) → level ≡ 0 → PathFrom level path m → PathNode 0 path m
@@ -50,21 +66,4 @@ module _ (path m : List ℕ) where
 
   -- the numbers of the level below
   pub path_room : (level : ℕ) → (level ≡ 0 → ⊥) → PathFrom level path m → HasLevel (level - 1) path
-  path_room level ne x = (path_node (level - 1) (path_down level ne x)).room
-
--- the line of a level as it was read
-module _ (path : List ℕ) (n l : ℕ) (e : l ≡ line_on path n) where
-  pub line_none : l ≡ 0 → line_on path n ≡ 0
-  line_none z = sym e ∙ z
-
-  pub line_some : (l ≡ 0 → ⊥) → line_on path n ≡ 0 → ⊥
-  line_some ne z = ne (e ∙ z)
-
-  pub line_small : (m : List ℕ) → PathFrom n path m → l < 131072
-  line_small m x = let h = (path_node path m n x).line in omega arith
-
-  pub line_left : (s : ℕ) → side_of s ≡ left (numbered_line l) → side_of s ≡ left (numbered_line (line_on path n))
-  line_left s h = rw e at h
-
-  pub line_right : (s : ℕ) → side_of s ≡ right (numbered_line l) → side_of s ≡ right (numbered_line (line_on path n))
-  line_right s h = rw e at h
+  path_room level ne x = path_has (level - 1) (path_down level ne x)

@@ -5,8 +5,8 @@ use mathlib.Core.Bool.{Bool, true, false}
 use mathlib.Core.List.{List, [], ◌∷◌, ◌++◌, append-nil}
 use native.Mathlib.Omega.{arith}
 use lib.ListN.{length}
-use Rattle.geometry.specs.declared.polygon.Polygon.{Polygon}
-use Rattle.geometry.specs.Numbers.{rects_of, PolygonOf}
+use Rattle.path.specs.declared.level.Level.{Level}
+use Rattle.geometry.specs.declared.rect.Side.{Side}
 use Rattle.tree.specs.Lists.{keep, total}
 use Rattle.tree.specs.Nodes.{nodes}
 use Rattle.tree.specs.Plan.{branch_under}
@@ -32,7 +32,7 @@ use Rattle.tree_after.proofs.DeepRows.{entries_remaining}
 use Rattle.tree_after.proofs.BranchLaws.{top_leaf, leaf_nodes_under}
 
 -- the new entry behind those of the leaf
-module _ (ss p : List ℕ) (e : Entry) (remaining : Node) (x : remaining ≡ leaf_of (leaf_remaining ss p)) where
+module _ (ss : List Side) (p : List ℕ) (e : Entry) (remaining : Node) (x : remaining ≡ leaf_of (leaf_remaining ss p)) where
   module _ (b : Bool) (o : b ≡ on_every ss e.cell) where
     last_is : b ≡ on_test ss (tree_entry e)
     unfolding on_test
@@ -55,19 +55,15 @@ module _ (ss p : List ℕ) (e : Entry) (remaining : Node) (x : remaining ≡ lea
         (y ∙ ap (λ (l : Node). with_entry l (tree_entry e)) x ∙ entry_more es (tree_entry e) (omega arith))
 
 -- the entries of a leaf's part and the new one, under sides
-abbrev pub entries_on : List ℕ → CellEntry → List ℕ → List CellEntry
+abbrev pub entries_on : List ℕ → CellEntry → List Side → List CellEntry
 entries_on p e ss = keep (on_test ss) (entries_in p (item_count p) ++ (e ∷ []))
 
 -- the node on the path at level 0, whose part is p
-module _ (path m : List ℕ) where
-  -- its part as it was read
-  pub leaf_part : (k : ℕ) (p : List ℕ) → k ≡ part_on path 0 → p ≡ part m k → p ≡ part m (part_on path 0)
-  leaf_part k p e q = rw e at q
-
+module _ (path : List Level) (m : List ℕ) where
   pub leaf_in : PathNode 0 path m → (p : List ℕ) → p ≡ part m (part_on path 0) → NodePart p
   leaf_in v p p_is = node_part_lem 0 m 0 (part_on path 0) v.walk p p_is
 
-  module _ (e : CellEntry) (ss : List ℕ) (v : PathNode 0 path m) (p : List ℕ) (p_is : p ≡ part m (part_on path 0)) where
+  module _ (e : CellEntry) (ss : List Side) (v : PathNode 0 path m) (p : List ℕ) (p_is : p ≡ part m (part_on path 0)) where
     leaf_row : row_under 0 path m e (sides_of ss) ≡ entries_on p e ss
     unfolding row_under way_at
     leaf_row = rw p_is (entries_remaining ss _)
@@ -85,6 +81,6 @@ module _ (path m : List ℕ) where
           let h = r.fits in
           record { fits = omega arith; small = r.small }
 
-      pub leaf_writes : (q : Polygon) (w₁ : List ℕ) (r : ℕ) → PolygonOf (polygon_on path 0) q → NodeWritten (rects_of q) l ss w next w₁ r
+      pub leaf_writes : (w₁ : List ℕ) (r : ℕ) → NodeWritten (polygon_on path 0) l ss w next w₁ r
           → Writes 0 w next (half_under 0 path m e (sides_of ss)) w₁ r
-      leaf_writes q w₁ r o x = rw leaf_half (top_leaf (polygon_on path 0) ss (entries_on p e ss) l w next w₁ r g (rw o.list at x))
+      leaf_writes w₁ r x = rw leaf_half (top_leaf (polygon_on path 0) ss (entries_on p e ss) l w next w₁ r g x)

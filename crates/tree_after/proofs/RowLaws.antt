@@ -6,8 +6,10 @@ use mathlib.Core.Option.{some}
 use native.Mathlib.Omega.{arith}
 use native.Mathlib.Numerals.{add-one}
 use borrow.Author.Tests.{eq-eqb, ne_eqb}
-use lib.ListN.{length, drop, get_or, length-append}
-use lib.Seq.{drop-cons}
+use lib.ListN.{length, take, drop, get_or, length-append}
+use lib.Seq.{drop-cons, length-take-le}
+use Rattle.std.proofs.lemmas.List.{get_or-take, get_or-drop, length-drop}
+use Rattle.geometry.specs.declared.rect.Side.{Side}
 use Rattle.tree.specs.Lists.{total}
 use Rattle.tree.specs.Nodes.{Item, nodes}
 use Rattle.tree.proofs.Counts.{total_append}
@@ -18,11 +20,12 @@ use Rattle.memory.specs.Reading.{read_node}
 use Rattle.memory.proofs.NodeImage.{length_node}
 use Rattle.memory.proofs.ReadingLaws.{low_at, row_at_lem, row_length, node_parts_lem, node_lower}
 use Rattle.layout.specs.declared.node.Node.{Node}
-use Rattle.layout.specs.Loaded.{node_of, routing_of, node_in, node_child, with_child}
+use Rattle.layout.specs.Loaded.{node_of, routing_of, with_child}
 use Rattle.layout.specs.Nodes.{child_at, count_at}
 use Rattle.layout.proofs.NodeLaws.{child_in_lem}
-use Rattle.layout.proofs.LoadedLaws.{count_children, child_at_lem, child_more}
+use Rattle.layout.proofs.LoadedLaws.{count_children, child_more}
 use Rattle.walks.specs.Walks.{Walkable}
+use Rattle.walks.proofs.WalkChildren.{children_here, child_here}
 use Rattle.walks.proofs.WalkLoop.{children_count}
 use Rattle.walks.proofs.WalkRows.{walkable}
 use Rattle.tree_after.specs.declared.node.Branches.{Branches}
@@ -72,7 +75,7 @@ module _ (n : ℕ) (m : List ℕ) (k : ℕ) (v : Walkable (suc n) m 0 k) where
         next = rw (row_is, add-one) (drop-cons v.node.child i d l);
       }
 
-  module _ (ss : List ℕ) where
+  module _ (ss : List Side) where
     -- a range of branches taken apart: its first and the others
     pub range_cons : (i to j : ℕ) → i < to → to ≤ count_at m k → j ≡ child_at m k i → range_under n m k i to ss ≡ deep_at n m 0 j ss ++ range_under n m k (i + 1) to ss
     unfolding range_under deep_at deep_of flat_map
@@ -81,17 +84,32 @@ module _ (n : ℕ) (m : List ℕ) (k : ℕ) (v : Walkable (suc n) m 0 k) where
         let e : to - i ≡ suc (to - (i + 1)) = omega arith in
         rw (e, b.next, b.reads)
 
-pub range_none : (n : ℕ) (m : List ℕ) (k i : ℕ) (ss : List ℕ) → range_under n m k i i ss ≡ []
+pub range_none : (n : ℕ) (m : List ℕ) (k i : ℕ) (ss : List Side) → range_under n m k i i ss ≡ []
 unfolding range_under flat_map
 range_none n m k i ss = let e : i - i ≡ 0 = omega arith in rw e
 
--- the branches of the node as it was loaded, up to one of them
-module _ (n : ℕ) (m : List ℕ) (k : ℕ) (v : Walkable (suc n) m 0 k) (to : ℕ) (l : to ≤ count_at m k) (node : Node) (q : node ≡ node_in (part m k)) (i : ℕ) (h : i < to) where
-  pub range_nine : i < 9
-  range_nine = let f = v.few in omega arith
+-- the branches of the node from one place up to another, as its children ks are lent
+module _ (n : ℕ) (m : List ℕ) (k : ℕ) (v : Walkable (suc n) m 0 k) (from to : ℕ) (h : from ≤ to) (l : to ≤ count_at m k)
+    (ks : List ℕ) (q : ks ≡ children_in (part m k)) where
+  pub range_in : to ≤ length ks
+  range_in = let c = children_here (suc n) m 0 k v ks q in omega arith
 
-  pub range_child : (j : ℕ) → j ≡ node_child node i → j ≡ child_at m k i
-  range_child j e = let f = v.few in child_at_lem m k node q i j (omega arith) e
+  range_length : length (take (to - from) (drop from ks)) ≡ to - from
+  range_length = let c = range_in in length-take-le (to - from) (drop from ks) (rw length-drop (omega arith))
+
+  module _ (i : ℕ) where
+    pub range_inside : i < length (take (to - from) (drop from ks)) → from + i < to
+    range_inside g = let c = range_length in omega arith
+
+    pub range_over : length (take (to - from) (drop from ks)) ≤ i → to ≤ from + i
+    range_over g = let c = range_length in omega arith
+
+    pub range_child : i < length (take (to - from) (drop from ks)) → get_or (take (to - from) (drop from ks)) i 0 ≡ child_at m k (from + i)
+    range_child g =
+        let c = range_length in
+        let d = range_inside g in
+        get_or-take (to - from) (drop from ks) i 0 (omega arith) ∙ get_or-drop from ks i 0
+        ∙ child_here (suc n) m 0 k v ks q (from + i) (let e = range_in in omega arith)
 
 -- branches that follow one another fit where all of them fit
 module _ (n : ℕ) (w : List ℕ) (next : ℕ) (bs cs : List (Item index_space (suc n))) (r : Room n w next (bs ++ cs)) where
@@ -180,7 +198,7 @@ unfolding with_branch
 with_branch_more t after ne node q = rw (ne_eqb after t.next ne, q)
 
 -- Before the i-th branch of the node at part k, of those up to the to-th: what remains of the earlier ones is written.
-pub record BranchLoop (n : ℕ) (m : List ℕ) (k from to : ℕ) (ss w₀ : List ℕ) (t₀ : Branches) (i : ℕ) (w : List ℕ) (t : Branches) : Type 0 where
+pub record BranchLoop (n : ℕ) (m : List ℕ) (k from to : ℕ) (ss : List Side) (w₀ : List ℕ) (t₀ : Branches) (i : ℕ) (w : List ℕ) (t : Branches) : Type 0 where
   pub walk : Walkable (suc n) m 0 k
   pub i_le : i ≤ to
   pub to_le : to ≤ count_at m k
@@ -190,7 +208,7 @@ pub record BranchLoop (n : ℕ) (m : List ℕ) (k from to : ℕ) (ss w₀ : List
   pub room : Room n w t.next (range_under n m k i to ss)
   pub few : t.node.count + to ≤ 9 + i
 
-module _ (n : ℕ) (m : List ℕ) (k from to : ℕ) (ss w₀ : List ℕ) (t₀ : Branches) where
+module _ (n : ℕ) (m : List ℕ) (k from to : ℕ) (ss : List Side) (w₀ : List ℕ) (t₀ : Branches) where
   pub branch_start : Walkable (suc n) m 0 k → from ≤ to → to ≤ count_at m k → t₀.node.count + to ≤ 9 + from
       → Room n w₀ t₀.next (range_under n m k from to ss) → BranchLoop n m k from to ss w₀ t₀ from w₀ t₀
   branch_start v h l f r = record { walk = v; i_le = h; to_le = l; bs = []; whole = refl; grows = grows_none n w₀ t₀; room = r; few = f }

@@ -4,16 +4,17 @@ use mathlib.Core.Path.{◌≡◌, refl, sym, ap, ◌∙◌}
 use mathlib.Core.List.{List, [], ◌∷◌, ◌++◌, append-nil, append_assoc, flat_map}
 use mathlib.Core.Option.{some}
 use native.Mathlib.Omega.{arith}
-use borrow.Author.Tests.{eq-eqb, ne_eqb}
 use lib.ListN.{length, take}
-use Rattle.geometry.specs.declared.polygon.Polygon.{Polygon}
-use Rattle.geometry.specs.Numbers.{rects_of, PolygonOf}
+use Rattle.path.specs.declared.level.Level.{Level}
+use Rattle.std.specs.Prelude.{Some, None}
+use Rattle.geometry.specs.declared.rect.Line.{Line}
+use Rattle.geometry.specs.declared.rect.Side.{Side}
+use Rattle.geometry.specs.declared.rect.Side.TheVariants.{Left, Right}
 use Rattle.tree.specs.Lists.{total}
-use Rattle.tree.specs.Space.{left, right}
+use Rattle.tree.specs.Space.{right}
 use Rattle.tree.specs.Nodes.{Item, nodes}
 use Rattle.tree.specs.Tree.{Tree, top, node_count}
 use Rattle.plane.specs.Lines.{CellEntry}
-use Rattle.plane.specs.Candidates.{numbered_line}
 use Rattle.plane.specs.Fanout.{fanout, index_space}
 use Rattle.memory.specs.Image.{write_row, write_node}
 use Rattle.layout.specs.Loaded.{node_of}
@@ -53,7 +54,7 @@ module _ (t : Tree index_space) (w : List ℕ) where
         same_length = x.same_length;
       }
 
-module _ (n : ℕ) (path m : List ℕ) (e : CellEntry) where
+module _ (n : ℕ) (path : List Level) (m : List ℕ) (e : CellEntry) where
   -- the tree where the root is not split
   abbrev whole_tree : Tree index_space
   whole_tree = record { level = n; root = polygon_on path n; items = row_under n path m e [] }
@@ -62,51 +63,51 @@ module _ (n : ℕ) (path m : List ℕ) (e : CellEntry) where
   abbrev split_tree : Tree index_space
   split_tree = record { level = suc n; root = polygon_on path n; items = cut_under n path m e [] }
 
-  plan_whole : line_on path n ≡ 0 → planned_tree n path m e ≡ whole_tree
+  plan_whole : line_on path n ≡ None → planned_tree n path m e ≡ whole_tree
   unfolding planned_tree
-  plan_whole z = rw (eq-eqb (line_on path n) 0 z)
+  plan_whole z = rw z
 
-  plan_split : (line_on path n ≡ 0 → ⊥) → planned_tree n path m e ≡ split_tree
+  plan_split : (l : Line) → line_on path n ≡ Some l → planned_tree n path m e ≡ split_tree
   unfolding planned_tree
-  plan_split ne = rw (ne_eqb (line_on path n) 0 ne)
+  plan_split l h = rw h
 
   half_whole : half_under n path m e (sides_of []) ≡ top index_space whole_tree ∷ []
   unfolding half_under sides_of
   half_whole = refl
 
   module _ (w : List ℕ) where
-    pub whole_tree_room : line_on path n ≡ 0 → TreeRoom w (planned_tree n path m e) → Room n w 0 (half_under n path m e (sides_of []))
+    pub whole_tree_room : line_on path n ≡ None → TreeRoom w (planned_tree n path m e) → Room n w 0 (half_under n path m e (sides_of []))
     whole_tree_room z r = rw half_whole (tree_room whole_tree w (rw (plan_whole z) at r))
 
-    pub whole_tree_lem : line_on path n ≡ 0 → (w₁ : List ℕ) (p : ℕ) → Writes n w 0 (half_under n path m e (sides_of [])) w₁ p
+    pub whole_tree_lem : line_on path n ≡ None → (w₁ : List ℕ) (p : ℕ) → Writes n w 0 (half_under n path m e (sides_of [])) w₁ p
         → TreeWritten w (planned_tree n path m e) w₁ (record { parts = p; height = n + 1 })
     whole_tree_lem z w₁ p x = rw (plan_whole z) (tree_written whole_tree w w₁ (record { parts = p; height = n + 1 }) (rw half_whole at x) (omega arith))
 
-    pub split_tree_room : (line_on path n ≡ 0 → ⊥) → TreeRoom w (planned_tree n path m e) → RestRoom n [] (cut_under n path m e (sides_of [])) w (no_branches 0)
+    pub split_tree_room : (l : Line) → line_on path n ≡ Some l → TreeRoom w (planned_tree n path m e) → RestRoom n [] (cut_under n path m e (sides_of [])) w (no_branches 0)
     unfolding kept node_parts sides_of
-    split_tree_room ne r =
-        let r' : TreeRoom w split_tree = rw (plan_split ne) at r in
+    split_tree_room l h r =
+        let r' : TreeRoom w split_tree = rw (plan_split l h) at r in
         let f : 64 + 128 * (1 + total (nodes index_space (suc n)) (cut_under n path m e [])) ≤ length w = r'.fits in
         let g : 64 + 128 * (0 + total (nodes index_space (suc n)) (cut_under n path m e []) + 1) ≤ length w = omega arith in
         record { fits = g; small = r'.small }
 
-    pub split_tree_lem : (line_on path n ≡ 0 → ⊥) → (w₁ : List ℕ) (p : ℕ) → Writes (suc n) w 0 (top index_space split_tree ∷ []) w₁ p
+    pub split_tree_lem : (l : Line) → line_on path n ≡ Some l → (w₁ : List ℕ) (p : ℕ) → Writes (suc n) w 0 (top index_space split_tree ∷ []) w₁ p
         → TreeWritten w (planned_tree n path m e) w₁ (record { parts = p; height = n + 2 })
-    split_tree_lem ne w₁ p x = rw (plan_split ne) (tree_written split_tree w w₁ (record { parts = p; height = n + 2 }) x (omega arith))
+    split_tree_lem l h w₁ p x = rw (plan_split l h) (tree_written split_tree w w₁ (record { parts = p; height = n + 2 }) x (omega arith))
 
   -- the counts
-  pub whole_tree_count : (r : ℕ) → line_on path n ≡ 0 → r ≡ counted n (half_under n path m e (sides_of [])) → r ≡ min 257 (node_count index_space (some (planned_tree n path m e)))
+  pub whole_tree_count : (r : ℕ) → line_on path n ≡ None → r ≡ counted n (half_under n path m e (sides_of [])) → r ≡ min 257 (node_count index_space (some (planned_tree n path m e)))
   unfolding counted
   whole_tree_count r z q = rw (plan_whole z) (q ∙ ap (λ l. min 257 (total (nodes index_space (suc n)) l)) half_whole ∙ ap (min 257) (tree_nodes whole_tree []))
 
-  pub split_tree_count : (l g : ℕ) (us vs : List ℕ) (lefts rights both r : ℕ) → (line_on path n ≡ 0 → ⊥)
-      → side_of l ≡ left (numbered_line (line_on path n)) → us ≡ l ∷ [] → lefts ≡ counted n (half_under n path m e (sides_of us))
-      → side_of g ≡ right (numbered_line (line_on path n)) → vs ≡ g ∷ [] → rights ≡ counted n (half_under n path m e (sides_of vs))
+  pub split_tree_count : (l : Line) (us vs : List Side) (lefts rights both r : ℕ) → line_on path n ≡ Some l
+      → us ≡ Left l ∷ [] → lefts ≡ counted n (half_under n path m e (sides_of us))
+      → vs ≡ Right l ∷ [] → rights ≡ counted n (half_under n path m e (sides_of vs))
       → both ≡ min 257 (lefts + rights) → r ≡ min 257 (both + 1) → r ≡ min 257 (node_count index_space (some (planned_tree n path m e)))
   unfolding counted sides_of
-  split_tree_count l g us vs lefts rights both r ne h u a i v b d c =
-      let q : both ≡ min 257 (total (nodes index_space (suc n)) (cut_under n path m e [])) = d ∙ cut_count n path m e [] l g us vs lefts rights ne h u a i v b in
-      rw (plan_split ne) (omega arith)
+  split_tree_count l us vs lefts rights both r h u a v b d c =
+      let q : both ≡ min 257 (total (nodes index_space (suc n)) (cut_under n path m e [])) = d ∙ cut_count n path m e [] l us vs lefts rights h u a v b in
+      rw (plan_split l h) (omega arith)
 
 -- no branch so far
 module _ (t : Branches) (z : t ≡ no_branches 0) where
@@ -118,7 +119,7 @@ module _ (t : Branches) (z : t ≡ no_branches 0) where
   none_few = rw z (omega arith)
 
 -- A part of the two branches of a split root is written; the rest is to come.
-pub record RootAt (n : ℕ) (path m : List ℕ) (e : CellEntry) (w : List ℕ) (more : ℕ) (rest : List (Item index_space (suc n))) (w₁ : List ℕ) (t : Branches) : Type 0 where
+pub record RootAt (n : ℕ) (path : List Level) (m : List ℕ) (e : CellEntry) (w : List ℕ) (more : ℕ) (rest : List (Item index_space (suc n))) (w₁ : List ℕ) (t : Branches) : Type 0 where
   pub bs : List (Item index_space (suc n))
   pub whole : bs ++ rest ≡ cut_under n path m e (sides_of [])
   pub grows : Grows n w (no_branches 0) bs w₁ t
@@ -126,10 +127,10 @@ pub record RootAt (n : ℕ) (path m : List ℕ) (e : CellEntry) (w : List ℕ) (
   pub few : t.node.count ≤ more
 
 -- the branch right of the line
-abbrev pub right_half : (n : ℕ) → List ℕ → List ℕ → CellEntry → List (Item index_space (suc n))
-right_half n path m e = half_under n path m e (right (numbered_line (line_on path n)) ∷ sides_of [])
+abbrev pub right_half : (n : ℕ) → List Level → List ℕ → CellEntry → Line → List (Item index_space (suc n))
+right_half n path m e l = half_under n path m e (right l ∷ sides_of [])
 
-module _ (n : ℕ) (path m : List ℕ) (e : CellEntry) (w : List ℕ) where
+module _ (n : ℕ) (path : List Level) (m : List ℕ) (e : CellEntry) (w : List ℕ) where
   root_one : (more : ℕ) (cs rest : List (Item index_space (suc n))) (w₁ : List ℕ) (t : Branches) → RootAt n path m e w more (cs ++ rest) w₁ t → more ≤ 1
       → (w₂ : List ℕ) (after : ℕ) (t₂ : Branches) → length cs ≤ 1 → Writes n w₁ t.next cs w₂ after → t₂ ≡ with_branch t after → RootAt n path m e w (more + 1) rest w₂ t₂
   root_one more cs rest w₁ t x u w₂ after t₂ o y q =
@@ -143,30 +144,31 @@ module _ (n : ℕ) (path m : List ℕ) (e : CellEntry) (w : List ℕ) where
         few = (let c = g.count_is in omega arith);
       }
 
-  half_at_most : (us : List ℕ) → length (half_under n path m e (sides_of us)) ≤ 1
+  half_at_most : (us : List Side) → length (half_under n path m e (sides_of us)) ≤ 1
   unfolding half_under
   half_at_most us = under_one (polygon_on path n) (row_under n path m e (sides_of us)) (sides_of us)
 
-  module _ (ne : line_on path n ≡ 0 → ⊥) (r : RestRoom n [] (cut_under n path m e (sides_of [])) w (no_branches 0)) (t : Branches) (z : t ≡ no_branches 0)
-      (s : ℕ) (us : List ℕ) (h : side_of s ≡ left (numbered_line (line_on path n))) (u : us ≡ s ∷ []) where
-    root_start : RootAt n path m e w 0 (half_under n path m e (sides_of us) ++ right_half n path m e) w t
+  module _ (l : Line) (i : line_on path n ≡ Some l) (r : RestRoom n [] (cut_under n path m e (sides_of [])) w (no_branches 0)) (t : Branches) (z : t ≡ no_branches 0)
+      (us : List Side) (u : us ≡ Left l ∷ []) where
+    root_start : RootAt n path m e w 0 (half_under n path m e (sides_of us) ++ right_half n path m e l) w t
     unfolding node_of
     root_start =
-        let c = cut_split n path m e [] ne s us h u in
+        let c = cut_split n path m e [] l us i u in
         rw z (record { bs = []; whole = sym c; grows = grows_none n w (no_branches 0); room = rw c at r; few = omega arith })
 
     pub root_left_room : Room n w 0 (half_under n path m e (sides_of us))
-    root_left_room = rw z at (rest_first n [] (half_under n path m e (sides_of us)) (right_half n path m e) w t root_start.room)
+    root_left_room = rw z at (rest_first n [] (half_under n path m e (sides_of us)) (right_half n path m e l) w t root_start.room)
 
     pub root_left : (w₁ : List ℕ) (after : ℕ) (t₁ : Branches) → Writes n w 0 (half_under n path m e (sides_of us)) w₁ after → t₁ ≡ with_branch t after
-        → RootAt n path m e w 1 (right_half n path m e) w₁ t₁
+        → RootAt n path m e w 1 (right_half n path m e l) w₁ t₁
     root_left w₁ after t₁ y q =
-        root_one 0 (half_under n path m e (sides_of us)) (right_half n path m e) w t root_start (omega arith) w₁ after t₁ (half_at_most us) (rw z y) q
+        root_one 0 (half_under n path m e (sides_of us)) (right_half n path m e l) w t root_start (omega arith) w₁ after t₁ (half_at_most us) (rw z y) q
 
-  module _ (w₁ : List ℕ) (t : Branches) (x : RootAt n path m e w 1 (right_half n path m e) w₁ t)
-      (s : ℕ) (us : List ℕ) (h : side_of s ≡ right (numbered_line (line_on path n))) (u : us ≡ s ∷ []) where
+  module _ (w₁ : List ℕ) (t : Branches) (l : Line) (x : RootAt n path m e w 1 (right_half n path m e l) w₁ t)
+      (us : List Side) (u : us ≡ Right l ∷ []) where
     root_middle : RootAt n path m e w 1 (half_under n path m e (sides_of us) ++ []) w₁ t
-    root_middle = rw (append-nil (half_under n path m e (sides_of us)), front_is us [] s _ u h) x
+    unfolding side_of
+    root_middle = rw (append-nil (half_under n path m e (sides_of us)), front_is us [] (Right l) u) x
 
     pub root_right_room : Room n w₁ t.next (half_under n path m e (sides_of us))
     root_right_room = rest_first n [] (half_under n path m e (sides_of us)) [] w₁ t root_middle.room
@@ -184,10 +186,10 @@ module _ (n : ℕ) (path m : List ℕ) (e : CellEntry) (w : List ℕ) where
         let h : 64 + 128 * (t.next + 1) ≤ length w₁ = omega arith in
         record { fits = h; small = x.room.small }
 
-    pub root_done : (p : Polygon) (w₂ : List ℕ) (r : ℕ) → PolygonOf (polygon_on path n) p → NodeWritten (rects_of p) t.node [] w₁ t.next w₂ r
+    pub root_done : (w₂ : List ℕ) (r : ℕ) → NodeWritten (polygon_on path n) t.node [] w₁ t.next w₂ r
         → Writes (suc n) w 0 (record { poly = polygon_on path n; child = cut_under n path m e [] } ∷ []) w₂ r
     unfolding sides_of
-    root_done p w₂ r o y =
+    root_done w₂ r y =
         let c : x.bs ≡ cut_under n path m e [] = sym (append-nil x.bs) ∙ x.whole in
         let g : Grows n w (no_branches 0) (cut_under n path m e []) w₁ t = rw c at x.grows in
-        top_node n (polygon_on path n) [] (cut_under n path m e []) t.node w 0 w₁ t.next w₂ r (grown_row n w 0 (cut_under n path m e []) w₁ t g) (rw o.list at y)
+        top_node n (polygon_on path n) [] (cut_under n path m e []) t.node w 0 w₁ t.next w₂ r (grown_row n w 0 (cut_under n path m e []) w₁ t g) y

@@ -4,6 +4,7 @@ use mathlib.Core.Path.{◌≡◌, ap, ◌∙◌}
 use mathlib.Core.List.{List, [], ◌∷◌, flat_map}
 use native.Mathlib.Omega.{arith}
 use lib.ListN.{length, set}
+use Rattle.geometry.specs.declared.rect.Side.{Side}
 use Rattle.tree.specs.Lists.{total}
 use Rattle.tree.specs.Nodes.{Item, nodes}
 use Rattle.tree.specs.Plan.{clips}
@@ -25,7 +26,7 @@ use Rattle.tree_after.proofs.WriteLaws.{branches_from, writes_none, writes_leaf,
 use Rattle.tree_after.proofs.DeepRows.{under_some, under_none, length_sides, deep_leaf, deep_node, children_remaining}
 use Rattle.tree_after.proofs.WriteLoop.{WriteLoop, again_one, again_nothing, all_written, own_room}
 
-module _ (level : ℕ) (m : List ℕ) (lo k : ℕ) (ss w : List ℕ) (next : ℕ) (z : length ss ≡ 0) where
+module _ (level : ℕ) (m : List ℕ) (lo k : ℕ) (ss : List Side) (w : List ℕ) (next : ℕ) (z : length ss ≡ 0) where
   pub plain_room : Room level w next (deep_at level m lo k ss) → Room level w next (deep_at level m lo k [])
   plain_room r = rw (length_zero ss z) at r
 
@@ -43,7 +44,7 @@ unfolding write_row flat_map total
 nothing_remaining n n' w next w' next' e = record { written = e.written; next_is = e.next_is; same_length = e.same_length }
 
 -- a leaf, with the entries that remain
-module _ (ss p w : List ℕ) (next : ℕ) (remaining : Node) (g : remaining ≡ leaf_of (leaf_remaining ss p)) where
+module _ (ss : List Side) (p w : List ℕ) (next : ℕ) (remaining : Node) (g : remaining ≡ leaf_of (leaf_remaining ss p)) where
   remaining_entries : remaining.count ≡ length (leaf_remaining ss p)
   remaining_entries = ap (λ (n : Node). n.count) g ∙ count_entries (leaf_remaining ss p)
 
@@ -77,7 +78,7 @@ module _ (ss p w : List ℕ) (next : ℕ) (remaining : Node) (g : remaining ≡ 
         rw leaf_branch (writes_leaf w next q (leaf_remaining ss p) w' (rw e at x))
 
 -- a node that is a leaf
-module _ (level : ℕ) (m : List ℕ) (lo k : ℕ) (ss w : List ℕ) (next : ℕ) (z : level ≡ 0) (v : Walkable level m lo k)
+module _ (level : ℕ) (m : List ℕ) (lo k : ℕ) (ss : List Side) (w : List ℕ) (next : ℕ) (z : level ≡ 0) (v : Walkable level m lo k)
     (p : List ℕ) (p_is : p ≡ part m k) where
   pub at_leaf_room : Room level w next (deep_at level m lo k ss) → Room 0 w next (leaf_under ss p)
   at_leaf_room r =
@@ -91,7 +92,7 @@ module _ (level : ℕ) (m : List ℕ) (lo k : ℕ) (ss w : List ℕ) (next : ℕ
       rw (z, deep_leaf m lo k ss v', ← p_is) e
 
 -- the loop over the children
-module _ (level : ℕ) (m : List ℕ) (lo k : ℕ) (ss w₀ : List ℕ) (next₀ size i low : ℕ) (w : List ℕ) (next : ℕ) (node : Node)
+module _ (level : ℕ) (m : List ℕ) (lo k : ℕ) (ss : List Side) (w₀ : List ℕ) (next₀ size i low : ℕ) (w : List ℕ) (next : ℕ) (node : Node)
     (a : WriteLoop level m lo k ss w₀ next₀ size i low w next node) where
   module _ (j : ℕ) (h : i < size) (j_is : j ≡ child_at m k i) (w' : List ℕ) (next' : ℕ) (e : Writes (level - 1) w next (deep_at (level - 1) m low j ss) w' next') where
     pub write_one : (items : List ℕ) (node' : Node) → (next' ≡ next → ⊥) → items ≡ set node.items node.count (next' - 1)

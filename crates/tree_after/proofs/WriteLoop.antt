@@ -4,6 +4,7 @@ use mathlib.Core.Path.{◌≡◌, refl, ap, ◌∙◌}
 use mathlib.Core.List.{List, [], ◌∷◌, ◌++◌}
 use native.Mathlib.Omega.{arith}
 use lib.ListN.{length, drop}
+use Rattle.geometry.specs.declared.rect.Side.{Side as RectSide}
 use Rattle.geometry.specs.declared.rect.Line.{Line}
 use Rattle.geometry.specs.declared.rect.Rect.{Rect}
 use Rattle.tree.specs.Lists.{total}
@@ -14,11 +15,10 @@ use Rattle.tree.proofs.Counts.{total_append}
 use Rattle.plane.specs.Fanout.{index_space}
 use Rattle.memory.specs.Layout.{part, polygon_in, children_in}
 use Rattle.layout.specs.declared.node.Node.{Node}
-use Rattle.layout.specs.Loaded.{node_of, node_in, node_child, with_child}
+use Rattle.layout.specs.Loaded.{node_of, with_child}
 use Rattle.layout.specs.Nodes.{count_at, child_at}
 use Rattle.layout.specs.Parts.{PartRoom}
 use Rattle.walks.specs.Walks.{Walkable}
-use Rattle.walks.proofs.WalkNode.{walk_count, walk_child}
 use Rattle.split_line.specs.Sides.{sides_of}
 use Rattle.tree_after.specs.Writes.{Writes, Room, deep_at}
 use Rattle.tree_after.proofs.WriteLaws.{nodes_of, Row, row_start, row_nothing, row_one}
@@ -40,7 +40,7 @@ module _ (n : ℕ) (p : List Rect) where
   nodes_least ss (b ∷ bs) = let e = nodes_some ss (b ∷ bs) (omega arith) in omega arith
 
 -- the room for a node has room for its children, and for itself where some remain
-module _ (n : ℕ) (m : List ℕ) (lo k : ℕ) (ss w : List ℕ) (next : ℕ) (v : Walkable (suc n) m lo k) (r : Room (suc n) w next (deep_at (suc n) m lo k ss)) where
+module _ (n : ℕ) (m : List ℕ) (lo k : ℕ) (ss : List RectSide) (w : List ℕ) (next : ℕ) (v : Walkable (suc n) m lo k) (r : Room (suc n) w next (deep_at (suc n) m lo k ss)) where
   whole_room : 64 + 128 * (next + nodes_of (suc n) (branch_under index_space (sides_of ss) (polygon_in (part m k)) (children_remaining n m lo k ss))) ≤ length w
   whole_room = rw (deep_node n m lo k ss v) at r.fits
 
@@ -58,7 +58,7 @@ module _ (n : ℕ) (m : List ℕ) (lo k : ℕ) (ss w : List ℕ) (next : ℕ) (v
 
 -- Before the i-th of the size children: what remains of those passed was written from next₀ on; the node has their top nodes as children, and
 -- next is the next free part.
-pub record WriteLoop (level : ℕ) (m : List ℕ) (lo k : ℕ) (ss w₀ : List ℕ) (next₀ size i low : ℕ) (w : List ℕ) (next : ℕ) (node : Node) : Type 0 where
+pub record WriteLoop (level : ℕ) (m : List ℕ) (lo k : ℕ) (ss : List RectSide) (w₀ : List ℕ) (next₀ size i low : ℕ) (w : List ℕ) (next : ℕ) (node : Node) : Type 0 where
   pub level_is : level ≡ suc (level - 1)
   pub bs : List (Item index_space (suc (level - 1)))
   pub at : AtDeep (level - 1) m lo k ss size i low bs
@@ -68,7 +68,7 @@ pub record WriteLoop (level : ℕ) (m : List ℕ) (lo k : ℕ) (ss w₀ : List �
   pub next_small : next ≤ 256
   pub same_length : length w ≡ length w₀
 
-module _ (level : ℕ) (m : List ℕ) (lo k : ℕ) (ss w₀ : List ℕ) (next₀ : ℕ) where
+module _ (level : ℕ) (m : List ℕ) (lo k : ℕ) (ss : List RectSide) (w₀ : List ℕ) (next₀ : ℕ) where
   pub write_start : (size : ℕ) (node : Node) → (level ≡ 0 → ⊥) → Walkable level m lo k → Room level w₀ next₀ (deep_at level m lo k ss) → size ≡ count_at m k → node ≡ node_of 0 []
       → WriteLoop level m lo k ss w₀ next₀ size 0 lo w₀ next₀ node
   unfolding node_of
@@ -153,14 +153,6 @@ module _ (level : ℕ) (m : List ℕ) (lo k : ℕ) (ss w₀ : List ℕ) (next₀
               next_small = moved_small;
               same_length = e.same_length ∙ a.same_length;
             }
-
-    -- the room for the child, by the node as it was loaded
-    pub entered_room : (old : Node) → old ≡ node_in (part m k) → i < size → (j : ℕ) → j ≡ node_child old i → Room (level - 1) w next (deep_at (level - 1) m low j ss)
-    entered_room old q h j e =
-        let v = a.at.walk in
-        let c = walk_count (suc (level - 1)) m lo k v old q in
-        let d = a.at.size_is in
-        child_room h j (walk_child (suc (level - 1)) m lo k v old q i j (omega arith) e)
 
     -- behind the last child
     module _ (h : size ≤ i) where

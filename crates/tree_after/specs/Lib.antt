@@ -4,3 +4,4 @@ pub mod Parts
 pub mod Path
 pub mod Rows
 pub mod Whole
+pub mod Sides

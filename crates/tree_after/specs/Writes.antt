@@ -3,6 +3,7 @@
 use Rattle.std.specs.Prelude.{ℕ, suc, ◌+◌, ◌*◌, ◌≤◌, min, ◌≡◌, length, take}
 use mathlib.Core.List.{List, [], ◌++◌, flat_map}
 use Rattle.std.proofs.Math.Option.{Option, none, some}
+use Rattle.geometry.specs.declared.rect.Side.{Side}
 use Rattle.tree.specs.Lists.{total}
 use Rattle.tree.specs.Nodes.{Item, nodes}
 use Rattle.tree.specs.Pass.{deep}
@@ -33,11 +34,11 @@ count_limit = 257
 unfoldable pub counted : (n : ℕ) → List (Item index_space (suc n)) → ℕ
 counted n bs = min count_limit (total (nodes index_space (suc n)) bs)
 
--- what remains of a node that was read under some sides, given by their numbers
-unfoldable pub deep_of : (n : ℕ) → List ℕ → Option (Item index_space (suc n)) → List (Item index_space (suc n))
+-- what remains of a node that was read under some sides
+unfoldable pub deep_of : (n : ℕ) → List Side → Option (Item index_space (suc n)) → List (Item index_space (suc n))
 deep_of n ss none = []
 deep_of n ss (some b) = deep index_space (suc n) (sides_of ss) b
 
 -- the same of the node at part k
-unfoldable pub deep_at : (n : ℕ) → List ℕ → ℕ → ℕ → List ℕ → List (Item index_space (suc n))
+unfoldable pub deep_at : (n : ℕ) → List ℕ → ℕ → ℕ → List Side → List (Item index_space (suc n))
 deep_at n m lo k ss = deep_of n ss (read_node fanout n m lo k)

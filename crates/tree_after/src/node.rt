@@ -7,24 +7,20 @@ ghost use Rattle.tree_after.specs.Rows.{kept, NodeWritten, NodeRoom, no_branches
 ghost use Rattle.tree_after.specs.Parts.{remaining_part};
 
 use crate::sides::clipped;
-use geometry::Polygon;
-use layout::{Node, put_node, rect_count, rects};
+use geometry::{Polygon, Side};
+use layout::{Node, polygon_in, put_node};
 
 // Whether a node with so many items under the sides is written: without items it is dropped, unless there are no sides.
-pub fn is_kept(sides: &[u32], count: u32) -> bool
+pub fn is_kept(sides: &[Side], count: u32) -> bool
     ensures { result ≡ kept sides.now count }
 {
-    if count == 0 {
-        return sides.len() == 0;
-    }
-    true
+    count != 0 || sides.len() == 0
 }
 
 // Writes a node with its polygon clipped to the sides to the next part; answers the next free part. Nothing is written
 // for a node that is dropped.
-pub fn write_node(p: Polygon, node: Node, sides: &[u32], work: &mut [u32], next: u32) -> u32
-    requires count_bound { p.count ≤ 16 }
-    requires node_room { NodeRoom sides.now node work.old next }
+pub fn write_node(p: Polygon, node: Node, sides: &[Side], work: &mut [u32], next: u32) -> u32
+    requires { NodeRoom sides.now node work.old next }
     ensures { NodeWritten (rects_of p) node sides.now work.old next work.new result }
 {
     if !is_kept(sides, node.count) {
@@ -68,13 +64,12 @@ impl Branches {
 
 // Writes what remains of a part's node under the sides to the part next of the work area: its polygon clipped, and the
 // node with the items that remain.
-pub fn put_remaining(p: &[u32], remaining: Node, sides: &[u32], work: &mut [u32], next: u32)
+pub fn put_remaining(p: &[u32], remaining: Node, sides: &[Side], work: &mut [u32], next: u32)
     requires node_part { NodePart p.now }
     requires part_room { PartRoom work.old next }
     ensures { PartPut work.old next (remaining_part sides.now p.now remaining)
         work.new }
 {
-    let whole = Polygon::load(rects(p), rect_count(p) as usize);
-    let polygon = clipped(whole, sides);
+    let polygon = clipped(Polygon::of_rects(polygon_in(p)), sides);
     put_node(work, next, polygon, remaining);
 }

@@ -8,7 +8,8 @@ ghost use Rattle.tree_after.specs.Rows.{Grows, range_under};
 
 use crate::leaf::gather;
 use crate::node::{Branches, put_remaining};
-use layout::{Node, add_child, child, copy_node, copy_part, node_at, part_at};
+use geometry::Side;
+use layout::{Node, add_child, children_at, copy_node, copy_part, part_at};
 
 // Copies the subtree at part k, whose parts are those from lo on, into the parts of the work area from next on;
 // answers the next free part. Only the numbers of a node's children change: they are the parts that the children were
@@ -23,27 +24,22 @@ pub fn copy_below(m: &[u32], level: u32, lo: u32, k: u32, work: &mut [u32], next
         copy_part(part_at(m, k), work, next);
         return next + 1;
     }
-    let node = node_at(m, k);
-    let n = node.count as usize;
     let mut copy = Node::empty();
     let mut free = next;
     let mut low = lo;
-    let mut i = 0;
-    while i < n {
-        let j = child(&node.items, i);
-        free = copy_below(m, level - 1, low, j, work, free);
+    for &part in children_at(m, k) {
+        free = copy_below(m, level - 1, low, part, work, free);
         let count = copy.count;
         add_child(&mut copy.items, count, free - 1);
         copy.count = count + 1;
-        low = j + 1;
-        i += 1;
+        low = part + 1;
     }
     copy_node(part_at(m, k), copy, work, free);
     free + 1
 }
 
 // Writes what remains of a leaf under the sides, of which there are some; answers the next free part.
-fn write_leaf(p: &[u32], sides: &[u32], work: &mut [u32], next: u32) -> u32
+fn write_leaf(p: &[u32], sides: &[Side], work: &mut [u32], next: u32) -> u32
     requires node_part { NodePart p.now }
     requires in_bounds { 1 ≤ length sides.now }
     requires room { Room 0 work.old next (leaf_under sides.now p.now) }
@@ -64,7 +60,7 @@ pub fn write_below(
     level: u32,
     lo: u32,
     k: u32,
-    sides: &[u32],
+    sides: &[Side],
     work: &mut [u32],
     next: u32,
 ) -> u32
@@ -79,23 +75,18 @@ pub fn write_below(
     if level == 0 {
         return write_leaf(part_at(m, k), sides, work, next);
     }
-    let node = node_at(m, k);
-    let n = node.count as usize;
     let mut remaining = Node::empty();
     let mut free = next;
     let mut low = lo;
-    let mut i = 0;
-    while i < n {
-        let j = child(&node.items, i);
-        let after = write_below(m, level - 1, low, j, sides, work, free);
+    for &part in children_at(m, k) {
+        let after = write_below(m, level - 1, low, part, sides, work, free);
         if after != free {
             let count = remaining.count;
             add_child(&mut remaining.items, count, after - 1);
             remaining.count = count + 1;
         }
         free = after;
-        low = j + 1;
-        i += 1;
+        low = part + 1;
     }
     if remaining.count == 0 {
         return free;
@@ -112,7 +103,7 @@ pub fn write_branches(
     k: u32,
     from: usize,
     to: usize,
-    sides: &[u32],
+    sides: &[Side],
     work: &mut [u32],
     branches: Branches,
 ) -> Branches
@@ -124,15 +115,11 @@ pub fn write_branches(
     ensures { Grows level work.old branches
         (range_under level m.now k from to sides.now) work.new result }
 {
-    let node = node_at(m, k);
     let mut out = branches;
-    let mut i = from;
-    while i < to {
-        let j = child(&node.items, i);
+    for &part in &children_at(m, k)[from..to] {
         let next = out.next;
-        let after = write_below(m, level, 0, j, sides, work, next);
+        let after = write_below(m, level, 0, part, sides, work, next);
         out = out.with_branch(after);
-        i += 1;
     }
     out
 }

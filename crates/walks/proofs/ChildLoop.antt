@@ -8,12 +8,12 @@ use native.Mathlib.Numerals.{add-one}
 use native.Mathlib.Omega.{arith}
 use mir.Syntax.{w32}
 use mir.Val.{Fits}
+use Rattle.std.specs.Prelude.{Some, None}
 use lib.ListN.{length, get_or}
 use Rattle.geometry.specs.declared.rect.Cell.{Cell}
-use Rattle.memory.specs.Layout.{part, item_count, polygon_in, children_in}
-use Rattle.memory.proofs.ReadingLaws.{low_at, part_length}
-use Rattle.layout.specs.Nodes.{count_at, child_at, IsPart, PolygonPart}
-use Rattle.walks.specs.declared.child.ChildFound.TheVariants.{Child, NoChild}
+use Rattle.memory.specs.Layout.{part, polygon_in, children_in}
+use Rattle.memory.proofs.ReadingLaws.{low_at}
+use Rattle.layout.specs.Nodes.{count_at, child_at, PolygonPart}
 use Rattle.walks.specs.Walks.{has_test}
 use Rattle.walks.specs.Children.{Children, NoneBefore, ChildIs}
 use Rattle.walks.proofs.ChildLaws.{low_first, low_next, ChildNumbers, child_numbers}
@@ -27,26 +27,16 @@ pub record Seeking (m : List ℕ) (lo k : ℕ) (c : Cell) (ks : List ℕ) (i low
   pub first : NoneBefore m k c i
   pub low_is : low ≡ low_at lo (children_in (part m k)) i
 
-module _ (m : List ℕ) (k : ℕ) (v : Children m k) (p : List ℕ) (e : p ≡ part m k) where
-  -- the node's part can be read
-  pub node_long : IsPart p
-  node_long = rw e (part_length m k (let h = v.ends in omega arith))
-
-  pub node_few : item_count p ≤ 62
-  node_few = rw e (let h = v.few in omega arith)
-
 module _ (m : List ℕ) (lo k : ℕ) (c : Cell) (ks : List ℕ) where
-  pub seek_start : (p : List ℕ) → Children m k → p ≡ part m k → ks ≡ children_in p → Seeking m lo k c ks 0 lo
-  seek_start p v e q =
-      let f : ks ≡ children_in (part m k) = rw e at q in
-      record {
-        children = v;
-        ks_are = f;
-        count = ap length f ∙ (child_numbers m k v.ends v.few).count;
-        i_le = omega arith;
-        first = λ j h. absurd (omega arith);
-        low_is = sym (low_first lo (children_in (part m k)));
-      }
+  pub seek_start : Children m k → ks ≡ children_in (part m k) → Seeking m lo k c ks 0 lo
+  seek_start v f = record {
+    children = v;
+    ks_are = f;
+    count = ap length f ∙ (child_numbers m k v.ends v.few).count;
+    i_le = omega arith;
+    first = λ j h. absurd (omega arith);
+    low_is = sym (low_first lo (children_in (part m k)));
+  }
 
   module _ (i low : ℕ) (v : Seeking m lo k c ks i low) where
     module _ (h : i < length ks) (j : ℕ) (j_is : j ≡ get_or ks i 0) where
@@ -70,7 +60,7 @@ module _ (m : List ℕ) (lo k : ℕ) (c : Cell) (ks : List ℕ) where
           omega arith
 
       module _ (b : Bool) (e : b ≡ has_test c (polygon_in (part m j))) where
-        pub seek_found : b ≡ true → ChildIs m lo k c (Child i low j)
+        pub seek_found : b ≡ true → ChildIs m lo k c (Some (record { at = i; low = low; part = j }))
         seek_found f = record {
           place = record { inside = inside; has = rw part_is at (sym e ∙ f) };
           first = v.first;
@@ -96,5 +86,5 @@ module _ (m : List ℕ) (lo k : ℕ) (c : Cell) (ks : List ℕ) where
                 let q : x ≡ i = omega arith in
                 rw q (rw part_is at (sym e ∙ f))
 
-    pub seek_none : length ks ≤ i → ChildIs m lo k c NoChild
+    pub seek_none : length ks ≤ i → ChildIs m lo k c None
     seek_none h = λ x g. v.first x (let e = v.count in omega arith)

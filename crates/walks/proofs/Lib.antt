@@ -1,4 +1,3 @@
-pub mod EntryTests
 pub mod WalkParts
 pub mod WalkNode
 pub mod WalkRows
@@ -9,3 +8,5 @@ pub mod WalkLoop
 pub mod WalkLeaf
 pub mod TreeWalk
 pub mod CountWalk
+pub mod WalkChildren
+pub mod LeafScans

@@ -1,12 +1,11 @@
 -- The children of a routing node in a memory, and the child whose polygon has a cell.
 -- docs/RULES.md 5.17
-use Rattle.std.specs.Prelude.{ℕ, ◌≤◌, ◌<◌, true, false, List, ◌≡◌}
+use Rattle.std.specs.Prelude.{ℕ, ◌≤◌, ◌<◌, true, false, List, ◌≡◌, Option, Some, None}
 use Rattle.geometry.specs.declared.rect.Cell.{Cell}
 use Rattle.memory.specs.Layout.{part, polygon_in, children_in}
 use Rattle.memory.proofs.ReadingLaws.{low_at}
 use Rattle.layout.specs.Nodes.{count_at, child_at, PartIn, PolygonPart}
-use Rattle.walks.specs.declared.child.ChildFound.{ChildFound}
-use Rattle.walks.specs.declared.child.ChildFound.TheVariants.{Child, NoChild}
+use Rattle.walks.specs.declared.child.Child.{Child}
 use Rattle.walks.specs.Walks.{has_test}
 
 -- The node at part k has children in lower parts, whose polygons can be read. A routing node has this (the law
@@ -36,6 +35,6 @@ pub record FirstChild (m : List ℕ) (lo k : ℕ) (c : Cell) (i low j : ℕ) : T
   pub part_is : j ≡ child_at m k i
 
 -- what was found among the children of the node at part k
-abbrev pub ChildIs : List ℕ → ℕ → ℕ → Cell → ChildFound → Type 0
-ChildIs m lo k c (Child i low j) = FirstChild m lo k c i low j
-ChildIs m lo k c NoChild = NoneBefore m k c (count_at m k)
+abbrev pub ChildIs : List ℕ → ℕ → ℕ → Cell → Option Child → Type 0
+ChildIs m lo k c (Some b) = FirstChild m lo k c b.at b.low b.part
+ChildIs m lo k c None = NoneBefore m k c (count_at m k)

@@ -3,7 +3,7 @@ ghost use Rattle.std.specs.Prelude.{◌≡◌, length};
 ghost use Rattle.walks.specs.Count.{entries_at};
 ghost use Rattle.walks.specs.Walks.{Walkable};
 
-use layout::{child, count_at, node_at};
+use layout::{children_at, count_at};
 
 // Counts the entries below the node at part k, whose subtree has the parts from lo on.
 pub fn entries_below(m: &[u32], level: u32, lo: u32, k: u32) -> u32
@@ -13,16 +13,11 @@ pub fn entries_below(m: &[u32], level: u32, lo: u32, k: u32) -> u32
     if level == 0 {
         return count_at(m, k);
     }
-    let node = node_at(m, k);
-    let n = node.count as usize;
     let mut sum: u32 = 0;
     let mut low = lo;
-    let mut i = 0;
-    while i < n {
-        let j = child(&node.items, i);
-        sum += entries_below(m, level - 1, low, j);
-        low = j + 1;
-        i += 1;
+    for &part in children_at(m, k) {
+        sum += entries_below(m, level - 1, low, part);
+        low = part + 1;
     }
     sum
 }

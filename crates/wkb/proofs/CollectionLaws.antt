@@ -1,14 +1,10 @@
 -- How many bytes each geometry has, and where a collection has its polygons and their points.
-use Prim.Native.Nat.{ℕ, ◌*◌, ◌<◌}
-use mathlib.Core.Path.{◌≡◌, ap, ◌∙◌}
+use Prim.Native.Nat.{ℕ, ◌*◌}
+use mathlib.Core.Path.{◌≡◌, ◌∙◌}
 use mathlib.Core.List.{List, flat_map}
-use native.Mathlib.Omega.{arith}
-use lib.ListN.{length, take, drop, length-append}
-use Rattle.polygons.proofs.FlatLaws.{flat_length, flat_at}
+use lib.ListN.{length, length-append}
+use Rattle.polygons.proofs.FlatLaws.{flat_length}
 use Rattle.geometry.specs.declared.rect.Rect.{Rect}
-use Rattle.geometry.specs.Cells.{no_rect}
-use Rattle.geometry.specs.Numbers.{rect_at, rects_in}
-use Rattle.geometry.proofs.NumberLaws.{length_rects, rects_at}
 use Rattle.wkb.specs.Collection.{header_bytes, point_bytes, ring, polygon_bytes, collection_bytes, wkb_length}
 use Rattle.wkb.proofs.ByteLaws.{length_little}
 use Rattle.wkb.proofs.DoubleLaws.{length_double}
@@ -38,11 +34,3 @@ unfolding collection_bytes
 length_collection rs =
     length-append (header_bytes 7 (length rs)) (flat_map polygon_bytes rs)
     ∙ rw (length_header 7 (length rs), length_polygons rs)
-
--- the bytes of the i-th of the first n rectangles of a list
-pub polygon_at : (list : List ℕ) (n i : ℕ) → i < n
-    → take 93 (drop (93 * i) (flat_map polygon_bytes (rects_in list n))) ≡ polygon_bytes (rect_at list i)
-polygon_at list n i h =
-    let l = length_rects list n in
-    flat_at polygon_bytes 93 length_polygon (rects_in list n) i no_rect (omega arith)
-    ∙ ap polygon_bytes (rects_at list n i h)

@@ -3,3 +3,4 @@ pub mod Doubles
 pub mod Collection
 pub mod Orientation
 pub mod Reading
+pub mod Kinds

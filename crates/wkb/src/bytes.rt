@@ -9,11 +9,9 @@ pub fn put_little(out: &mut [u8], at: usize, k: usize, v: u64)
     ensures { out.new ≡ overwritten out.old at (little_bytes k v) }
 {
     let mut rest = v;
-    let mut i = 0;
-    while i < k {
+    for i in 0..k {
         out[at + i] = (rest % 256) as u8;
         rest = rest / 256;
-        i += 1;
     }
 }
 

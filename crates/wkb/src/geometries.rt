@@ -2,20 +2,38 @@
 // A function calls three others at most: the proof composes what three calls wrote.
 ghost use Rattle.std.specs.Prelude.{◌≡◌, ◌+◌, ◌*◌, ◌≤◌, length};
 ghost use mathlib.Core.List.{◌++◌, flat_map};
-ghost use Rattle.geometry.specs.Numbers.{rects_in};
+ghost use Rattle.geometry.specs.Rects.{rects_left};
 ghost use Rattle.wkb.specs.Bytes.{overwritten};
 ghost use Rattle.wkb.specs.Collection.{header_bytes, point_bytes, ring, polygon_bytes, collection_bytes};
+ghost use Rattle.wkb.specs.Kinds.{type_number};
 
 use crate::bytes::{put_double, put_little};
-use geometry::{Rect, rect_at};
+use geometry::{Rect, Rects};
+
+// The geometries that are written.
+#[derive(Clone, Copy, Debug, PartialEq, Eq)]
+enum Kind {
+    Polygon,
+    Collection,
+}
+
+// The format's type of a geometry.
+fn type_number(kind: Kind) -> u64
+    ensures { result ≡ type_number kind }
+{
+    match kind {
+        Kind::Polygon => 3,
+        Kind::Collection => 7,
+    }
+}
 
 // The byte order, a type and a count.
-fn put_header(out: &mut [u8], at: usize, kind: u64, count: u64)
+fn put_header(out: &mut [u8], at: usize, kind: Kind, count: u64)
     requires { at + 9 ≤ length out.old }
-    ensures { out.new ≡ overwritten out.old at (header_bytes kind count) }
+    ensures { out.new ≡ overwritten out.old at (header_bytes (type_number kind) count) }
 {
     put_little(out, at, 1, 1);
-    put_little(out, at + 1, 4, kind);
+    put_little(out, at + 1, 4, type_number(kind));
     put_little(out, at + 5, 4, count);
 }
 
@@ -53,22 +71,21 @@ fn put_polygon(out: &mut [u8], at: usize, r: Rect)
     requires { at + 93 ≤ length out.old }
     ensures { out.new ≡ overwritten out.old at (polygon_bytes r) }
 {
-    put_header(out, at, 3, 1);
+    put_header(out, at, Kind::Polygon, 1);
     put_little(out, at + 9, 4, 5);
     put_ring(out, at + 13, r);
 }
 
-// The first n rectangles of a list as a collection, at the start of out.
-pub fn put_collection(list: &[u32], n: usize, out: &mut [u8])
-    requires n_in_bounds { 4 * n ≤ length list.now }
-    requires n_in_bounds_2 { 9 + 93 * n ≤ length out.old }
+// The rectangles as a collection, at the start of out.
+pub fn put_collection(rects: Rects, out: &mut [u8])
+    requires { 9 + 93 * length (rects_left rects) ≤ length out.old }
     ensures { out.new
-        ≡ overwritten out.old 0 (collection_bytes (rects_in list.now n)) }
+        ≡ overwritten out.old 0 (collection_bytes (rects_left rects.entry)) }
 {
-    put_header(out, 0, 7, n as u64);
-    let mut i = 0;
-    while i < n {
-        put_polygon(out, 9 + 93 * i, rect_at(list, i));
-        i += 1;
+    put_header(out, 0, Kind::Collection, rects.len() as u64);
+    let mut at = 9;
+    for r in rects {
+        put_polygon(out, at, r);
+        at += 93;
     }
 }

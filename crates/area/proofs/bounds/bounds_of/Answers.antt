@@ -1,12 +1,18 @@
 -- `bounds::bounds_of` meets its contract; its loop is in BoundLoop.
+use Rattle.std.proofs.Common.{rules}
+use Rattle.area.specs.Bounds.{bounds_of}
 use Rattle.area.proofs.BoundLoop.{unite_start, unite_again, unite_end}
 use Rattle.area.proofs.bounds.bounds_of.Goals as goal
 
-pub loop-i-init : goal.loop-i-init
-loop-i-init c = search unite_start
+pub returns-in_default : goal.returns-in_default
+unfolding bounds_of
+returns-in_default c = rw c.in_default.ensures.steps.0
 
-pub loop-i-preserved : goal.loop-i-preserved
-loop-i-preserved c = search unite_again
+pub loop-r-init : goal.loop-r-init
+loop-r-init c = unite_start _ _ c.next.new.self c.into_iter-r-iterator.result (search rules) c.in-Some.ensures.steps
+
+pub loop-r-preserved : goal.loop-r-preserved
+loop-r-preserved c = unite_again _ _ _ c.loop-r.invariant _ _ c.in-Some-r.ensures.steps _ c.union-bounds.ensures
 
 pub returns : goal.returns
-returns c = search unite_end
+returns c = unite_end _ _ _ c.loop-r.invariant (search rules)

@@ -1,17 +1,14 @@
 -- `extra::extra_area` meets its contract; its returns are in ExtraReturns.
 use borrow.Author.Rules.{rules}
 use Rattle.geometry.proofs.CellLaws.{Valid, grid_x, grid_y}
-use Rattle.area.proofs.ExtraReturns.{read_valid, new_valid, new_ends, extra_below, extra_above, extra_outside, extra_counted}
+use Rattle.area.proofs.ExtraReturns.{read_valid, new_valid, new_ends, extra_of_single, extra_outside, extra_counted}
 use Rattle.area.proofs.extra.extra_area.Goals as goal
 
-pub extra_of_one-e-requires-clause-r_value : goal.extra_of_one-e-requires-clause-r_value
-extra_of_one-e-requires-clause-r_value c = search read_valid
+pub extra_of_one-requires-clause-r_value : goal.extra_of_one-requires-clause-r_value
+extra_of_one-requires-clause-r_value c = search read_valid
 
-pub returns-then-e-limit : goal.returns-then-e-limit
-returns-then-e-limit c = search extra_below
-
-pub returns-else-e-limit : goal.returns-else-e-limit
-returns-else-e-limit c = search extra_above
+pub returns-then-n-eq1 : goal.returns-then-n-eq1
+returns-then-n-eq1 c = search extra_of_single
 
 pub grow-g-requires-clause-x_bound : goal.grow-g-requires-clause-x_bound
 grow-g-requires-clause-x_bound c = search grid_x
@@ -31,4 +28,4 @@ lacking-requires c =
     search rules
 
 pub returns : goal.returns
-returns c = search extra_counted
+returns c = extra_counted _ _ _ c.rect_at-r.ensures _ _ c.grow-g.ensures _ _ _ (rw c.new.ensures at c.lacking.ensures)

@@ -18,8 +18,8 @@ area-requires-clause-lly_le_ury c = search part_high
 pub overflow_sub-result : goal.overflow_sub-result
 overflow_sub-result c = search part_less
 
-pub returns-in-Part : goal.returns-in-Part
-returns-in-Part c = search outside_part
+pub returns-in-Some : goal.returns-in-Some
+returns-in-Some c = search outside_part
 
 pub returns : goal.returns
 returns c = search outside_all

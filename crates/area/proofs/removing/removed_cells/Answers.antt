@@ -24,7 +24,9 @@ pub overflow_add-sum : goal.overflow_add-sum
 overflow_add-sum c = search removing_fits
 
 pub loop-j-preserved : goal.loop-j-preserved
-loop-j-preserved c = search removing_on
+loop-j-preserved c =
+    removing_on _ _ _ _ _ c.loop-j.invariant (search rules) _ c.rect_at-s.ensures _ _
+    (rw c.between.ensures at c.lacking-new.ensures) (rw c.between-in-loop-j.ensures at c.lacking-outside.ensures)
 
 pub returns : goal.returns
 returns c = search removing_end

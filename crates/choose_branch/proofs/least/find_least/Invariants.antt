@@ -1,10 +1,7 @@
 -- `least::find_least` meets its contract; its loop is in LeastLoops.
-use Prim.Native.Nat.{◌-◌}
+use lib.ListN.{length}
 use Rattle.choose_branch.proofs.LeastLoops.{ComparingAll}
 use Rattle.choose_branch.proofs.least.find_least.Given as goal
 
-abbrev pub invariant-loop-i : goal.invariant-loop-i
-invariant-loop-i l = ComparingAll l.c l.m l.k l.n l.best l.i
-
-abbrev pub decreases-loop-i : goal.decreases-loop-i
-decreases-loop-i l = l.n - l.i
+abbrev pub invariant-loop-branch : goal.invariant-loop-branch
+invariant-loop-branch l = ComparingAll l.c l.m l.k (length l.part-items) l.best l.branch

@@ -1,10 +1,7 @@
 -- `least::least_in` meets its contract; its loop is in LeastLoops.
-use Rattle.choose_branch.proofs.LeastLoops.{compare_start, compared_valid, compare_lesser, compare_same, compare_end}
+use Rattle.choose_branch.proofs.LeastLoops.{compared_valid, compare_lesser, compare_same, compare_end}
 use Rattle.choose_branch.proofs.least.least_in.Goals as goal
 use Rattle.choose_branch.proofs.least.least_in.Goals.{then-extra-best, else-extra-best}
-
-pub loop-i-init : goal.loop-i-init
-loop-i-init c = search compare_start
 
 pub extra_area-extra-requires-clause-i_value : goal.extra_area-extra-requires-clause-i_value
 extra_area-extra-requires-clause-i_value c = search compared_valid

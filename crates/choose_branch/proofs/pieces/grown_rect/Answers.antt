@@ -1,10 +1,7 @@
 -- `pieces::grown_rect` meets its contract.
 use Rattle.geometry.proofs.CellLaws.{grid_x, grid_y}
-use Rattle.choose_branch.proofs.GrownReturns.{rect_room, rect_grown}
+use Rattle.choose_branch.proofs.GrownReturns.{rect_grown}
 use Rattle.choose_branch.proofs.pieces.grown_rect.Goals as goal
-
-pub rect_at-r-requires : goal.rect_at-r-requires
-rect_at-r-requires c = search rect_room
 
 pub grow-requires-clause-x_bound : goal.grow-requires-clause-x_bound
 grow-requires-clause-x_bound c = search grid_x

@@ -1,15 +1,7 @@
--- `split::find_byte` meets its contract; its loop is in SplitLoop.
-use Rattle.commands.proofs.SplitLoop.{pass_start, pass_again, pass_found, pass_end}
+-- `split::find_byte` meets its contract.
+
+use Rattle.commands.proofs.SplitLaws.{piece_found}
 use Rattle.commands.proofs.split.find_byte.Goals as goal
 
-pub loop-i-init : goal.loop-i-init
-loop-i-init c = search pass_start
-
-pub returns-then-s-i : goal.returns-then-s-i
-returns-then-s-i c = search pass_found
-
-pub loop-i-preserved : goal.loop-i-preserved
-loop-i-preserved c = search pass_again
-
 pub returns : goal.returns
-returns c = search pass_end
+returns c = rw c.unwrap_or.ensures (piece_found c.args.byte c.args.s.now c.args.from c.place_of.result c.requires c.place_of.ensures)

@@ -1,6 +1,7 @@
--- `covering::none_remaining` meets its contract, with the rectangles that are left to cut as its measure; the laws that it needs are in CoverLaws.
-use Prim.Native.Nat.{◌-◌}
+-- `covering::none_remaining`: its measure is how many rectangles are left to cut.
+use Rattle.std.proofs.Common.{length}
+use Rattle.geometry.specs.Rects.{rects_left}
 use Rattle.cover.proofs.covering.+none_remaining.Given as goal
 
 abbrev pub decreases-none_remaining : goal.decreases-none_remaining
-decreases-none_remaining l = l.n - l.i
+decreases-none_remaining l = length (rects_left l.rects)

@@ -1,16 +1,11 @@
--- `covering::inside` meets its contract; its loop is in CoverLaws.
-use borrow.Author.Tests.{not-true, not-false}
-use Rattle.cover.proofs.CoverLaws.{inside_start, inside_stop, inside_on, inside_end}
+-- `covering::inside` meets its contract.
+use Rattle.std.proofs.Common.{rules, ◌∙◌}
+use Rattle.geometry.specs.Rects.{rects_left}
+use Rattle.geometry.proofs.RectsChains.{all_rects}
+use Rattle.cover.specs.Tests.{covered_by, inside_of}
+use Rattle.cover.proofs.PassLoops.{list_all-pass}
 use Rattle.cover.proofs.covering.inside.Goals as goal
 
-pub loop-i-init : goal.loop-i-init
-loop-i-init c = search inside_start
-
-pub returns-then-not-covered : goal.returns-then-not-covered
-returns-then-not-covered c = search (inside_stop, not-true)
-
-pub loop-i-preserved : goal.loop-i-preserved
-loop-i-preserved c = search (inside_on, not-false)
-
 pub returns : goal.returns
-returns c = search inside_end
+unfolding inside_of
+returns c = all_rects (covered_by (rects_left c.args.p)) c.args.q c.all.new.self _ _ c.all.ensures.ran (λ x b q k. search rules) ∙ list_all-pass _ _

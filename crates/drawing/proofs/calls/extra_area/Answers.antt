@@ -1,19 +1,20 @@
--- `calls::extra_area` meets its contract; the laws that it needs are in Returns and GrowLoop.
-use Rattle.drawing.proofs.Returns.{told}
-use Rattle.drawing.proofs.GrowLoop.{unfit_rect, unfit_cell, fit_rect, fit}
+-- `calls::extra_area` meets its contract.
+use Rattle.drawing.proofs.GrowLoop.{unfit_rect, unfit_cell, fit_rect, fit_cell, fit}
 use Rattle.drawing.proofs.calls.extra_area.Goals as goal
 
-pub returns-then-not-is_valid : goal.returns-then-not-is_valid
-returns-then-not-is_valid c = search unfit_rect
+pub returns-in_err-accept : goal.returns-in_err-accept
+returns-in_err-accept c = unfit_rect _ _ _ _ c.is_valid.ensures c.accept.ensures _ _ c.in_err-accept.was c.from_residual.ensures.1
 
-pub returns-then-not-on_grid : goal.returns-then-not-on_grid
-returns-then-not-on_grid c = search unfit_cell
+pub returns-in_err-accept-2 : goal.returns-in_err-accept-2
+returns-in_err-accept-2 c =
+    unfit_cell _ _ _ _ c.is_valid.ensures c.accept.ensures c.in_ok-accept.was _ _ c.on_grid.ensures c.accept-2.ensures _ _
+    c.in_err-accept-2.was c.from_residual-in_err-accept-2.ensures.1
 
 pub extra_of_one-requires-clause-r_value : goal.extra_of_one-requires-clause-r_value
-extra_of_one-requires-clause-r_value c = search fit_rect
+extra_of_one-requires-clause-r_value c = search (fit_rect, c.in_ok-accept.was)
 
 pub extra_of_one-requires-clause-c_value : goal.extra_of_one-requires-clause-c_value
-extra_of_one-requires-clause-c_value c = told _ _ c.on_grid.ensures c.if-not-on_grid.false
+extra_of_one-requires-clause-c_value c = search (fit_cell, c.in_ok-accept.was, c.in_ok-accept-2.was)
 
 pub returns : goal.returns
-returns c = search fit
+returns c = search (fit, c.in_ok-accept.was, c.in_ok-accept-2.was)

@@ -1,39 +1,35 @@
--- `calls::grow` meets its contract; the laws that it needs are in Returns and GrowLoop.
-use Prim.Native.Nat.{◌≤◌, ◌/◌}
+-- `calls::grow` meets its contract.
 use native.Mathlib.Omega.{arith}
-use lib.ListN.{length}
 use Rattle.drawing.specs.Calls.{valid_with_cell}
-use Rattle.drawing.proofs.Returns.{bad_result, bad_list, bad_third, told, list_few}
-use Rattle.drawing.proofs.GrowLoop.{grow_wrote}
+use Rattle.drawing.proofs.Returns.{first_refused, third_refused, out_long, list_short}
+use Rattle.drawing.proofs.GrowLoop.{on_grid_is, grow_wrote}
 use Rattle.drawing.proofs.calls.grow.Goals as goal
 
-pub returns-then-out-ne-RESULT_NUMBERS : goal.returns-then-out-ne-RESULT_NUMBERS
+pub returns-in_err-accept_lists : goal.returns-in_err-accept_lists
 unfolding valid_with_cell
-returns-then-out-ne-RESULT_NUMBERS c = search bad_result
+returns-in_err-accept_lists c = first_refused _ _ _ c.accept_lists.ensures _ _ c.in_err-accept_lists.was c.from_residual.ensures.1 _ _
 
-pub returns-then-not-is_list : goal.returns-then-not-is_list
+pub returns-in_err-accept : goal.returns-in_err-accept
 unfolding valid_with_cell
-returns-then-not-is_list c = search bad_list
-
-pub returns-then-not-on_grid : goal.returns-then-not-on_grid
-unfolding valid_with_cell
-returns-then-not-on_grid c = search bad_third
+returns-in_err-accept c =
+    third_refused _ _ _ _ _ c.accept_lists.ensures c.in_ok-accept_lists.was _ _ c.on_grid.ensures c.accept.ensures _ _
+    c.in_err-accept.was c.from_residual-in_err-accept.ensures.1
 
 pub put_grown-requires-clause-n_in_bounds : goal.put_grown-requires-clause-n_in_bounds
 put_grown-requires-clause-n_in_bounds c =
-    let f : length c.args.list.now / 4 ≤ 256 = search list_few in
+    let f = out_long _ _ _ c.accept_lists.ensures c.in_ok-accept_lists.was in
+    let g = list_short _ _ _ c.accept_lists.ensures c.in_ok-accept_lists.was in
     omega arith
 
 pub put_grown-requires-clause-n_in_bounds_2 : goal.put_grown-requires-clause-n_in_bounds_2
 put_grown-requires-clause-n_in_bounds_2 c =
-    let f : length c.args.list.now / 4 ≤ 256 = search list_few in
+    let f = out_long _ _ _ c.accept_lists.ensures c.in_ok-accept_lists.was in
+    let g = list_short _ _ _ c.accept_lists.ensures c.in_ok-accept_lists.was in
     omega arith
 
 pub put_grown-requires-clause-c_value : goal.put_grown-requires-clause-c_value
-put_grown-requires-clause-c_value c =
-    let f : length c.args.list.now / 4 ≤ 256 = search list_few in
-    search told
+put_grown-requires-clause-c_value c = search (on_grid_is, c.in_ok-accept_lists.was, c.in_ok-accept.was)
 
 pub returns : goal.returns
 unfolding valid_with_cell
-returns c = search grow_wrote
+returns c = search (grow_wrote, c.in_ok-accept_lists.was, c.in_ok-accept.was)

@@ -1,39 +1,35 @@
--- `calls::refine` meets its contract; the laws that it needs are in Returns.
-use Prim.Native.Nat.{◌/◌}
-use Prim.Native.Nat.{◌≤◌}
+-- `calls::refine` meets its contract.
 use native.Mathlib.Omega.{arith}
-use lib.ListN.{length}
 use Rattle.drawing.specs.Calls.{valid_alone, refine_drawn}
-use Rattle.drawing.proofs.Returns.{alone_bad_result, alone_bad_list, refine_wrote, list_few}
+use Rattle.drawing.proofs.Returns.{lists_refused, out_long, list_short, refine_wrote}
 use Rattle.drawing.proofs.calls.refine.Goals as goal
 
-pub returns-then-out-ne-RESULT_NUMBERS : goal.returns-then-out-ne-RESULT_NUMBERS
+pub returns-in_err-accept_lists : goal.returns-in_err-accept_lists
 unfolding valid_alone
-returns-then-out-ne-RESULT_NUMBERS c = search alone_bad_result
+returns-in_err-accept_lists c = lists_refused _ _ _ c.accept_lists.ensures _ _ c.in_err-accept_lists.was c.from_residual.ensures.1 _
 
-pub returns-then-not-is_list : goal.returns-then-not-is_list
-unfolding valid_alone
-returns-then-not-is_list c = search alone_bad_list
+pub refine_in-requires-clause-n_in_bounds_3 : goal.refine_in-requires-clause-n_in_bounds_3
+refine_in-requires-clause-n_in_bounds_3 c =
+    let f = out_long _ _ _ c.accept_lists.ensures c.in_ok-accept_lists.was in
+    let g = list_short _ _ _ c.accept_lists.ensures c.in_ok-accept_lists.was in
+    omega arith
+
+pub refine_in-requires-else-n-le-MOST_OF_POLYGON-clause-n_in_bounds_2 : goal.refine_in-requires-else-n-le-MOST_OF_POLYGON-clause-n_in_bounds_2
+refine_in-requires-else-n-le-MOST_OF_POLYGON-clause-n_in_bounds_2 c =
+    let f = out_long _ _ _ c.accept_lists.ensures c.in_ok-accept_lists.was in
+    let g = list_short _ _ _ c.accept_lists.ensures c.in_ok-accept_lists.was in
+    omega arith
+
+pub refine_in-requires-else-n-le-MOST_OF_POLYGON-clause-n_in_bounds_3 : goal.refine_in-requires-else-n-le-MOST_OF_POLYGON-clause-n_in_bounds_3
+refine_in-requires-else-n-le-MOST_OF_POLYGON-clause-n_in_bounds_3 c =
+    let f = out_long _ _ _ c.accept_lists.ensures c.in_ok-accept_lists.was in
+    let g = list_short _ _ _ c.accept_lists.ensures c.in_ok-accept_lists.was in
+    omega arith
 
 pub returns-then-n-le-MOST_OF_POLYGON : goal.returns-then-n-le-MOST_OF_POLYGON
 unfolding valid_alone refine_drawn
-returns-then-n-le-MOST_OF_POLYGON c = search refine_wrote
+returns-then-n-le-MOST_OF_POLYGON c = search (refine_wrote, c.in_ok-accept_lists.was)
 
-pub refine_in-requires-2-clause-n_in_bounds : goal.refine_in-requires-2-clause-n_in_bounds
-refine_in-requires-2-clause-n_in_bounds c =
-    let f : length c.args.list.now / 4 ≤ 256 = search list_few in
-    omega arith
-
-pub refine_in-requires-2-clause-n_in_bounds_2 : goal.refine_in-requires-2-clause-n_in_bounds_2
-refine_in-requires-2-clause-n_in_bounds_2 c =
-    let f : length c.args.list.now / 4 ≤ 256 = search list_few in
-    omega arith
-
-pub refine_in-requires-2-clause-n_in_bounds_3 : goal.refine_in-requires-2-clause-n_in_bounds_3
-refine_in-requires-2-clause-n_in_bounds_3 c =
-    let f : length c.args.list.now / 4 ≤ 256 = search list_few in
-    omega arith
-
-pub returns : goal.returns
+pub returns-else-n-le-MOST_OF_POLYGON : goal.returns-else-n-le-MOST_OF_POLYGON
 unfolding valid_alone refine_drawn
-returns c = search refine_wrote
+returns-else-n-le-MOST_OF_POLYGON c = search (refine_wrote, c.in_ok-accept_lists.was)

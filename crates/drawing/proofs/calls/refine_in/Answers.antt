@@ -1,4 +1,4 @@
--- `calls::refine_in` meets its contract; the laws that it needs are in Returns.
+-- `calls::refine_in` meets its contract.
 use Rattle.drawing.proofs.Returns.{refined_into}
 use Rattle.drawing.proofs.calls.refine_in.Goals as goal
 

@@ -1,82 +1,53 @@
--- `polygon_cut::cut_into` meets its contract; the laws that it needs are in Returns.
-use mathlib.Core.Path.{◌≡◌}
-use Prim.Native.Nat.{◌≤◌, ◌/◌}
+-- `polygon_cut::cut_into` meets its contract.
 use native.Mathlib.Omega.{arith}
-use lib.ListN.{length}
-use Rattle.drawing.specs.Calls.{valid_with_polygon, cut_polygon_drawn}
-use Rattle.drawing.proofs.Returns.{list_few, bad_result, bad_list, bad_third, work_long, polygon_over, polygon_wrote}
+use Prim.Native.Nat.{◌≤◌}
 use Rattle.geometry.proofs.CutLoops.{few_of_lem}
+use Rattle.drawing.specs.Calls.{valid_with_polygon, cut_polygon_drawn}
+use Rattle.drawing.proofs.Accepted.{is_true}
+use Rattle.geometry.proofs.NumberLaws.{length_rects}
+use Rattle.drawing.proofs.Returns.{first_refused, third_refused, out_long, list_short, list_few, polygon_over, polygon_wrote}
 use Rattle.drawing.proofs.polygon_cut.cut_into.Goals as goal
 
-pub returns-then-out-ne-RESULT_NUMBERS : goal.returns-then-out-ne-RESULT_NUMBERS
+pub returns-in_err-accept_lists : goal.returns-in_err-accept_lists
 unfolding valid_with_polygon
-returns-then-out-ne-RESULT_NUMBERS c = search bad_result
+returns-in_err-accept_lists c = first_refused _ _ _ c.accept_lists.ensures _ _ c.in_err-accept_lists.was c.from_residual.ensures.1 _ _
 
-pub returns-then-not-is_list : goal.returns-then-not-is_list
+pub returns-in_err-accept : goal.returns-in_err-accept
 unfolding valid_with_polygon
-returns-then-not-is_list c = search bad_list
-
-pub returns-then-not-is_list-2 : goal.returns-then-not-is_list-2
-unfolding valid_with_polygon
-returns-then-not-is_list-2 c = search bad_third
-
-pub copy-requires-clause-n_in_bounds : goal.copy-requires-clause-n_in_bounds
-copy-requires-clause-n_in_bounds c =
-    let f : length c.args.list.now / 4 ≤ 256 = search list_few in
-    omega arith
+returns-in_err-accept c =
+    third_refused _ _ _ _ _ c.accept_lists.ensures c.in_ok-accept_lists.was _ _ c.is_list.ensures c.accept.ensures _ _
+    c.in_err-accept.was c.from_residual-in_err-accept.ensures.1
 
 pub copy-requires-clause-n_in_bounds_2 : goal.copy-requires-clause-n_in_bounds_2
 copy-requires-clause-n_in_bounds_2 c =
-    let f : length c.args.list.now / 4 ≤ 256 = search list_few in
+    let f = out_long _ _ _ c.accept_lists.ensures c.in_ok-accept_lists.was in
+    let g = list_short _ _ _ c.accept_lists.ensures c.in_ok-accept_lists.was in
     omega arith
 
-pub load-p-requires-clause-n_bound : goal.load-p-requires-clause-n_bound
-load-p-requires-clause-n_bound c =
-    let f : length c.args.polygon.now / 4 ≤ 16 = search list_few in
+pub of_rects-p-requires : goal.of_rects-p-requires
+of_rects-p-requires c = rw c.new.ensures (rw length_rects (list_few _ _ _ c.is_list.ensures (is_true _ _ c.accept.ensures c.in_ok-accept.was)))
+
+pub cut_polygon-requires-clause-n_bound : goal.cut_polygon-requires-clause-n_bound
+cut_polygon-requires-clause-n_bound c =
+    let f = out_long _ _ _ c.accept_lists.ensures c.in_ok-accept_lists.was in
+    let g = list_short _ _ _ c.accept_lists.ensures c.in_ok-accept_lists.was in
     omega arith
 
-pub load-p-requires-clause-n_in_bounds : goal.load-p-requires-clause-n_in_bounds
-load-p-requires-clause-n_in_bounds c =
-    let f : length c.args.polygon.now / 4 ≤ 16 = search list_few in
-    omega arith
-
-pub cut_polygon-c-requires-clause-n_bound : goal.cut_polygon-c-requires-clause-n_bound
-cut_polygon-c-requires-clause-n_bound c =
-    let f : length c.args.list.now / 4 ≤ 256 = search list_few in
-    let s : length c.copy.new.to ≡ 1088 = search work_long in
-    omega arith
-
-pub cut_polygon-c-requires-clause-in_bounds : goal.cut_polygon-c-requires-clause-in_bounds
-cut_polygon-c-requires-clause-in_bounds c =
-    let f : length c.args.list.now / 4 ≤ 256 = search list_few in
-    let s : length c.copy.new.to ≡ 1088 = search work_long in
-    omega arith
-
-pub cut_polygon-c-requires-clause-in_bounds_2 : goal.cut_polygon-c-requires-clause-in_bounds_2
-cut_polygon-c-requires-clause-in_bounds_2 c =
-    let f : length c.args.list.now / 4 ≤ 256 = search list_few in
-    let s : length c.copy.new.to ≡ 1088 = search work_long in
-    omega arith
-
-pub returns-in_default : goal.returns-in_default
+pub returns-in_err-m : goal.returns-in_err-m
 unfolding valid_with_polygon cut_polygon_drawn
-returns-in_default c = search polygon_over
-
-pub overflow_mul-m : goal.overflow_mul-m
-overflow_mul-m c = let f : c.in-Rects.m ≤ 256 = search few_of_lem in omega arith
-
-pub copy-requires-2-clause-n_in_bounds : goal.copy-requires-2-clause-n_in_bounds
-copy-requires-2-clause-n_in_bounds c =
-    let f : c.in-Rects.m ≤ 256 = search few_of_lem in
-    let s : length c.copy.new.to ≡ 1088 = search work_long in
-    omega arith
+returns-in_err-m c =
+    let o = rw c.new.ensures at c.of_rects-p.ensures in
+    let e = c.from_residual-in_err-m.ensures.1 in
+    search (polygon_over, o, e, c.in_err-m.was, c.in_ok-accept_lists.was, c.in_ok-accept.was)
 
 pub copy-requires-2-clause-n_in_bounds_2 : goal.copy-requires-2-clause-n_in_bounds_2
 copy-requires-2-clause-n_in_bounds_2 c =
-    let f : c.in-Rects.m ≤ 256 = search few_of_lem in
-    let s : length c.copy.new.to ≡ 1088 = search work_long in
+    let f = out_long _ _ _ c.accept_lists.ensures c.in_ok-accept_lists.was in
+    let g : c.in_ok-m.m ≤ 256 = search (few_of_lem, c.in_ok-m.was) in
     omega arith
 
 pub returns : goal.returns
 unfolding valid_with_polygon cut_polygon_drawn
-returns c = search polygon_wrote
+returns c =
+    let o = rw c.new.ensures at c.of_rects-p.ensures in
+    search (polygon_wrote, o, c.in_ok-m.was, c.in_ok-accept_lists.was, c.in_ok-accept.was)

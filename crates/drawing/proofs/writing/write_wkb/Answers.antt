@@ -1,32 +1,31 @@
--- `writing::write_wkb` meets its contract; its returns are in WkbReturns.
-use Prim.Native.Nat.{◌+◌, ◌*◌, ◌/◌, ◌≤◌, ◌<◌}
-use lib.ListN.{length}
-use borrow.Author.Rules.{rules}
+-- `writing::write_wkb` meets its contract.
+use Rattle.std.proofs.Common.{rules}
 use native.Mathlib.Omega.{arith}
-use Rattle.drawing.proofs.WkbReturns.{bad_polygon, short_output, written}
-use Rattle.drawing.proofs.Returns.{list_few}
+use Rattle.geometry.proofs.NumberLaws.{length_rects}
+use Rattle.drawing.proofs.WkbReturns.{bad_polygon, polygon_is, short_output, written}
+use Rattle.drawing.proofs.PolygonCutReturns.{few_rects}
 use Rattle.drawing.proofs.writing.write_wkb.Goals as goal
 
-pub returns-then-not-is_list : goal.returns-then-not-is_list
-returns-then-not-is_list c = search bad_polygon
+pub returns-in_err-accept : goal.returns-in_err-accept
+returns-in_err-accept c = bad_polygon _ _ _ _ c.is_list.ensures c.accept.ensures _ _ c.in_err-accept.was c.from_residual.ensures.1
 
 pub overflow_mul-bytes : goal.overflow_mul-bytes
 overflow_mul-bytes c =
-    let f : length c.args.polygon.now / 4 ≤ 16 = search list_few in
+    let f = few_rects _ _ (polygon_is _ c.args.out.now _ _ c.is_list.ensures c.accept.ensures c.in_ok-accept.was) in
     omega arith
 
 pub overflow_add-bytes : goal.overflow_add-bytes
 overflow_add-bytes c =
-    let f : length c.args.polygon.now / 4 ≤ 16 = search list_few in
+    let f = few_rects _ _ (polygon_is _ c.args.out.now _ _ c.is_list.ensures c.accept.ensures c.in_ok-accept.was) in
     omega arith
 
 pub returns-then-out-bytes : goal.returns-then-out-bytes
-returns-then-out-bytes c =
-    let h
-    : length c.args.out.now
-    < 9 + 93 * (length c.args.polygon.now / 4)
-    = search rules in
-    search short_output
+returns-then-out-bytes c = search (short_output, c.in_ok-accept.was)
+
+pub put_collection-requires : goal.put_collection-requires
+put_collection-requires c = rw (c.new.ensures, length_rects) (search rules)
 
 pub returns : goal.returns
-returns c = search written
+returns c =
+    let o = rw c.new.ensures at c.put_collection.ensures in
+    search (written, o, c.in_ok-accept.was)

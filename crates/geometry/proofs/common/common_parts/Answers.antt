@@ -1,16 +1,20 @@
 -- `common::common_parts` meets its contract; its loop is in FillLoops.
-use borrow.Author.Rules.{rules}
-use Rattle.geometry.proofs.FillLoops.{parts_start, parts_again, parts_over, parts_end}
+use Rattle.std.proofs.Common.{rules}
+use Rattle.geometry.specs.Common.{common_with, common_parts}
+use Rattle.geometry.specs.Cut.{common_limited}
+use Rattle.geometry.proofs.FillLoops.{fill_start, fill_again, fill_over, fill_end}
 use Rattle.geometry.proofs.common.common_parts.Goals as goal
 
-pub loop-i-init : goal.loop-i-init
-loop-i-init c = search parts_start
+pub loop-r-init : goal.loop-r-init
+loop-r-init c = search fill_start
 
 pub returns-then-m-gt-MOST_PIECES : goal.returns-then-m-gt-MOST_PIECES
-returns-then-m-gt-MOST_PIECES c = search parts_over
+unfolding common_limited common_parts common_with
+returns-then-m-gt-MOST_PIECES c = fill_over _ _ _ _ _ _ c.loop-r.invariant _ _ c.in-Some.ensures.steps _ _ _ c.put_common_with-m.ensures (search rules)
 
-pub loop-i-preserved : goal.loop-i-preserved
-loop-i-preserved c = parts_again _ _ _ _ _ _ _ c.loop-i.invariant _ _ _ (search rules) c.rect_at-r.ensures c.put_common_with-m.ensures (search rules)
+pub loop-r-preserved : goal.loop-r-preserved
+loop-r-preserved c = fill_again _ _ _ _ _ _ c.loop-r.invariant _ _ c.in-Some.ensures.steps _ _ _ c.put_common_with-m.ensures (search rules)
 
 pub returns : goal.returns
-returns c = search parts_end
+unfolding common_limited common_parts common_with
+returns c = fill_end _ _ _ _ _ _ c.loop-r.invariant (search rules)

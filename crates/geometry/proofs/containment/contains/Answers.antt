@@ -1,15 +1,9 @@
--- `containment::contains` meets its contract; its loop is in ContainmentLoop.
-use Rattle.geometry.proofs.ContainmentLoop.{list_start, list_hit, list_again, list_end}
+-- `containment::contains` meets its contract; what the test answers is in ContainmentLoop.
+use Rattle.std.proofs.Common.{rules}
+use Rattle.geometry.proofs.ContainmentLoop.{from_place}
+use Rattle.geometry.proofs.RectsChains.{place_in_rects}
 use Rattle.geometry.proofs.containment.contains.Goals as goal
 
-pub loop-i-init : goal.loop-i-init
-loop-i-init c = search list_start
-
-pub returns-then-has_cell : goal.returns-then-has_cell
-returns-then-has_cell c = search list_hit
-
-pub loop-i-preserved : goal.loop-i-preserved
-loop-i-preserved c = search list_again
-
 pub returns : goal.returns
-returns c = search list_end
+returns c = from_place _ c.args.c _ _ _
+    (place_in_rects c.args.c c.args.rects c.position.new.self _ _ c.position.ensures.ran (λ x b q k. search rules)) c.len-n.ensures c.at.ensures

@@ -1,15 +1,8 @@
--- `cut::any_shares` meets its contract; its loop is in ScanLoops.
-use Rattle.geometry.proofs.ScanLoops.{scan_all, scan_hit, scan_miss, scan_end}
+-- `cut::any_shares` meets its contract; what the chain answers is in RectsChains.
+use Rattle.std.proofs.Common.{rules}
+use Rattle.geometry.specs.Common.{shares_with}
+use Rattle.geometry.proofs.RectsChains.{any_rects}
 use Rattle.geometry.proofs.cut.any_shares.Goals as goal
 
-pub loop-i-init : goal.loop-i-init
-loop-i-init c = search scan_all
-
-pub returns-then-shares : goal.returns-then-shares
-returns-then-shares c = search scan_hit
-
-pub loop-i-preserved : goal.loop-i-preserved
-loop-i-preserved c = search scan_miss
-
 pub returns : goal.returns
-returns c = search scan_end
+returns c = any_rects (shares_with c.args.s) c.args.rects c.any.new.self _ _ c.any.ensures.ran (λ x b q k. search rules)

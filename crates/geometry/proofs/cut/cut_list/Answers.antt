@@ -1,16 +1,21 @@
 -- `cut::cut_list` meets its contract; its loop is in FillLoops.
-use borrow.Author.Rules.{rules}
-use Rattle.geometry.proofs.FillLoops.{cut_start, cut_again, cut_over, cut_end}
+use Rattle.std.proofs.Common.{rules}
+use Rattle.geometry.specs.Cut.{cut_list}
+use Rattle.geometry.proofs.CutLaws.{cut_by}
+use Rattle.geometry.proofs.FillLoops.{fill_start, fill_again, fill_over, fill_end}
 use Rattle.geometry.proofs.cut.cut_list.Goals as goal
 
-pub loop-i-init : goal.loop-i-init
-loop-i-init c = search cut_start
+pub loop-r-init : goal.loop-r-init
+loop-r-init c = search fill_start
 
 pub returns-then-m-gt-MOST_PIECES : goal.returns-then-m-gt-MOST_PIECES
-returns-then-m-gt-MOST_PIECES c = search cut_over
+unfolding cut_list cut_by
+returns-then-m-gt-MOST_PIECES c = fill_over _ _ _ _ _ _ c.loop-r.invariant _ _ c.in-Some.ensures.steps _ _ _ c.put_cut-m.ensures (search rules)
 
-pub loop-i-preserved : goal.loop-i-preserved
-loop-i-preserved c = cut_again _ _ _ _ _ _ _ c.loop-i.invariant _ _ _ (search rules) c.rect_at-r.ensures c.put_cut-m.ensures (search rules)
+pub loop-r-preserved : goal.loop-r-preserved
+unfolding cut_by
+loop-r-preserved c = fill_again _ _ _ _ _ _ c.loop-r.invariant _ _ c.in-Some.ensures.steps _ _ _ c.put_cut-m.ensures (search rules)
 
 pub returns : goal.returns
-returns c = search cut_end
+unfolding cut_list cut_by
+returns c = fill_end _ _ _ _ _ _ c.loop-r.invariant (search rules)

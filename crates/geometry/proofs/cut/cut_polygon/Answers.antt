@@ -1,16 +1,18 @@
 -- `cut::cut_polygon` meets its contract; its loop is in CutLoops.
-use Rattle.geometry.proofs.ArrayLaws.{of_map}
+use Rattle.std.proofs.Common.{rules}
 use Rattle.geometry.proofs.CutLoops.{cutting_start, cutting_again, cutting_over, cutting_end}
 use Rattle.geometry.proofs.cut.cut_polygon.Goals as goal
 
-pub loop-i-init : goal.loop-i-init
-loop-i-init c = search (cutting_start, of_map)
+pub loop-s-init : goal.loop-s-init
+loop-s-init c = search cutting_start
 
-pub returns-in_default-clause-written : goal.returns-in_default-clause-written
-returns-in_default-clause-written c = search cutting_over
+pub returns-in_err-m-clause-written : goal.returns-in_err-m-clause-written
+returns-in_err-m-clause-written c =
+    cutting_over _ _ _ _ _ _ _ _ c.loop-s.invariant _ _ _ (search rules) c.cut_once.ensures.written _ c.in_err-m.was _ c.from_residual.ensures.0
 
-pub loop-i-preserved : goal.loop-i-preserved
-loop-i-preserved c = search cutting_again
+pub loop-s-preserved : goal.loop-s-preserved
+loop-s-preserved c =
+    cutting_again _ _ _ _ _ _ _ _ c.loop-s.invariant _ _ _ (search rules) c.cut_once.ensures.written _ _ c.in_ok-m.was (search rules)
 
 pub returns-clause-written : goal.returns-clause-written
 returns-clause-written c = search cutting_end

@@ -1,15 +1,8 @@
--- `within::is_within_any` meets its contract; its loop is in ScanLoops.
-use Rattle.geometry.proofs.ScanLoops.{scan_all, scan_hit, scan_miss, scan_end}
+-- `within::is_within_any` meets its contract; what the chain answers is in RectsChains.
+use Rattle.std.proofs.Common.{rules}
+use Rattle.geometry.specs.Refine.{within}
+use Rattle.geometry.proofs.RectsChains.{any_rects}
 use Rattle.geometry.proofs.within.is_within_any.Goals as goal
 
-pub loop-j-init : goal.loop-j-init
-loop-j-init c = search scan_all
-
-pub returns-then-is_within : goal.returns-then-is_within
-returns-then-is_within c = search scan_hit
-
-pub loop-j-preserved : goal.loop-j-preserved
-loop-j-preserved c = search scan_miss
-
 pub returns : goal.returns
-returns c = search scan_end
+returns c = any_rects (within c.args.r) c.args.rects c.any.new.self _ _ c.any.ensures.ran (λ x b q k. search rules)

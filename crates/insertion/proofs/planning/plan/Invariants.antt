@@ -1,10 +1,6 @@
 -- `planning::plan` meets its contract; its loop is in PlanLoop.
-use Prim.Native.Nat.{◌-◌}
 use Rattle.insertion.proofs.PlanLoop.{Planning}
 use Rattle.insertion.proofs.planning.plan.Given as goal
 
 abbrev pub invariant-loop-n : goal.invariant-loop-n
 invariant-loop-n l = Planning l.level l.initial.path l.m l.splits l.c l.n l.path
-
-abbrev pub decreases-loop-n : goal.decreases-loop-n
-decreases-loop-n l = l.splits - l.n

@@ -1,6 +1,6 @@
--- `reading::entry_cell` meets its contract; the laws that it needs are in NodeLaws.
-use Rattle.layout.proofs.NodeLaws.{cell_is}
+-- `reading::entry_cell` meets its contract.
+use Rattle.layout.proofs.LoadedLaws.{entry_placed}
 use Rattle.layout.proofs.reading.entry_cell.Goals as goal
 
 pub returns : goal.returns
-returns c = search cell_is
+returns c = search entry_placed

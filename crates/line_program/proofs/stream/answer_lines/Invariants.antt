@@ -5,8 +5,8 @@ use Rattle.line_program.specs.Response.{lent}
 use Rattle.line_program.proofs.StreamLoops.{Answering}
 use Rattle.line_program.proofs.stream.answer_lines.Given as goal
 
-abbrev pub invariant-loop-written : goal.invariant-loop-written
-invariant-loop-written l = Answering l.input l.from (lent l.initial.m l.initial.work l.initial.list) (lent l.m l.work l.list) l.initial.out l.out l.room l.next l.written l.known
+abbrev pub invariant-loop-output : goal.invariant-loop-output
+invariant-loop-output l = Answering l.input l.from (lent l.initial.m l.initial.work l.initial.list) (lent l.m l.work l.list) l.initial.output l.output l.room l.next l.known
 
-abbrev pub decreases-loop-written : goal.decreases-loop-written
-decreases-loop-written l = length l.input - l.next
+abbrev pub decreases-loop-output : goal.decreases-loop-output
+decreases-loop-output l = length l.input - l.next

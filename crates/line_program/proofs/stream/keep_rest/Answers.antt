@@ -1,12 +1,6 @@
--- `stream::keep_rest` meets its contract; its loop is in StreamLoops.
-use Rattle.line_program.proofs.StreamLoops.{keep_start, keep_again, keep_end}
+-- `stream::keep_rest` meets its contract.
+use Rattle.line_program.proofs.StreamLoops.{keep_copied}
 use Rattle.line_program.proofs.stream.keep_rest.Goals as goal
 
-pub loop-i-init : goal.loop-i-init
-loop-i-init c = search keep_start
-
-pub loop-i-preserved : goal.loop-i-preserved
-loop-i-preserved c = search keep_again
-
 pub returns : goal.returns
-returns c = search keep_end
+returns c = rw c.copy_within.ensures.after (keep_copied _ _ _ c.requires.from_le_to c.requires.to_in_bounds _ c.min-kept.ensures)

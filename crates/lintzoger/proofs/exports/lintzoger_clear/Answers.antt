@@ -2,8 +2,8 @@
 use Rattle.lintzoger.proofs.ExportReturns.{clear_accepted, clear_refusal}
 use Rattle.lintzoger.proofs.exports.lintzoger_clear.Goals as goal
 
-pub returns-in-Accepted : goal.returns-in-Accepted
-returns-in-Accepted c = search clear_accepted
+pub returns-in-Ok : goal.returns-in-Ok
+returns-in-Ok c = search clear_accepted
 
-pub returns-in_default : goal.returns-in_default
-returns-in_default c = search clear_refusal
+pub returns-in-Err : goal.returns-in-Err
+returns-in-Err c = search clear_refusal

@@ -1,12 +1,14 @@
 -- `exports::lintzoger_window` meets its contract; the laws that it needs are in ExportReturns.
 use Rattle.lintzoger.proofs.ExportReturns.{window_found, window_short, window_refusal}
 use Rattle.lintzoger.proofs.exports.lintzoger_window.Goals as goal
+use Rattle.lintzoger.proofs.exports.lintzoger_window.Goals.{in-ShortList, in_default}
 
-pub returns-in-Found : goal.returns-in-Found
-returns-in-Found c = search window_found
+pub returns-in-Ok : goal.returns-in-Ok
+returns-in-Ok c = search window_found
 
-pub returns-in-ShortList : goal.returns-in-ShortList
-returns-in-ShortList c = search window_short
-
-pub returns-in_default : goal.returns-in_default
-returns-in_default c = search window_refusal
+pub returns-after-refusal : goal.returns-after-refusal
+returns-after-refusal c =
+    elim c.match-refusal.branch [
+      | in-ShortList x ↦ search window_short
+      | in_default x ↦ search (window_refusal, x.in_default.not-ShortList)
+    ]

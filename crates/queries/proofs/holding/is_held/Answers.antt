@@ -6,11 +6,11 @@ use Rattle.queries.proofs.holding.is_held.Goals as goal
 pub polygon_has-requires : goal.polygon_has-requires
 polygon_has-requires c = search tree_polygon
 
-pub returns-then-not-polygon_has : goal.returns-then-not-polygon_has
-returns-then-not-polygon_has c = search held_outside
+pub point_below-requires : goal.point_below-requires
+point_below-requires c = search tree_sound_walk
 
-pub point_below-found-requires : goal.point_below-found-requires
-point_below-found-requires c = search tree_sound_walk
+pub returns-then-polygon_has : goal.returns-then-polygon_has
+returns-then-polygon_has c = search held_found
 
-pub returns : goal.returns
-returns c = search held_found
+pub returns-else-polygon_has : goal.returns-else-polygon_has
+returns-else-polygon_has c = search held_outside

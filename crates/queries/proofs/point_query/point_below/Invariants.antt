@@ -2,8 +2,5 @@
 use Rattle.queries.proofs.PathWalk.{OnPath}
 use Rattle.queries.proofs.point_query.point_below.Given as goal
 
-abbrev pub invariant-loop-remaining : goal.invariant-loop-remaining
-invariant-loop-remaining l = OnPath l.c l.level l.m l.lo l.k l.remaining l.from l.at l.visits
-
-abbrev pub decreases-loop-remaining : goal.decreases-loop-remaining
-decreases-loop-remaining l = l.remaining
+abbrev pub invariant-loop-depth : goal.invariant-loop-depth
+invariant-loop-depth l = OnPath l.c l.level l.m l.lo l.k l.depth l.from l.at

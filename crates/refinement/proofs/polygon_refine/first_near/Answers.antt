@@ -1,15 +1,14 @@
--- `polygon_refine::first_near` meets its contract; its loop is in PairLoops.
-use Rattle.geometry.proofs.ArrayLaws.{of_map}
-use Rattle.refinement.proofs.PairLoops.{compare_start, compare_on}
+-- `polygon_refine::first_near` meets its contract; the law that it needs is in PairLoops.
+use Rattle.std.proofs.Common.{rules, get_or}
+use Rattle.geometry.specs.Cells.{no_rect}
+use Rattle.refinement.specs.Pairs.{near}
+use Rattle.refinement.proofs.FindLaws.{finds}
+use Rattle.refinement.proofs.PairLoops.{first_apart}
 use Rattle.refinement.proofs.polygon_refine.first_near.Goals as goal
 
-pub loop-k-init : goal.loop-k-init
-loop-k-init c = search (compare_start, of_map)
-
-pub loop-k-preserved : goal.loop-k-preserved
-loop-k-preserved c =
-    let inv = c.loop-k.invariant in
-    compare_on _ _ _ _ inv _ _ _ c.loop-k-test.true
-    c.is_within.ensures c.if-is_within.false
-    c.is_within-in-loop-k.ensures c.if-is_within-2.false
-    c.is_joinable.ensures c.if-is_joinable.false
+pub returns-clause-apart : goal.returns-clause-apart
+returns-clause-apart c =
+    let l = c.args.p.rects in
+    let i = c.args.i in
+    let f = finds (λ k. near (get_or l k no_rect) (get_or l i no_rect)) _ _ _ _ c.find.ensures.ran (λ x b q k. search rules) in
+    search (first_apart, f)

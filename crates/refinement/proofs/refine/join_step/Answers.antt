@@ -2,8 +2,8 @@
 use Rattle.refinement.proofs.RefineLoops.{step_done, pair_first}
 use Rattle.refinement.proofs.refine.join_step.Goals as goal
 
-pub returns-then-n-i : goal.returns-then-n-i
-returns-then-n-i c = search step_done
+pub returns-in_err-i : goal.returns-in_err-i
+returns-in_err-i c = search (step_done, c.in_err-i.was)
 
 pub join_pair-requires-clause-next_pair : goal.join_pair-requires-clause-next_pair
-join_pair-requires-clause-next_pair c = search pair_first
+join_pair-requires-clause-next_pair c = search (pair_first, c.in_ok-i.was)

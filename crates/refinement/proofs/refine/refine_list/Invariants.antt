@@ -2,8 +2,8 @@
 use Rattle.refinement.proofs.RefineLoops.{Refining}
 use Rattle.refinement.proofs.refine.refine_list.Given as goal
 
-abbrev pub invariant-loop-m : goal.invariant-loop-m
-invariant-loop-m l = Refining l.initial.list l.n l.list l.m l.s
+abbrev pub invariant-loop-next : goal.invariant-loop-next
+invariant-loop-next l = Refining l.initial.list l.n l.list l.m l.s
 
-abbrev pub decreases-loop-m : goal.decreases-loop-m
-decreases-loop-m l = l.m
+abbrev pub decreases-loop-next : goal.decreases-loop-next
+decreases-loop-next l = l.m

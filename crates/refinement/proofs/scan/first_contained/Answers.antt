@@ -1,15 +1,13 @@
--- `scan::first_contained` meets its contract; its loop is in FindLoops.
-use Rattle.refinement.proofs.FindLoops.{contained_start, find_hit, find_miss, find_end}
+-- `scan::first_contained` meets its contract; the law that it needs is in FindLaws.
+use Rattle.std.proofs.Common.{rules}
+use Rattle.geometry.specs.Numbers.{rects_in}
+use Rattle.geometry.specs.Refine.{contained}
+use Rattle.refinement.proofs.FindLaws.{finds, contained_found}
 use Rattle.refinement.proofs.scan.first_contained.Goals as goal
 
-pub loop-i-init : goal.loop-i-init
-loop-i-init c = search contained_start
-
-pub returns-then-is_contained : goal.returns-then-is_contained
-returns-then-is_contained c = search find_hit
-
-pub loop-i-preserved : goal.loop-i-preserved
-loop-i-preserved c = search find_miss
-
 pub returns : goal.returns
-returns c = search find_end
+returns c =
+    let test = contained (rects_in c.args.list.now c.args.n) in
+    contained_found _ _ _ _ c.requires.uncontained_before
+    (finds test _ _ _ _ c.find.ensures.ran
+    (λ x b q k. search rules))

@@ -1,18 +1,19 @@
--- `scan::first_in_union` meets its contract; its loop is in FindLoops.
-use Rattle.refinement.proofs.FindLoops.{union_start, union_inside, find_hit, find_miss, find_end}
+-- `scan::first_in_union` meets its contract; the law that it needs is in FindLaws.
+use Rattle.std.proofs.Common.{rules}
+use Rattle.std.proofs.lemmas.Iterator.{serves_from_Range}
+use Rattle.geometry.specs.Numbers.{rects_in}
+use Rattle.refinement.specs.Search.{in_union}
+use Rattle.refinement.proofs.FindLaws.{finds, union_inside, union_found}
 use Rattle.refinement.proofs.scan.first_in_union.Goals as goal
 
-pub loop-i-init : goal.loop-i-init
-loop-i-init c = search union_start
-
-pub is_in_union-requires-clause-at_lt_n : goal.is_in_union-requires-clause-at_lt_n
-is_in_union-requires-clause-at_lt_n c = search union_inside
-
-pub returns-then-is_in_union : goal.returns-then-is_in_union
-returns-then-is_in_union c = search find_hit
-
-pub loop-i-preserved : goal.loop-i-preserved
-loop-i-preserved c = search find_miss
+pub find-requires-clause-callable : goal.find-requires-clause-callable
+find-requires-clause-callable c =
+    let g = union_inside _ _ _ c.requires.only_container in
+    serves_from_Range (λ x q k. search rules) (λ x low high. search rules)
 
 pub returns : goal.returns
-returns c = search find_end
+returns c =
+    let test = in_union (rects_in c.args.list.now c.args.n) c.args.at in
+    union_found _ _ _ _ c.requires.only_container
+    (finds test _ _ _ _ c.find.ensures.ran
+    (λ x b q k. search rules))

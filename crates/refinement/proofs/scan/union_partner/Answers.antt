@@ -1,15 +1,13 @@
--- `scan::union_partner` meets its contract; its loop is in FindLoops.
-use Rattle.refinement.proofs.FindLoops.{union_partner_start, find_hit, find_miss, find_end}
+-- `scan::union_partner` meets its contract; the law that it needs is in FindLaws.
+use Rattle.std.proofs.Common.{rules}
+use Rattle.geometry.specs.Numbers.{rects_in}
+use Rattle.refinement.specs.Search.{joins_union}
+use Rattle.refinement.proofs.FindLaws.{finds, union_partner_found}
 use Rattle.refinement.proofs.scan.union_partner.Goals as goal
 
-pub loop-i-init : goal.loop-i-init
-loop-i-init c = search union_partner_start
-
-pub returns-then-joins_union : goal.returns-then-joins_union
-returns-then-joins_union c = search find_hit
-
-pub loop-i-preserved : goal.loop-i-preserved
-loop-i-preserved c = search find_miss
-
 pub returns : goal.returns
-returns c = search find_end
+returns c =
+    let test = joins_union (rects_in c.args.list.now c.args.n) c.args.at in
+    union_partner_found _ _ _ _
+    (finds test _ _ _ _ c.find.ensures.ran
+    (λ x b q k. search rules))

@@ -12,8 +12,8 @@ take_entry-requires t c = search below_takes
 pub returns-then-level-eq0 : goal.returns-then-level-eq0
 returns-then-level-eq0 t c = search below_leaf
 
-pub child_with-child-requires : goal.child_with-child-requires
-child_with-child-requires t c = search below_children
+pub child_with-requires : goal.child_with-requires
+child_with-requires t c = search below_children
 
 pub returns-in_default : goal.returns-in_default
 returns-in_default t c = search below_some

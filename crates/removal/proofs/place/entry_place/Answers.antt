@@ -1,9 +1,6 @@
 -- `place::entry_place` meets its contract; its loop is in PlaceLoops.
-use Rattle.removal.proofs.PlaceLoops.{seek_start, seek_again, seek_found}
+use Rattle.removal.proofs.PlaceLoops.{seek_again, seek_found}
 use Rattle.removal.proofs.place.entry_place.Goals as goal
-
-pub loop-c-init : goal.loop-c-init
-loop-c-init c = search seek_start
 
 pub loop-c-preserved : goal.loop-c-preserved
 loop-c-preserved c = search seek_again

@@ -1,25 +1,24 @@
 -- `calling::make_call` meets its contract; the laws that it needs are in CallReturns.
-use native.Mathlib.Omega.{arith}
 use Rattle.replay.proofs.CallReturns.{replied_insert, replied_remove, replied_clear, replied_point, replied_window, replied_nearest, replied_empty}
 use Rattle.replay.proofs.calling.make_call.Goals as goal
 
-pub returns-then-call-eq0 : goal.returns-then-call-eq0
-returns-then-call-eq0 c = search (replied_insert, arith)
+pub returns-in-Insert : goal.returns-in-Insert
+returns-in-Insert c = search replied_insert
 
-pub returns-then-call-eq1 : goal.returns-then-call-eq1
-returns-then-call-eq1 c = search (replied_remove, arith)
+pub returns-in-Remove : goal.returns-in-Remove
+returns-in-Remove c = search replied_remove
 
-pub returns-then-call-eq2 : goal.returns-then-call-eq2
-returns-then-call-eq2 c = search (replied_clear, arith)
+pub returns-in-Clear : goal.returns-in-Clear
+returns-in-Clear c = search replied_clear
 
-pub returns-then-call-eq3 : goal.returns-then-call-eq3
-returns-then-call-eq3 c = search (replied_point, arith)
+pub returns-in-Point : goal.returns-in-Point
+returns-in-Point c = search replied_point
 
-pub returns-then-call-eq4 : goal.returns-then-call-eq4
-returns-then-call-eq4 c = search (replied_window, arith)
+pub returns-in-Window : goal.returns-in-Window
+returns-in-Window c = search replied_window
 
-pub returns-then-call-eq5 : goal.returns-then-call-eq5
-returns-then-call-eq5 c = search (replied_nearest, arith)
+pub returns-in-Nearest : goal.returns-in-Nearest
+returns-in-Nearest c = search replied_nearest
 
-pub returns : goal.returns
-returns c = search (replied_empty, arith)
+pub returns-in-IsEmpty : goal.returns-in-IsEmpty
+returns-in-IsEmpty c = search replied_empty

@@ -1,22 +1,21 @@
--- `check::none_meets` meets its contract; its loop is in CheckLoops.
-use borrow.Author.Tests.{not-true, not-false}
-use Rattle.soundness.proofs.CheckLoops.{meet_start, meet_place, meet_other, meet_stop, meet_on, meet_end}
+-- `check::none_meets` meets its contract.
+use mathlib.Core.Path.{◌∙◌}
+use Rattle.std.proofs.Common.{rules, tests}
+use Rattle.std.proofs.lemmas.Iterator.{YieldsList-from_slice}
+use Rattle.std.proofs.lemmas.Iterator.Adapters.{serves_from_places}
+use Rattle.std.proofs.lemmas.Iterator.Search.{all_from_yields_List}
+use Rattle.cover.proofs.PassLoops.{list_all-pass}
+use Rattle.soundness.specs.Check.{parts_apart}
+use Rattle.soundness.proofs.CheckLoops.{part_among}
 use Rattle.soundness.proofs.check.none_meets.Goals as goal
 
-pub loop-j-init : goal.loop-j-init
-loop-j-init c = search meet_start
-
-pub parts_apart-requires-clause-polygon_part : goal.parts_apart-requires-clause-polygon_part
-parts_apart-requires-clause-polygon_part c = search meet_place
-
-pub parts_apart-requires-clause-polygon_part_2 : goal.parts_apart-requires-clause-polygon_part_2
-parts_apart-requires-clause-polygon_part_2 c = search meet_other
-
-pub returns-then-not-parts_apart : goal.returns-then-not-parts_apart
-returns-then-not-parts_apart c = search (meet_stop, not-true)
-
-pub loop-j-preserved : goal.loop-j-preserved
-loop-j-preserved c = search (meet_on, not-false)
+pub all-requires-clause-callable : goal.all-requires-clause-callable
+all-requires-clause-callable c =
+    serves_from_places (YieldsList-from_slice c.args.others.now cc) (λ x q k. search (rules, tests))
+    (λ x k h e. let d = part_among c.args.m.now c.args.others.now c.requires.polygon_parts k x.now h e in search (rules, d))
 
 pub returns : goal.returns
-returns c = search meet_end
+returns c =
+    all_from_yields_List (parts_apart c.args.m.now c.args.k) _ _ _ c.all.ensures.ran (YieldsList-from_slice c.args.others.now cc)
+    (λ x b q k. search (rules, tests))
+    ∙ list_all-pass _ _

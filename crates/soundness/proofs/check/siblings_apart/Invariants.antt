@@ -1,6 +1,4 @@
 -- `check::siblings_apart` meets its contract; its loop is in CheckLoops.
-use Prim.Native.Nat.{◌-◌}
-use lib.ListN.{length}
 use Rattle.cover.specs.Tests.{pairs_pass}
 use Rattle.soundness.specs.Check.{parts_apart}
 use Rattle.soundness.proofs.CheckLoops.{Siblings}
@@ -8,6 +6,3 @@ use Rattle.soundness.proofs.check.siblings_apart.Given as goal
 
 abbrev pub invariant-loop-i : goal.invariant-loop-i
 invariant-loop-i l = Siblings l.m l.ks l.i (pairs_pass (parts_apart l.m) l.ks)
-
-abbrev pub decreases-loop-i : goal.decreases-loop-i
-decreases-loop-i l = length l.ks - l.i

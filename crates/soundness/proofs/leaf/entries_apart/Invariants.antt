@@ -1,5 +1,4 @@
 -- `leaf::entries_apart` meets its contract; its loop is in LeafLaws.
-use Prim.Native.Nat.{◌-◌}
 use Rattle.plane.specs.Fanout.{fanout}
 use Rattle.memory.specs.Layout.{item_count, entries_in}
 use Rattle.cover.specs.Tests.{pairs_pass}
@@ -9,6 +8,3 @@ use Rattle.soundness.proofs.leaf.entries_apart.Given as goal
 
 abbrev pub invariant-loop-i : goal.invariant-loop-i
 invariant-loop-i l = Differing l.p l.count l.i (pairs_pass (apart_test fanout 0) (entries_in l.p (item_count l.p)))
-
-abbrev pub decreases-loop-i : goal.decreases-loop-i
-decreases-loop-i l = 8 - l.i

@@ -1,19 +1,17 @@
--- `leaf::entries_inside` meets its contract; its loop is in LeafLaws.
-use Rattle.layout.proofs.NodeLaws.{rects_long}
-use Rattle.soundness.proofs.LeafLaws.{hold_start, hold_stop, hold_on, hold_end}
+-- `leaf::entries_inside` meets its contract.
+use Rattle.std.proofs.Common.{rules, ◌∙◌}
+use Rattle.std.proofs.lemmas.Iterator.Consumers.{YieldsList-from_first}
+use Rattle.std.proofs.lemmas.Iterator.Search.{all_from_yields_List}
+use Rattle.cover.proofs.PassLoops.{list_all-pass}
+use Rattle.plane.specs.Fanout.{fanout}
+use Rattle.geometry.specs.Containment.{containment}
+use Rattle.memory.specs.Layout.{polygon_in}
+use Rattle.memory.specs.SoundTest.{item_test}
+use Rattle.layout.specs.Entries.{tree_entry, entries_left}
 use Rattle.soundness.proofs.leaf.entries_inside.Goals as goal
 
-pub loop-i-init : goal.loop-i-init
-loop-i-init c = search hold_start
-
-pub contains-requires : goal.contains-requires
-contains-requires c = search rects_long
-
-pub returns-then-not-contains : goal.returns-then-not-contains
-returns-then-not-contains c = search hold_stop
-
-pub loop-i-preserved : goal.loop-i-preserved
-loop-i-preserved c = search hold_on
-
 pub returns : goal.returns
-returns c = search hold_end
+unfolding item_test containment
+returns c =
+    all_from_yields_List (item_test fanout 0 (polygon_in c.args.p.now)) c.all.new.self _ _ c.all.ensures.ran (YieldsList-from_first tree_entry entries_left _ c.entries.ensures) (λ x b q k. search rules)
+    ∙ list_all-pass _ _

@@ -1,5 +1,5 @@
 -- `leaf::none_like` meets its contract; its loop is in LeafLaws.
-use Prim.Native.Nat.{◌-◌, ◌+◌}
+use Prim.Native.Nat.{◌+◌}
 use lib.ListN.{drop}
 use Rattle.plane.specs.Fanout.{fanout}
 use Rattle.memory.specs.Layout.{entry_in, entries_in}
@@ -10,6 +10,3 @@ use Rattle.soundness.proofs.leaf.none_like.Given as goal
 
 abbrev pub invariant-loop-j : goal.invariant-loop-j
 invariant-loop-j l = Unlike l.p l.n l.i l.j (all_pass (apart_test fanout 0 (entry_in l.p l.i)) (drop (l.i + 1) (entries_in l.p l.n)))
-
-abbrev pub decreases-loop-j : goal.decreases-loop-j
-decreases-loop-j l = 8 - l.j

@@ -1,6 +1,5 @@
 -- `opening::open` meets its contract; its returns are in OpenLaws.
 use native.Mathlib.Omega.{arith}
-use borrow.Author.Tests.{not-true, not-false}
 use Rattle.memory.proofs.ReadingLaws.{index_length}
 use Rattle.soundness.proofs.OpenLaws.{right_head, right_bits, open_empty, open_zero, open_deep, open_head, open_unsound, open_bits, open_in, open_wide, open_unused, open_tree}
 use Rattle.soundness.proofs.opening.open.Goals as goal
@@ -14,26 +13,26 @@ returns-then-all_zero c = search open_empty
 pub returns-then-height-eq0 : goal.returns-then-height-eq0
 returns-then-height-eq0 c = search open_zero
 
-pub root_part-root-requires : goal.root_part-root-requires
-root_part-root-requires c = search right_head
+pub root_part-part-requires : goal.root_part-part-requires
+root_part-part-requires c = search right_head
 
-pub returns-then-root-level : goal.returns-then-root-level
-returns-then-root-level c = search open_deep
+pub returns-then-part-level : goal.returns-then-part-level
+returns-then-part-level c = search open_deep
 
 pub head_rest_zero-requires : goal.head_rest_zero-requires
 head_rest_zero-requires c = search right_head
 
 pub returns-then-not-head_rest_zero : goal.returns-then-not-head_rest_zero
-returns-then-not-head_rest_zero c = search (open_head, not-true)
+returns-then-not-head_rest_zero c = search open_head
 
-pub check_node-nodes-requires-clause-index_length : goal.check_node-nodes-requires-clause-index_length
-check_node-nodes-requires-clause-index_length c = search index_length
+pub check_node-requires-clause-index_length : goal.check_node-requires-clause-index_length
+check_node-requires-clause-index_length c = search index_length
 
-pub check_node-nodes-requires-clause-lo_le_k : goal.check_node-nodes-requires-clause-lo_le_k
-check_node-nodes-requires-clause-lo_le_k c = omega arith
+pub check_node-requires-clause-lo_le_k : goal.check_node-requires-clause-lo_le_k
+check_node-requires-clause-lo_le_k c = omega arith
 
-pub returns-then-nodes-eq0 : goal.returns-then-nodes-eq0
-returns-then-nodes-eq0 c = search open_unsound
+pub returns-in_default : goal.returns-in_default
+returns-in_default c = search open_unsound
 
 pub bits_set-requires : goal.bits_set-requires
 bits_set-requires c = search right_bits
@@ -51,21 +50,20 @@ pub others_zero-requires : goal.others_zero-requires
 others_zero-requires c = search index_length
 
 pub returns-then-not-others_zero : goal.returns-then-not-others_zero
-returns-then-not-others_zero c = search (open_unused, not-true)
+returns-then-not-others_zero c = search open_unused
 
 pub returns : goal.returns
 returns c =
     search (
       open_tree,
-      not-false,
       c.requires,
       c.tree_height-height.ensures,
       c.if-height-eq0.false,
-      c.root_part-root.ensures,
+      c.root_part-part.ensures,
       c.head_rest_zero.ensures,
       c.if-not-head_rest_zero.false,
-      c.check_node-nodes.ensures,
-      c.if-nodes-eq0.false,
+      c.check_node.ensures,
+      c.in-Some.is,
       c.bits_set.ensures,
       c.if-nodes-bits_set.false,
       c.part_at.ensures.result_value,

@@ -8,8 +8,8 @@ tree_height-height-requires c = search reads_long
 pub returns-then-height-eq0 : goal.returns-then-height-eq0
 returns-then-height-eq0 c = search reopen_empty
 
-pub root_part-root-requires : goal.root_part-root-requires
-root_part-root-requires c = search reads_long
+pub root_part-part-requires : goal.root_part-part-requires
+root_part-part-requires c = search reads_long
 
 pub returns : goal.returns
 returns c = search reopen_tree

@@ -1,12 +1,19 @@
--- `candidates::best_line` meets its contract; its loop is in CandidateLoops.
-use Rattle.split_line.proofs.CandidateLoops.{best_start, best_again, best_end}
+-- `candidates::best_line` meets its contract; its loop is in TriedLoop.
+use Rattle.split_line.proofs.CandidateLoops.{rect_valid}
+use Rattle.split_line.proofs.TriedLoop.{best_start, best_again, best_found, best_none}
 use Rattle.split_line.proofs.candidates.best_line.Goals as goal
 
-pub loop-i-init : goal.loop-i-init
-loop-i-init c = search best_start
+pub loop-r-init : goal.loop-r-init
+loop-r-init c = search best_start
 
-pub loop-i-preserved : goal.loop-i-preserved
-loop-i-preserved c = search best_again
+pub try_branch-best-requires : goal.try_branch-best-requires
+try_branch-best-requires c = search rect_valid
 
-pub returns : goal.returns
-returns c = search best_end
+pub loop-r-preserved : goal.loop-r-preserved
+loop-r-preserved c = search best_again
+
+pub returns-in-Some : goal.returns-in-Some
+returns-in-Some c = search best_found
+
+pub returns-in-None : goal.returns-in-None
+returns-in-None c = search best_none

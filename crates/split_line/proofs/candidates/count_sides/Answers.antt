@@ -2,8 +2,8 @@
 use Rattle.split_line.proofs.CandidateLoops.{counting_start, rect_valid, few_lefts, few_rights, few_both, counting_again, counting_end}
 use Rattle.split_line.proofs.candidates.count_sides.Goals as goal
 
-pub loop-i-init : goal.loop-i-init
-loop-i-init c = search counting_start
+pub loop-r-init : goal.loop-r-init
+loop-r-init c = search counting_start
 
 pub is_right-requires : goal.is_right-requires
 is_right-requires c = search rect_valid
@@ -11,8 +11,8 @@ is_right-requires c = search rect_valid
 pub add-counts-requires : goal.add-counts-requires
 add-counts-requires c = search (few_lefts, few_rights, few_both)
 
-pub loop-i-preserved : goal.loop-i-preserved
-loop-i-preserved c = search counting_again
+pub loop-r-preserved : goal.loop-r-preserved
+loop-r-preserved c = search counting_again
 
 pub returns : goal.returns
 returns c = search counting_end

@@ -1,5 +1,5 @@
 -- `candidates::try_branch` meets its contract.
-use Rattle.split_line.proofs.CandidateLoops.{behind_fits_x, behind_fits_y, behind_llx, behind_urx, behind_lly, behind_ury, four_tried}
+use Rattle.split_line.proofs.TriedLoop.{behind_fits_x, behind_fits_y, behind_llx, behind_urx, behind_lly, behind_ury, four_tried}
 use Rattle.split_line.proofs.candidates.try_branch.Goals as goal
 
 pub overflow_add-r : goal.overflow_add-r
@@ -20,5 +20,5 @@ try_line-third-requires c = search behind_lly
 pub try_line-requires : goal.try_line-requires
 try_line-requires c = search behind_ury
 
-pub returns : goal.returns
-returns c = search four_tried
+pub returns-clause-value : goal.returns-clause-value
+returns-clause-value c = search four_tried

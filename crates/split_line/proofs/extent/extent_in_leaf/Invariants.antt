@@ -1,10 +1,8 @@
 -- `extent::extent_in_leaf` meets its contract; its loop is in ExtentWalk.
-use Prim.Native.Nat.{◌-◌}
+use lib.ListN.{length}
+use Rattle.memory.specs.Layout.{item_count}
 use Rattle.split_line.proofs.ExtentWalk.{ExtentLeaf}
 use Rattle.split_line.proofs.extent.extent_in_leaf.Given as goal
 
-abbrev pub invariant-loop-i : goal.invariant-loop-i
-invariant-loop-i l = ExtentLeaf l.sides l.p l.n l.i l.extent
-
-abbrev pub decreases-loop-i : goal.decreases-loop-i
-decreases-loop-i l = l.n - l.i
+abbrev pub invariant-loop-e : goal.invariant-loop-e
+invariant-loop-e l = ExtentLeaf l.sides l.p (item_count l.p) (length l.yielded) l.extent

@@ -1,9 +1,11 @@
--- `sides::is_below` meets its contract; the laws that it needs are in SideLaws.
-use Rattle.split_line.proofs.SideLaws.{below_x, below_y}
+-- `sides::is_below` meets its contract.
+use Rattle.geometry.specs.Clip.{below}
 use Rattle.split_line.proofs.sides.is_below.Goals as goal
 
 pub returns-in-AtX : goal.returns-in-AtX
-returns-in-AtX c = search below_x
+unfolding below
+returns-in-AtX c = rw c.in-AtX.is
 
 pub returns-in-AtY : goal.returns-in-AtY
-returns-in-AtY c = search below_y
+unfolding below
+returns-in-AtY c = rw c.in-AtY.is

@@ -1,16 +1,13 @@
--- `sides::on_all` meets its contract; its loop is in SideLaws.
-use borrow.Author.Tests.{not-true, not-false}
-use Rattle.split_line.proofs.SideLaws.{side_start, side_end, side_off, side_on}
+-- `sides::on_all` meets its contract.
+use mathlib.Core.Path.{◌∙◌}
+use Rattle.std.proofs.Common.{rules, tests}
+use Rattle.std.proofs.lemmas.Iterator.{YieldsList-from_slice}
+use Rattle.std.proofs.lemmas.Iterator.Search.{all_from_yields_List}
+use Rattle.split_line.specs.Sides.{on_side}
+use Rattle.split_line.proofs.SideLaws.{all_every}
 use Rattle.split_line.proofs.sides.on_all.Goals as goal
 
-pub loop-i-init : goal.loop-i-init
-loop-i-init c = search side_start
-
-pub returns-then-not-is_on : goal.returns-then-not-is_on
-returns-then-not-is_on c = search (side_off, not-true)
-
-pub loop-i-preserved : goal.loop-i-preserved
-loop-i-preserved c = search (side_on, not-false)
-
 pub returns : goal.returns
-returns c = search side_end
+returns c =
+    all_from_yields_List (λ s. on_side s c.args.c) _ _ _ c.all.ensures.ran (YieldsList-from_slice c.args.sides.now (cc)) (λ x b q k. search (rules, tests))
+    ∙ all_every c.args.sides.now c.args.c

@@ -1,22 +1,21 @@
 -- `counting::count_branches` meets its contract; its loop is in PathCount.
-use Rattle.tree_after.proofs.PathCount.{range_start, range_end, range_walk, range_again, count_few}
-use Rattle.tree_after.proofs.RowLaws.{range_nine, range_child}
+use native.Mathlib.Nat.{add_assoc}
+use Rattle.tree_after.proofs.PathCount.{range_end, range_walk, range_again, count_few}
+use Rattle.tree_after.proofs.RowLaws.{range_in, range_inside, range_over, range_child}
 use Rattle.tree_after.proofs.counting.count_branches.Goals as goal
 
-pub loop-i-init : goal.loop-i-init
-loop-i-init c = search range_start
-
-pub child-j-requires : goal.child-j-requires
-child-j-requires c = search range_nine
+pub slice_bounds-part-items-end : goal.slice_bounds-part-items-end
+slice_bounds-part-items-end c = search range_in
 
 pub count_below-below-requires : goal.count_below-below-requires
-count_below-below-requires c = search (range_walk, range_child)
+count_below-below-requires c = search (range_walk, range_inside, range_child)
 
 pub capped_sum-nodes-requires-clause-b_le_count_limit : goal.capped_sum-nodes-requires-clause-b_le_count_limit
 capped_sum-nodes-requires-clause-b_le_count_limit c = search count_few
 
-pub loop-i-preserved : goal.loop-i-preserved
-loop-i-preserved c = search (range_again, range_child)
+pub loop-part-preserved : goal.loop-part-preserved
+loop-part-preserved c =
+    rw (← (add_assoc c.args.from c.loop-part.part-index 1)) (search (range_again, range_inside, range_child))
 
 pub returns : goal.returns
-returns c = search range_end
+returns c = search (range_end, range_over)

@@ -8,5 +8,5 @@ returns-then-sides-eq0 c = search leaf_whole
 pub returns-then-any_remaining : goal.returns-then-any_remaining
 returns-then-any_remaining c = search leaf_some
 
-pub returns : goal.returns
-returns c = search leaf_dropped
+pub returns-else-any_remaining : goal.returns-else-any_remaining
+returns-else-any_remaining c = search leaf_dropped

@@ -1,10 +1,9 @@
--- `leaf::gather` meets its contract; its loop is in LeafLoop.
-use Prim.Native.Nat.{◌-◌}
-use Rattle.tree_after.proofs.LeafLoop.{GatherLoop}
+-- `leaf::gather` meets its contract: the leaf has the entries that the loop has taken.
+use mathlib.Core.List.{map}
+use mathlib.Core.Path.{◌≡◌}
+use Rattle.layout.specs.Entries.{tree_entry}
+use Rattle.layout.specs.Loaded.{leaf_of}
 use Rattle.tree_after.proofs.leaf.gather.Given as goal
 
-abbrev pub invariant-loop-i : goal.invariant-loop-i
-invariant-loop-i l = GatherLoop l.sides l.p l.n l.i l.remaining
-
-abbrev pub decreases-loop-i : goal.decreases-loop-i
-decreases-loop-i l = l.n - l.i
+abbrev pub invariant-loop-e : goal.invariant-loop-e
+invariant-loop-e l = l.remaining ≡ leaf_of (map tree_entry l.yielded)

@@ -6,8 +6,8 @@ use Rattle.tree_after.proofs.node.write_node.Goals as goal
 pub returns-then-not-is_kept : goal.returns-then-not-is_kept
 returns-then-not-is_kept c = search (top_dropped, not-true)
 
-pub put_node-requires-clause-part_room : goal.put_node-requires-clause-part_room
-put_node-requires-clause-part_room c = search (top_room, not-false)
+pub put_node-requires : goal.put_node-requires
+put_node-requires c = search (top_room, not-false)
 
 pub returns : goal.returns
 returns c = search (top_kept, not-false)

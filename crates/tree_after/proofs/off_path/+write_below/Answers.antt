@@ -2,9 +2,9 @@
 use native.Mathlib.Omega.{arith}
 use Rattle.walks.proofs.WalkRows.{node_part_lem}
 use Rattle.tree_after.proofs.DeepRows.{deep_fits}
-use Rattle.tree_after.proofs.WriteLoop.{write_start, child_walk_lem, entered_room, count_small}
+use Rattle.tree_after.proofs.WriteLoop.{write_start, child_walk_lem, child_room, count_small}
 use Rattle.tree_after.proofs.WriteBelow.{plain_room, plain_writes, at_leaf_room, at_leaf_writes, write_one, write_nothing, write_moved, node_gone, node_own_room, node_writes}
-use Rattle.walks.proofs.WalkNode.{walk_count, walk_nine, walk_child}
+use Rattle.walks.proofs.WalkChildren.{children_here, child_here}
 use Rattle.tree_after.proofs.off_path.+write_below.Goals as goal
 use Rattle.tree_after.proofs.off_path.+write_below.Goals.{else-after-free, then-after-free}
 
@@ -23,14 +23,11 @@ write_leaf-requires-clause-room t c = search at_leaf_room
 pub returns-then-level-eq0 : goal.returns-then-level-eq0
 returns-then-level-eq0 t c = search at_leaf_writes
 
-pub loop-i-init : goal.loop-i-init
-loop-i-init t c = search (write_start, walk_count)
-
-pub child-j-requires : goal.child-j-requires
-child-j-requires t c = search walk_nine
+pub loop-part-init : goal.loop-part-init
+loop-part-init t c = search (write_start, children_here)
 
 pub write_below-after-requires : goal.write_below-after-requires
-write_below-after-requires t c = (omega arith, (search (child_walk_lem, walk_child), search entered_room))
+write_below-after-requires t c = (omega arith, (search (child_walk_lem, child_here), search (child_room, child_here)))
 
 pub overflow_sub-after : goal.overflow_sub-after
 overflow_sub-after t c = search write_moved
@@ -39,10 +36,10 @@ pub add_child-requires : goal.add_child-requires
 add_child-requires t c = search count_small
 
 pub overflow_add-low : goal.overflow_add-low
-overflow_add-low t c = search (deep_fits, walk_child)
+overflow_add-low t c = search (deep_fits, child_here)
 
-pub loop-i-preserved : goal.loop-i-preserved
-loop-i-preserved t c = elim c.if-after-free.branch [ then-after-free x ↦ search (write_one, walk_child) | else-after-free x ↦ search (write_nothing, walk_child) ]
+pub loop-part-preserved : goal.loop-part-preserved
+loop-part-preserved t c = elim c.if-after-free.branch [ then-after-free x ↦ search (write_one, child_here) | else-after-free x ↦ search (write_nothing, child_here) ]
 
 pub returns-then-remaining-eq0 : goal.returns-then-remaining-eq0
 returns-then-remaining-eq0 t c = search node_gone

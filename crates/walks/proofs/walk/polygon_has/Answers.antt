@@ -1,10 +1,6 @@
 -- `walk::polygon_has` meets its contract; the laws that it needs are in WalkParts.
-use Rattle.layout.proofs.NodeLaws.{polygon_few}
 use Rattle.walks.proofs.WalkParts.{polygon_has_lem}
 use Rattle.walks.proofs.walk.polygon_has.Goals as goal
-
-pub contains-requires : goal.contains-requires
-contains-requires c = search polygon_few
 
 pub returns : goal.returns
 returns c = search polygon_has_lem
