@@ -85,8 +85,8 @@ pub put_kept : (a b d : Option (List ℕ)) (text rest : List ℕ) → Put a b te
 put_kept a b d text rest p k = record { done = p.done; parts = p.parts; appended = appends_kept a b d p.done p.appended k }
 
 -- what was written, where a write failed or took nothing, or where the turns are used up
-pub put_start : (a b : Option (List ℕ)) (text rest : List ℕ) → Put a b text rest → StartWritten a b text
-put_start a b text rest p = record { done = p.done; rest = rest; parts = p.parts; appended = p.appended }
+pub put_start : (a b d : Option (List ℕ)) (text rest : List ℕ) → Put a b text rest → Keeps b d → StartWritten a d text
+put_start a b d text rest p k = record { done = p.done; rest = rest; parts = p.parts; appended = appends_kept a b d p.done p.appended k }
 
 -- all of it, where none is left
 pub put_all : (a b : Option (List ℕ)) (text : List ℕ) → Put a b text [] → Appends a b text

@@ -88,9 +88,9 @@ module _ (left left' left'' held held' held'' : Option (List ℕ)) (kept n to : 
   bytes : take to (take kept input ++ (buf ++ behind)) ≡ take kept input ++ take n buf
   bytes = ap (λ (k : ℕ). take k (take kept input ++ (buf ++ behind))) e ∙ read_bytes kept n input buf behind h l
 
-  pub lines_read : (k : ℕ) → FirstWritten (take to (take kept input ++ (buf ++ behind))) input' held' held'' (lent m work list) (lent m' work' list') (Ok k)
+  lines_kept : (k : ℕ) → FirstWritten (take to (take kept input ++ (buf ++ behind))) input' held' held'' (lent m work list) (lent m' work' list') (Ok k)
       → TurnWritten left left'' held held'' kept input input' (lent m work list) (lent m' work' list') (Ok (Some k))
-  lines_read k v =
+  lines_kept k v =
       let o = v.answered.kept in
       record {
         answered = read_served m work list _ input' m' work' list' k v.answered;
@@ -102,7 +102,7 @@ module _ (left left' left'' held held' held'' : Option (List ℕ)) (kept n to : 
         written = subst (λ (x : Option (List ℕ)). Appends x held'' v.answered.served.text) p v.written;
       }
 
-  pub lines_failed : (f : Failed) (q : Result (Option ℕ) Failed) → IsErr q
+  lines_failed : (f : Failed) (q : Result (Option ℕ) Failed) → IsErr q
       → FirstWritten (take to (take kept input ++ (buf ++ behind))) input' held' held'' (lent m work list) (lent m' work' list') (Err f)
       → TurnWritten left left'' held held'' kept input input' (lent m work list) (lent m' work' list') q
   lines_failed f (Ok _) i v = cc
@@ -111,3 +111,14 @@ module _ (left left' left'' held held' held'' : Option (List ℕ)) (kept n to : 
     taken = begun_on left left' (take kept input) (take n buf) _ v.answered.served.commands r bytes v.begun;
     written = subst (λ (x : Option (List ℕ)). StartWritten x held'' v.answered.served.text) p v.written;
   }
+
+  -- what is made of the answer to the first lines: the place is kept, a failure is handed on
+  abbrev pub Turned : Result ℕ Failed → Result (Option ℕ) Failed → Type 0
+  Turned (Ok k) q = q ≡ Ok (Some k)
+  Turned (Err f) q = IsErr q
+
+  pub lines_read : (t : Result ℕ Failed) (q : Result (Option ℕ) Failed) → Turned t q
+      → FirstWritten (take to (take kept input ++ (buf ++ behind))) input' held' held'' (lent m work list) (lent m' work' list') t
+      → TurnWritten left left'' held held'' kept input input' (lent m work list) (lent m' work' list') q
+  lines_read (Ok k) q i v = rw i (lines_kept k v)
+  lines_read (Err f) q i v = lines_failed f q i v

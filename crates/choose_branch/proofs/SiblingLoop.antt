@@ -74,19 +74,20 @@ module _ (m parts list₀ : List ℕ) (n : ℕ) (spare₀ : List ℕ) where
 
 -- the children before a place and after it
 module _ (m : List ℕ) (k place : ℕ) (b : Branches m k) (ks : List ℕ) (q : ks ≡ children_in (part m k)) (h : place < count_at m k) where
-  pub before_length : place ≡ length (take place ks)
-  before_length =
+  -- of those before it, as many as are taken
+  pub before_length : (x : ℕ) → x ≤ place → x ≡ length (take x ks)
+  before_length x f =
       let c = children_here m k b ks q in
-      sym (length-take-le place ks (omega arith))
+      sym (length-take-le x ks (omega arith))
 
   pub after_in : place + 1 ≤ length ks
   after_in = let c = children_here m k b ks q in omega arith
 
-  pub before_each : (i : ℕ) → i < length (take place ks) → PolygonPart m (get_or (take place ks) i 0)
-  before_each i g =
+  pub before_each : (x : ℕ) → x ≤ place → (i : ℕ) → i < length (take x ks) → PolygonPart m (get_or (take x ks) i 0)
+  before_each x f i g =
       let c = children_here m k b ks q in
-      let l = before_length in
-      let e : get_or (take place ks) i 0 ≡ get_or ks i 0 = get_or-take place ks i 0 (omega arith) in
+      let l = before_length x f in
+      let e : get_or (take x ks) i 0 ≡ get_or ks i 0 = get_or-take x ks i 0 (omega arith) in
       rw e (polygon_here m k b ks q i (omega arith))
 
   -- as the code takes them: a part of the list by its start and its length

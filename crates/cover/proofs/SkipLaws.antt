@@ -1,7 +1,9 @@
 -- The first rectangle that shares a cell with r: those before it may be left out of what they do not change.
-use Rattle.std.proofs.Common.{◌≡◌, ◌<◌, suc, length, arith, Bool, true, false, cond, List, [], ◌∷◌, refl, sym, ◌∙◌, Option, Some, None}
+use Rattle.std.proofs.Common.{◌≡◌, ◌<◌, ◌≤◌, ◌+◌, ◌-◌, ℕ, zero, suc, length, drop, arith, Bool, true, false, cond, List, [], ◌∷◌, refl, sym, ap, ◌∙◌, Option, Some, None}
 use Rattle.geometry.specs.declared.rect.Rect.{Rect}
 use Rattle.geometry.specs.Common.{shares_with}
+use Rattle.geometry.specs.Numbers.{rect_at, rects_in}
+use Rattle.geometry.proofs.NumberLaws.{rects_next}
 use denote.Param.Members.{Mut}
 use denote.Ref.{Bor}
 use Rattle.std.specs.Fn.{CalledAt}
@@ -42,6 +44,27 @@ module _ (r : Rect) where
       go : (b : Bool) → shares_with s r ≡ b → f p ≡ f (from_shared p r) → f (s ∷ p) ≡ f (cond b (s ∷ p) (from_shared p r))
       go true e ih = refl
       go false e ih = g s p e ∙ ih
+
+-- the rectangles from the i-th to before the j-th of n share no cell with r, so they cut nothing of it
+pub record Skipped (m : List ℕ) (n : ℕ) (r : Rect) (i j : ℕ) : Type 0 where
+  pub from : i ≤ j
+  pub to : j ≤ n
+  pub unshared : (k : ℕ) → i ≤ k → k < j → shares_with (rect_at m k) r ≡ false
+
+-- the same for any of those before it: what none of them changes is the same without them
+module _ {A : Type 0} (m : List ℕ) (n : ℕ) (r : Rect) (f : List Rect → A) (g : (s : Rect) (l : List Rect) → shares_with s r ≡ false → f (s ∷ l) ≡ f l) where
+  same_past : (d i j : ℕ) → i + d ≡ j → j ≤ n → ((k : ℕ) → i ≤ k → k < j → shares_with (rect_at m k) r ≡ false)
+      → f (drop i (rects_in m n)) ≡ f (drop j (rects_in m n))
+  same_past zero i j e t h =
+      let z : i ≡ j = omega arith in
+      rw z
+  same_past (suc d) i j e t h =
+      ap f (rects_next m n i (omega arith))
+      ∙ g (rect_at m i) (drop (i + 1) (rects_in m n)) (h i (omega arith) (omega arith))
+      ∙ same_past d (i + 1) j (omega arith) t (λ k a b. h k (omega arith) b)
+
+  pub skipped_same : (i j : ℕ) → Skipped m n r i j → f (drop i (rects_in m n)) ≡ f (drop j (rects_in m n))
+  skipped_same i j v = let a = v.from in same_past (j - i) i j (omega arith) v.to v.unshared
 
 -- a `find` for it gives it, and leaves those behind it
 module _ {F : Type 0} (g : Mut F (Bor Rect × Unit {0}) Bool) (r : Rect) (f : F)

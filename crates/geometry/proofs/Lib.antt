@@ -11,6 +11,7 @@ pub mod AreaFits
 pub mod AppendLaws
 pub mod ArrayLaws
 pub mod ContainmentLoop
+pub mod CopyLoop
 pub mod CutLoops
 pub mod FillLoops
 pub mod NumberLaws

@@ -55,7 +55,11 @@ pub fn copy(from: &[u32], n: usize, to: &mut [u32])
     requires n_in_bounds_2 { n ≤ length to.old }
     ensures { to.new ≡ take n from.now ++ drop n to.old }
 {
-    to[..n].copy_from_slice(&from[..n]);
+    // by places: of copy_from_slice the compiler makes a call of the C library's memmove, which the archives for C do not
+    // ask for otherwise
+    for i in 0..n {
+        to[i] = from[i];
+    }
 }
 
 // Whether the rectangles are valid.

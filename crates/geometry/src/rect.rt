@@ -127,10 +127,10 @@ impl Rect {
     pub fn is_within(self, other: Rect) -> bool
         ensures { result ≡ within self other }
     {
-        other.llx <= self.llx
-            && self.urx <= other.urx
-            && other.lly <= self.lly
-            && self.ury <= other.ury
+        if self.llx < other.llx {
+            return false;
+        }
+        self.urx <= other.urx && other.lly <= self.lly && self.ury <= other.ury
     }
 
     // Whether this one is contained in the other and is not equal to it.
@@ -146,10 +146,10 @@ impl Rect {
     fn is_stacked(self, other: Rect) -> bool
         ensures { result ≡ stacked self other }
     {
-        self.llx == other.llx
-            && self.urx == other.urx
-            && self.lly <= other.ury
-            && other.lly <= self.ury
+        if self.llx != other.llx {
+            return false;
+        }
+        self.urx == other.urx && self.lly <= other.ury && other.lly <= self.ury
     }
 
     // Equal ranges in y, touching or overlapping ones in x.
@@ -157,10 +157,10 @@ impl Rect {
     fn is_abreast(self, other: Rect) -> bool
         ensures { result ≡ abreast self other }
     {
-        self.lly == other.lly
-            && self.ury == other.ury
-            && self.llx <= other.urx
-            && other.llx <= self.urx
+        if self.lly != other.lly {
+            return false;
+        }
+        self.ury == other.ury && self.llx <= other.urx && other.llx <= self.urx
     }
 
     // Whether the union of the two is a rectangle by refine's rule.

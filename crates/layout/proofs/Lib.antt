@@ -1,4 +1,5 @@
 pub mod ZeroLaws
+pub mod CopyLaws
 pub mod BitLaws
 pub mod NodeLaws
 pub mod PartLaws

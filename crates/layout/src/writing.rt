@@ -3,6 +3,7 @@ ghost use Rattle.std.specs.Prelude.{◌≡◌, ◌+◌, ◌*◌, ◌≤◌, ◌<
 ghost use Rattle.memory.specs.Image.{bits_word, head_numbers};
 ghost use Rattle.layout.specs.Writing.{written};
 
+use crate::copies::copy_all;
 use crate::numbers::{HEAD, HEIGHT, PART, ROOT};
 use crate::zeros::fill_zeros;
 
@@ -42,6 +43,6 @@ pub fn put_tree(m: &mut [u32], work: &[u32], parts: u32, height: u32)
 {
     let end = HEAD + PART * (parts as usize);
     put_head(&mut m[0..HEAD], parts, height);
-    m[HEAD..end].copy_from_slice(&work[HEAD..end]);
+    copy_all(&work[HEAD..end], &mut m[HEAD..end]);
     fill_zeros(&mut m[end..]);
 }

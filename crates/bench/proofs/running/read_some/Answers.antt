@@ -1,6 +1,6 @@
 -- The laws that it needs are in WrittenTurns.
-use Rattle.std.proofs.Common.{ap, refl, arith, rules}
-use Rattle.bench.proofs.WrittenTurns.{none_read, end_read, lines_read, lines_failed}
+use Rattle.std.proofs.Common.{ap, refl, arith, rules, Ok, Err}
+use Rattle.bench.proofs.WrittenTurns.{none_read, end_read, lines_read}
 use Rattle.bench.proofs.running.read_some.Goals as goal
 
 pub returns-in_err-n-clause-written : goal.returns-in_err-n-clause-written
@@ -20,12 +20,12 @@ returns-then-n-eq0-clause-served g c = (returns-then-n-eq0-clause-written g c).a
 
 pub returns-in_err-rest-clause-written : goal.returns-in_err-rest-clause-written
 returns-in_err-rest-clause-written g c =
-    lines_failed _ _ _ _ _ _ _ _ _ _ _ _ _ _ _ _ _ _ _ refl (omega arith) c.in_ok-n.ensures.bound c.in_ok-n.ensures.bytes
+    lines_read _ _ _ _ _ _ _ _ _ _ _ _ _ _ _ _ _ _ _ refl (omega arith) c.in_ok-n.ensures.bound c.in_ok-n.ensures.bytes
     (ap g.I.Read.remaining c.in_err-rest.ensures.input_kept) (ap g.O.Write.contents c.in_ok-n.ensures.output_kept)
-    _ _ c.from_residual-in_err-rest.ensures.0 c.in_err-rest.ensures.written
+    (Err _) _ c.from_residual-in_err-rest.ensures.0 c.in_err-rest.ensures.written
 
 pub returns-clause-written : goal.returns-clause-written
 returns-clause-written g c =
     lines_read _ _ _ _ _ _ _ _ _ _ _ _ _ _ _ _ _ _ _ refl (omega arith) c.in_ok-n.ensures.bound c.in_ok-n.ensures.bytes
     (ap g.I.Read.remaining c.in_ok-rest.ensures.input_kept) (ap g.O.Write.contents c.in_ok-n.ensures.output_kept)
-    _ c.in_ok-rest.ensures.written
+    (Ok _) _ refl c.in_ok-rest.ensures.written

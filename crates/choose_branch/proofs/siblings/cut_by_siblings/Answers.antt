@@ -1,15 +1,17 @@
 -- `siblings::cut_by_siblings` meets its contract; the two cuts together are in SiblingLoop.
 use borrow.Author.Rules.{rules}
+use native.Mathlib.Omega.{arith}
 use Rattle.geometry.proofs.CutLoops.{few_of_lem}
 use Rattle.choose_branch.proofs.SiblingLoop.{before_length, after_in, before_each, after_each, siblings_over, siblings_cut}
 use Rattle.choose_branch.proofs.siblings.cut_by_siblings.Goals as goal
 
 pub slice_bounds-cut_by_parts-end : goal.slice_bounds-cut_by_parts-end
-slice_bounds-cut_by_parts-end c = search before_length
+slice_bounds-cut_by_parts-end c =
+    before_length _ _ _ c.requires.branches _ c.children_at-children.ensures c.requires.inside _ (omega arith)
 
 pub cut_by_parts-requires : goal.cut_by_parts-requires
 cut_by_parts-requires c = record {
-  each = search before_each;
+  each = before_each _ _ _ c.requires.branches _ c.children_at-children.ensures c.requires.inside _ (omega arith);
   few = search rules;
   list_room = search rules;
   spare_room = search rules;
