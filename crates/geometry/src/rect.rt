@@ -105,13 +105,23 @@ impl Rect {
         }
     }
 
-    // The cells that both have.
-    #[tactic(auto, unfolding(crate::specs::Common::common_part))]
+    // The cells that both have. The y range is made only where the x ranges overlap, which they seldom do in a list.
+    #[tactic(auto, unfolding(crate::specs::Common::common_part, crate::specs::Common::overlap, crate::specs::Cells::non_empty))]
     pub fn common(self, other: Rect) -> Option<Rect>
         ensures { result ≡ common_part self other }
     {
-        let part = self.overlap(other);
-        if part.is_empty() { None } else { Some(part) }
+        let llx = self.llx.max(other.llx);
+        let urx = self.urx.min(other.urx);
+        if urx <= llx {
+            return None;
+        }
+        let lly = self.lly.max(other.lly);
+        let ury = self.ury.min(other.ury);
+        if ury <= lly {
+            None
+        } else {
+            Some(Rect { llx, lly, urx, ury })
+        }
     }
 
     // Whether the two share a cell. All four sides are read before the first test, so that no jump depends on them.
